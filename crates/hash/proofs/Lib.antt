@@ -1,0 +1,5 @@
+pub mod Rule
+pub mod Linear
+pub mod Ranges
+pub mod Laws
+pub mod Lent

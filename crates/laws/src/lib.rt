@@ -1,0 +1,1 @@
+// Laws of numbers, bits and lists that more than one layer cites: see proofs/. There is no code here.

@@ -1,0 +1,216 @@
+// Segmented regions: refusals 2 and 5 along one, and addresses found through samples of its segment starts.
+ghost use mathlib.Core.Path.{_≡_};
+ghost use Prim.Native.Nat.{_+_, _*_, _≤_, _<_, _^_};
+ghost use lib.ListN.{length};
+ghost use Rattle.le.specs.Le.{u32At};
+ghost use Rattle.verdict.specs.Checks.{firstFault};
+ghost use Rattle.verdict.specs.Scans.{scanned};
+ghost use Rattle.region.specs.Region.{Laid, startOf, endOf, totalOf, rangeAt, numberOf};
+ghost use Rattle.region.specs.Checks.{segmentChecks, regionChecks};
+ghost use Rattle.region.specs.Samples.{Mapped, Starts, Counts};
+use verdict::Scan;
+
+// A region of the file: its offset, its segment count, and how its samples are spaced.
+pub struct Region {
+    pub at: usize,
+    pub count: usize,
+    pub shift: u32,
+    pub mask: usize,
+}
+
+// Where a range stands.
+pub enum Place {
+    At(usize),
+    Nowhere,
+}
+
+fn wide(x: u32) -> usize
+    ensures { λ r. ⌜ (r ≡ x) × (r < 2 ^ 32) ⌝ }
+{
+    x as usize
+}
+
+// Where the segment behind the one at p starts.
+fn next_start(b: &[u8], p: usize, size: usize) -> usize
+    requires { ⌜ p + 8 + u32At (now b) p * size ≤ length (now b) ⌝ }
+    ensures { λ q. ⌜ q ≡ p + 8 + u32At (now (b .entry)) p * size ⌝ }
+{
+    p + 8 + le::u32_at(b, p) * size
+}
+
+// Refusals 2 and 5 of segment s, which starts at p.
+fn segment(b: &[u8], at: usize, size: usize, s: usize, p: usize) -> Scan
+    requires { ⌜ (size ≤ 24) × (p ≡ startOf size (now b) at s) × (p ≤ length (now b)) ⌝ }
+    ensures { λ r. ⌜ r ≡ scanned (firstFault (segmentChecks size (now (b .entry)) at s)) (startOf size (now (b .entry)) at (s + 1)) ⌝ }
+{
+    if b.len() - p < 4 {
+        return Scan::Fault(2, p);
+    }
+    let full = le::u32_at(b, p);
+    if full > 65535 {
+        return Scan::Fault(5, p);
+    }
+    let u = p + 4;
+    if b.len() - u < 4 {
+        return Scan::Fault(2, u);
+    }
+    let used = le::u32_at(b, u);
+    if used > full {
+        return Scan::Fault(5, u);
+    }
+    let e = p + 8;
+    let bytes = full * size;
+    if b.len() - e < bytes {
+        return Scan::Fault(2, e);
+    }
+    Scan::End(e + bytes)
+}
+
+// Refusals 2 and 5 of the region at an offset, or where it ends.
+pub fn lay(b: &[u8], at: usize, size: usize) -> Scan
+    requires { ⌜ (at ≤ length (now b)) × (size ≤ 24) ⌝ }
+    ensures { λ r. ⌜ r ≡ scanned (firstFault (regionChecks size (now (b .entry)) at)) (endOf size (now (b .entry)) at) ⌝ }
+{
+    if b.len() - at < 4 {
+        return Scan::Fault(2, at);
+    }
+    let n = le::u32_at(b, at);
+    if n > 65535 {
+        return Scan::Fault(5, at);
+    }
+    let mut p = at + 4;
+    let mut s = 0;
+    while s < n {
+        match segment(b, at, size, s, p) {
+            Scan::End(q) => {
+                p = q;
+            }
+            Scan::Fault(num, place) => {
+                return Scan::Fault(num, place);
+            }
+        }
+        s += 1;
+    }
+    Scan::End(p)
+}
+
+// The region at an offset that is laid, with the widest spacing of samples that its segments need.
+pub fn mapped(b: &[u8], at: usize, size: usize) -> Region
+    requires { ⌜ (1 ≤ size) × (size ≤ 24) × (length (now b) < 2 ^ 32) × Laid size (now b) at ⌝ }
+    ensures { λ r. ⌜ Mapped size (now (b .entry)) at r ⌝ }
+{
+    let count = le::u32_at(b, at);
+    let mut shift = 0u32;
+    let mut mask = 0usize;
+    while 256 * (mask + 1) < count {
+        mask = mask * 2 + 1;
+        shift += 1;
+    }
+    Region {
+        at,
+        count,
+        shift,
+        mask,
+    }
+}
+
+// Fills the samples of segment starts.
+pub fn sample_starts(b: &[u8], r: Region, size: usize, starts: &mut [u32; 256])
+    requires { ⌜ Mapped size (now b) (r .at) r × (length (now starts) ≡ 256) ⌝ }
+    ensures { λ _. ⌜ Starts size (now (b .entry)) (r .at) (r .shift) (now (starts .exit)) ⌝ }
+{
+    let mask = r.mask;
+    let mut p = r.at + 4;
+    let mut s = 0;
+    while s < r.count {
+        if s & mask == 0 {
+            starts[s >> r.shift] = p as u32;
+        }
+        p = next_start(b, p, size);
+        s += 1;
+    }
+}
+
+// Fills the samples of used elements before a segment, and answers how many used elements there are.
+pub fn sample_counts(b: &[u8], r: Region, size: usize, counts: &mut [u32; 256]) -> usize
+    requires { ⌜ Mapped size (now b) (r .at) r × (length (now counts) ≡ 256) ⌝ }
+    ensures { λ n. ⌜ (n ≡ totalOf size (now (b .entry)) (r .at)) × Counts size (now (b .entry)) (r .at) (r .shift) (now (counts .exit)) ⌝ }
+{
+    let mask = r.mask;
+    let mut p = r.at + 4;
+    let mut n = 0;
+    let mut s = 0;
+    while s < r.count {
+        if s & mask == 0 {
+            counts[s >> r.shift] = n as u32;
+        }
+        n += le::u32_at(b, p + 4);
+        p = next_start(b, p, size);
+        s += 1;
+    }
+    n
+}
+
+// Where segment seg starts: from the sample before it, at most mask headers on.
+pub fn locate(b: &[u8], r: Region, size: usize, starts: &[u32; 256], seg: usize) -> usize
+    requires { ⌜ Mapped size (now b) (r .at) r × Starts size (now b) (r .at) (r .shift) (now starts) × (seg < r .count) ⌝ }
+    ensures { λ p. ⌜ p ≡ startOf size (now (b .entry)) (r .at) seg ⌝ }
+{
+    let mut left = seg & r.mask;
+    let mut p = wide(starts[seg >> r.shift]);
+    while left > 0 {
+        p = next_start(b, p, size);
+        left -= 1;
+    }
+    p
+}
+
+// Where n elements from seg:el on stand, if they lie within one segment's used part. A single address is a range of one.
+pub fn range_at(
+    b: &[u8],
+    r: Region,
+    size: usize,
+    starts: &[u32; 256],
+    seg: usize,
+    el: usize,
+    n: usize,
+) -> Place
+    requires { ⌜ Mapped size (now b) (r .at) r × Starts size (now b) (r .at) (r .shift) (now starts) ⌝ }
+    requires { ⌜ (el < 65536) × (n < 65536) ⌝ }
+    ensures { λ p. ⌜ p ≡ rangeAt size (now (b .entry)) (r .at) seg el n ⌝ }
+{
+    if seg >= r.count {
+        return Place::Nowhere;
+    }
+    let p = locate(b, r, size, starts, seg);
+    if el + n > le::u32_at(b, p + 4) {
+        return Place::Nowhere;
+    }
+    Place::At(p + 8 + el * size)
+}
+
+// The running number of seg:el among the used elements.
+pub fn number(
+    b: &[u8],
+    r: Region,
+    size: usize,
+    starts: &[u32; 256],
+    counts: &[u32; 256],
+    seg: usize,
+    el: usize,
+) -> usize
+    requires { ⌜ Mapped size (now b) (r .at) r × Starts size (now b) (r .at) (r .shift) (now starts) × Counts size (now b) (r .at) (r .shift) (now counts) ⌝ }
+    requires { ⌜ (seg < r .count) × (el < 65536) ⌝ }
+    ensures { λ n. ⌜ n ≡ numberOf size (now (b .entry)) (r .at) seg el ⌝ }
+{
+    let k = seg >> r.shift;
+    let mut left = seg & r.mask;
+    let mut p = wide(starts[k]);
+    let mut n = wide(counts[k]);
+    while left > 0 {
+        n += le::u32_at(b, p + 4);
+        p = next_start(b, p, size);
+        left -= 1;
+    }
+    n + el
+}

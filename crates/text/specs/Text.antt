@@ -1,0 +1,38 @@
+-- Texts (01, "Strings"): the characters from an address up to the first 0 in the used part.
+use Prim.Native.Nat.{ℕ, zero, suc, _+_, _-_, _*_}
+use mathlib.Core.Path.{_≡_}
+use mathlib.Core.Bool.{cond}
+use mathlib.Core.List.{List, [], _∷_}
+use lib.Dec.{eqb}
+use Rattle.verdict.specs.Decide.{SomeBelow}
+use Rattle.le.specs.Le.{u16At}
+use Rattle.region.specs.Region.{placeOf, usedOf}
+
+-- n characters from an offset on, two bytes each, low byte first.
+unfoldable pub chars : List ℕ → ℕ → ℕ → List ℕ
+chars b p zero = []
+chars b p (suc n) = u16At b p ∷ chars b (p + 2) n
+
+-- Characters up to the first 0, or all of them.
+unfoldable pub upToZero : List ℕ → List ℕ
+upToZero [] = []
+upToZero (c ∷ cs) = cond (eqb c 0) [] (c ∷ upToZero cs)
+
+-- Where a text ends: the text that starts at an offset with n characters of its used part left, and whether a 0 ends it.
+unfoldable pub textIn : List ℕ → ℕ → ℕ → List ℕ
+textIn b p n = upToZero (chars b p n)
+
+unfoldable pub EndedIn : List ℕ → ℕ → ℕ → Type 0
+EndedIn b p n = SomeBelow n (λ i. u16At b (p + 2 * i) ≡ 0)
+
+-- How many characters of its segment's used part are left at an address.
+unfoldable pub roomAt : List ℕ → ℕ → ℕ → ℕ → ℕ
+roomAt b r seg el = usedOf 2 b r seg - el
+
+-- The text at an address of the character region r.
+unfoldable pub textAt : List ℕ → ℕ → ℕ → ℕ → List ℕ
+textAt b r seg el = textIn b (placeOf 2 b r seg el) (roomAt b r seg el)
+
+-- There must be a 0.
+unfoldable pub EndedAt : List ℕ → ℕ → ℕ → ℕ → Type 0
+EndedAt b r seg el = EndedIn b (placeOf 2 b r seg el) (roomAt b r seg el)

@@ -1,0 +1,35 @@
+-- Refusals (01, "Refusal numbers"): checks as data, in the order in which they are to run, and the first that does not hold.
+use mathlib.Core.Path.{_≡_}
+use mathlib.Core.Bool.{Bool, true, false}
+use Prim.Native.Nat.{ℕ, zero, suc, _+_, _≤_}
+use native.Mathlib.Decide.{decLe, ℕ-discrete}
+use mathlib.Core.List.{List, [], _∷_, _++_}
+use Rattle.verdict.specs.declared.Verdict.{Verdict}
+use Rattle.verdict.specs.declared.Verdict.the-variants.{Accepted, Refused}
+
+-- A refusal's number, its place, what is to hold, and how that is decided.
+pub data Check : Type 1 where
+  check : ℕ → ℕ → (P : Type 0) → Dec P → Check
+
+-- The first check that does not hold refuses with its number and place; where all hold, nothing is refused.
+unfoldable pub firstFault : List Check → Verdict
+firstFault [] = Accepted
+firstFault (check n p P (yes h) ∷ cs) = firstFault cs
+firstFault (check n p P (no h) ∷ cs) = Refused n p
+
+-- The checks f i, then f (i + 1), .. so many.
+unfoldable pub each : (ℕ → List Check) → ℕ → ℕ → List Check
+each f zero i = []
+each f (suc n) i = f i ++ each f n (i + 1)
+
+-- Two kinds of check that come often: a number is at most another, and a number is another.
+abbrev pub atMost : ℕ → ℕ → ℕ → ℕ → Check
+atMost n p a b = check n p (a ≤ b) (decLe a b)
+
+abbrev pub equal : ℕ → ℕ → ℕ → ℕ → Check
+equal n p a b = check n p (a ≡ b) (ℕ-discrete a b)
+
+-- A truth that the code answers tells whether P.
+pub record Tells (P : Type 0) (r : Bool) : Type 0 where
+  pub so : r ≡ true → P
+  pub not : r ≡ false → P → ⊥
