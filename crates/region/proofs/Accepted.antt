@@ -16,7 +16,7 @@ use Rattle.verdict.proofs.Laws.{Clean, pass, clean-inv, fault-none, each-inv, e
 use Rattle.region.specs.Region.{countOf, startOf, fullOf, usedOf, endOf, Laid}
 use Rattle.region.specs.Checks.{field, segmentChecks, regionChecks}
 use Rattle.region.proofs.Laws.{start-next, end-le}
-use Rattle.region.proofs.Scans.{scanned-end}
+use Rattle.verdict.proofs.Scans.{scanned-end}
 
 module _ (size : ℕ) (b : List ℕ) (r : ℕ) where
   -- what holds of one segment

@@ -1,4 +1,3 @@
 pub mod Laws
-pub mod Scans
 pub mod Accepted
 pub mod Samples

@@ -8,7 +8,7 @@ use Rattle.verdict.specs.Checks.{firstFault, each}
 use Rattle.verdict.proofs.Laws.{pass, stop}
 use Rattle.region.specs.Region.{countOf, startOf}
 use Rattle.region.specs.Checks.{segmentChecks, regionChecks}
-use Rattle.region.proofs.Scans.{end-told, fault-told, scanned-end, scanned-fault, each-more, each-stop, each-end}
+use Rattle.verdict.proofs.Scans.{end-told, fault-told, scanned-end, scanned-fault, each-more, each-stop, each-end}
 use Rattle.region.proofs.Accepted.{segment-in, region-open, region-end}
 use Rattle.region.proofs.Samples.{start-zero}
 use Rattle.region.proofs.lay.Statement.{statement}

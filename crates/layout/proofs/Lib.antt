@@ -1,0 +1,6 @@
+pub mod Laws
+pub mod Accepted
+pub mod Parts
+pub mod Filled
+pub mod Ways
+pub mod Seen

@@ -1,0 +1,125 @@
+use native.Mathlib.Omega.{arith}
+use mathlib.Core.Path.{_≡_, _∙_}
+use borrow.Author.Needs.{needs}
+use Rattle.verdict.proofs.Laws.{Clean}
+use Rattle.region.specs.Checks.{regionChecks}
+use Rattle.verdict.proofs.Scans.{scanned-end, scanned-fault, told}
+use Rattle.layout.specs.Header.{headerChecks, keyChecks}
+use Rattle.layout.specs.Layout.{attributeSize, attributesAt, nodesAt}
+use Rattle.layout.proofs.Accepted.{header-end, keys-end, region-end}
+use Rattle.layout.proofs.Ways.{front-stop, size-stop, attributes-scanned, nodes-scanned, header-stop, keys-stop, attributes-stop, nodes-left}
+use Rattle.layout.proofs.front.scan_front.Statement.{statement}
+use Rattle.layout.proofs.front.scan_front.Tie as tie
+
+-- what is known once the header, the keys and the attributes have ended
+header-done : (c : tie.After-enum-told) → Clean (headerChecks (c .before .before .before .before .before .args .b .now))
+header-done c = scanned-end _ _ (c .before .before .header .ensures) (c .enum-told .given .1) .0
+
+keys-done : (c : tie.After-known-told) → Clean (keyChecks (c .before .before .before .before .before .before .before .before .before .args .b .now)) × (c .before .k .given .0 .0 ≡ attributesAt (c .before .before .before .before .before .before .before .before .before .args .b .now))
+unfolding attributesAt
+keys-done c = scanned-end _ _ (c .before .before .before .keys .ensures) (c .before .k .given .1)
+
+attributes-done : (c : tie.After-known-told2)
+    → Clean (regionChecks attributeSize (c .before .before .before .before .before .before .before .before .before .before .before .before .before .args .b .now) (attributesAt (c .before .before .before .before .before .before .before .before .before .before .before .before .before .args .b .now))) × (c .before .a .given .0 .0 ≡ nodesAt (c .before .before .before .before .before .before .before .before .before .before .before .before .before .args .b .now))
+attributes-done c = scanned-end _ _ (attributes-scanned _ (keys-done (c .before .before .before .before) .1) (c .before .before .before .lay .ensures)) (c .before .a .given .1)
+
+front-refused-requires : tie.Need-front-refused-requires
+front-refused-requires c κs = search needs
+
+returns : tie.Need-returns
+returns c = front-stop _ _ (size-stop _ (λ h. omega arith)) (c .front-refused .ensures)
+
+header-requires : tie.Need-header-requires
+header-requires c κs = search needs
+
+enum-told : tie.Need-enum-told
+enum-told c = search needs
+
+enum-told-2 : tie.Need-enum-told-2
+enum-told-2 c = search needs
+
+front-refused-requires-2 : tie.Need-front-refused-requires-2
+front-refused-requires-2 c κs = search needs
+
+returns-2 : tie.Need-returns-2
+returns-2 c =
+    let t = c .before .enum-told2 .given .1 in
+    front-stop _ _ (header-stop _ (omega arith) (scanned-fault _ _ (c .before .before .before .header .ensures) t)) (c .front-refused2 .ensures ∙ t)
+
+keys-requires : tie.Need-keys-requires
+keys-requires c κs = header-end _ (header-done c)
+
+enum-known-k : tie.Need-enum-known-k
+enum-known-k c = search needs
+
+enum-told-3 : tie.Need-enum-told-3
+enum-told-3 c = search needs
+
+front-refused-requires-3 : tie.Need-front-refused-requires-3
+front-refused-requires-3 c κs = search needs
+
+returns-3 : tie.Need-returns-3
+returns-3 c =
+    let t = c .before .enum-told3 .given .1 in
+    front-stop _ _ (keys-stop _ (omega arith) (header-done (c .before .before .before .before)) (scanned-fault _ _ (c .before .before .before .keys .ensures) t)) (c .front-refused3 .ensures ∙ t)
+
+lay-requires : tie.Need-lay-requires
+lay-requires c κs =
+    let k = keys-done c in
+    (omega (arith, k .1, keys-end _ (k .0)), search needs)
+
+enum-known-a : tie.Need-enum-known-a
+enum-known-a c = search needs
+
+enum-told-4 : tie.Need-enum-told-4
+enum-told-4 c = search needs
+
+front-refused-requires-4 : tie.Need-front-refused-requires-4
+front-refused-requires-4 c κs = search needs
+
+returns-4 : tie.Need-returns-4
+returns-4 c =
+    let t = c .before .enum-told4 .given .1 in
+    let k = keys-done (c .before .before .before .before) in
+    let l = attributes-scanned _ (k .1) (c .before .before .before .lay .ensures) in
+    front-stop _ _ (attributes-stop _ (omega arith) (header-done (c .before .before .before .before .before .before .before .before)) (k .0) (scanned-fault _ _ l t)) (c .front-refused4 .ensures ∙ t)
+
+lay-requires-2 : tie.Need-lay-requires-2
+unfolding nodesAt
+lay-requires-2 c κs =
+    let a = attributes-done c in
+    (omega (arith, a .1, region-end _ _ _ (a .0)), search needs)
+
+returns-5 : tie.Need-returns-5
+returns-5 c =
+    let k = keys-done (c .before .before .before .before .before) in
+    let a = attributes-done (c .before) in
+    record {
+      answer = nodes-scanned _ (a .1) (c .lay2 .ensures) ∙ told _ _ (nodes-left _ (omega arith) (header-done (c .before .before .before .before .before .before .before .before .before)) (k .0) (a .0));
+      attributes-at = λ e w. k .1;
+      nodes-at = λ e w. a .1;
+    }
+
+pub scan-front-spec : {M : Type 1} → statement M
+scan-front-spec =
+    tie.close
+    (tie.spec
+    front-refused-requires
+    returns
+    header-requires
+    enum-told
+    enum-told-2
+    front-refused-requires-2
+    returns-2
+    keys-requires
+    enum-known-k
+    enum-told-3
+    front-refused-requires-3
+    returns-3
+    lay-requires
+    enum-known-a
+    enum-told-4
+    front-refused-requires-4
+    returns-4
+    lay-requires-2
+    returns-5)

@@ -1,0 +1,5 @@
+pub mod Header
+pub mod Table
+pub mod Layout
+pub mod Scanned
+pub mod View

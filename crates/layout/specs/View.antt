@@ -1,0 +1,57 @@
+-- The checked view (01, "Layout"): the header report, the region places, and where each bucket starts; and its fit to the bytes.
+use Prim.Native.Nat.{ℕ}
+use mathlib.Core.Path.{_≡_}
+use mathlib.Core.List.{List}
+use Rattle.verdict.specs.Checks.{firstFault}
+use Rattle.verdict.specs.declared.Verdict.{Verdict}
+use Rattle.verdict.specs.declared.Verdict.the-variants.{Accepted}
+use Rattle.region.specs.Region.{totalOf}
+use Rattle.region.specs.Samples.{Mapped, Starts, Counts}
+use Rattle.layout.specs.Header.{headerOf, keyCount}
+use Rattle.layout.specs.Table.{listAt, BucketStarts}
+use Rattle.layout.specs.Layout.{attributeSize, nodeSize, attributesAt, nodesAt, valuesAt, namesAt, values, names, layoutChecks, LaidOut}
+use Rattle.layout.specs.declared.whole.Walk.{Walk}
+use Rattle.layout.specs.declared.Places.{Places}
+use Rattle.layout.specs.declared.View.{View}
+use Rattle.layout.specs.declared.Checked.{Checked}
+
+-- The places are those of the file.
+pub record Placed (b : List ℕ) (p : Places) : Type 0 where
+  pub keys : p .keys ≡ keyCount b
+  pub attributes : Mapped attributeSize b (attributesAt b) (p .attributes)
+  pub nodes : Mapped nodeSize b (nodesAt b) (p .nodes)
+  pub «used_nodes» : p .«used_nodes» ≡ totalOf nodeSize b (nodesAt b)
+  pub «value_chars» : Mapped 2 b (values b .at) (p .«value_chars»)
+  pub «value_list» : p .«value_list» ≡ listAt (values b)
+  pub «name_chars» : Mapped 2 b (names b .at) (p .«name_chars»)
+  pub «name_list» : p .«name_list» ≡ listAt (names b)
+
+-- The fit of view and bytes.
+pub record Fits (b : List ℕ) (v : View) : Type 0 where
+  pub laid : LaidOut b
+  pub header : v .header ≡ headerOf b
+  pub places : Placed b (v .places)
+  pub «attribute_starts» : Starts attributeSize b (attributesAt b) (v .places .attributes .shift) (v .«attribute_starts»)
+  pub «node_starts» : Starts nodeSize b (nodesAt b) (v .places .nodes .shift) (v .«node_starts»)
+  pub «node_counts» : Counts nodeSize b (nodesAt b) (v .places .nodes .shift) (v .«node_counts»)
+  pub «value_starts» : Starts 2 b (values b .at) (v .places .«value_chars» .shift) (v .«value_starts»)
+  pub «name_starts» : Starts 2 b (names b .at) (v .places .«name_chars» .shift) (v .«name_starts»)
+  pub «value_buckets» : BucketStarts (values b) (v .«value_buckets»)
+  pub «name_buckets» : BucketStarts (names b) (v .«name_buckets»)
+
+-- A walk along the file: the first of refusals 1 to 6, and where there is none the parts' offsets and the buckets' starts.
+pub record Walked (b : List ℕ) (w : Walk) (vs ns : List ℕ) : Type 0 where
+  pub answer : w .answer ≡ firstFault (layoutChecks b)
+  pub attributes-at : w .answer ≡ Accepted → w .attributes ≡ attributesAt b
+  pub nodes-at : w .answer ≡ Accepted → w .nodes ≡ nodesAt b
+  pub values-at : w .answer ≡ Accepted → w .values ≡ valuesAt b
+  pub «value_list» : w .answer ≡ Accepted → w .«value_list» ≡ listAt (values b)
+  pub names-at : w .answer ≡ Accepted → w .names ≡ namesAt b
+  pub «name_list» : w .answer ≡ Accepted → w .«name_list» ≡ listAt (names b)
+  pub «value_buckets» : w .answer ≡ Accepted → BucketStarts (values b) vs
+  pub «name_buckets» : w .answer ≡ Accepted → BucketStarts (names b) ns
+
+-- What layout answers: the first of refusals 1 to 6, and where there is none a view that fits.
+pub record Viewed (b : List ℕ) (r : Checked) : Type 0 where
+  pub answer : r .answer ≡ firstFault (layoutChecks b)
+  pub view : r .answer ≡ Accepted → Fits b (r .view)

@@ -1,0 +1,71 @@
+// Refusals 1 to 6 along the file, and the view of a file that passes them (01, "Layout").
+pub mod front;
+pub mod tables;
+pub mod whole;
+
+use le::Float64;
+use region::Region;
+use verdict::Verdict;
+
+// A file has at most so many bytes.
+pub const MOST_BYTES: usize = 1_073_741_824;
+
+// Where the key count stands.
+pub const KEYS_AT: usize = 32;
+
+// Where the first key stands.
+pub const FIRST_KEY_AT: usize = 36;
+
+// The most keys.
+pub const MOST_KEYS: usize = 4096;
+
+// The bytes of an attribute, of a node and of a character.
+pub const ATTRIBUTE_SIZE: usize = 12;
+
+pub const NODE_SIZE: usize = 24;
+
+pub const CHARACTER_SIZE: usize = 2;
+
+// The most that the values' address count can say: the papers set it no limit of its own.
+pub const MOST_VALUES: usize = 4_294_967_295;
+
+// The most that the names' address count may say.
+pub const MOST_NAMES: usize = 65_536;
+
+// The header report.
+pub struct Header {
+    pub version: usize,
+    pub timestamp: Float64,
+    pub revision: usize,
+}
+
+// Where the parts of the file are. A string table is its characters and its address count.
+pub struct Places {
+    pub keys: usize,
+    pub attributes: Region,
+    pub nodes: Region,
+    pub used_nodes: usize,
+    pub value_chars: Region,
+    pub value_list: usize,
+    pub name_chars: Region,
+    pub name_list: usize,
+}
+
+// The checked view: the header report, the places, samples of the segments, and where each bucket starts.
+pub struct View {
+    pub header: Header,
+    pub places: Places,
+    pub attribute_starts: [u32; 256],
+    pub node_starts: [u32; 256],
+    pub node_counts: [u32; 256],
+    pub value_starts: [u32; 256],
+    pub name_starts: [u32; 256],
+    pub value_buckets: [u32; 1024],
+    pub name_buckets: [u32; 512],
+}
+
+// What layout answers: the view means something only where nothing is refused.
+pub struct Checked {
+    pub answer: Verdict,
+    pub view: View,
+}

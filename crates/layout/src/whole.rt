@@ -1,0 +1,197 @@
+// The whole file: refusals 1 to 6 in order, and the view.
+ghost use mathlib.Core.Path.{_≡_};
+ghost use Prim.Native.Nat.{_≤_};
+ghost use lib.ListN.{length};
+ghost use Rattle.verdict.specs.Checks.{firstFault};
+ghost use Rattle.layout.specs.Layout.{footerAt, footerChecks};
+ghost use Rattle.layout.specs.View.{Walked, Fits, Viewed};
+use crate::ATTRIBUTE_SIZE;
+use crate::CHARACTER_SIZE;
+use crate::Checked;
+use crate::Header;
+use crate::KEYS_AT;
+use crate::MOST_NAMES;
+use crate::MOST_VALUES;
+use crate::NODE_SIZE;
+use crate::Places;
+use crate::View;
+use crate::front;
+use crate::tables;
+use le::Float64;
+use region::Region;
+use verdict::Scan;
+use verdict::Verdict;
+
+// Where the parts of the file start, and the address counts of the two tables; they mean something only where nothing is refused.
+pub struct Walk {
+    pub answer: Verdict,
+    pub attributes: usize,
+    pub nodes: usize,
+    pub values: usize,
+    pub value_list: usize,
+    pub names: usize,
+    pub name_list: usize,
+}
+
+fn walk_refused(num: u32, place: usize) -> Walk
+    ensures { λ r. ⌜ r .answer ≡ Verdict.Refused num place ⌝ }
+{
+    Walk {
+        answer: Verdict::Refused(num, place),
+        attributes: 0,
+        nodes: 0,
+        values: 0,
+        value_list: 0,
+        names: 0,
+        name_list: 0,
+    }
+}
+
+// The footer at p.
+fn footer(b: &[u8], p: usize) -> Verdict
+    requires { ⌜ (p ≡ footerAt (now b)) × (p ≤ length (now b)) ⌝ }
+    ensures { λ r. ⌜ r ≡ firstFault (footerChecks (now (b .entry))) ⌝ }
+{
+    if b.len() - p < 4 {
+        return Verdict::Refused(2, p);
+    }
+    if le::u32_at(b, p) != 0 {
+        return Verdict::Refused(6, p);
+    }
+    if b.len() - p > 4 {
+        return Verdict::Refused(6, p + 4);
+    }
+    Verdict::Accepted
+}
+
+// Refusals 1 to 6 along the file.
+fn along(b: &[u8], value_buckets: &mut [u32], name_buckets: &mut [u32]) -> Walk
+    requires { ⌜ (length (now «value_buckets») ≡ 1024) × (length (now «name_buckets») ≡ 512) ⌝ }
+    ensures { λ r. ⌜ Walked (now (b .entry)) r (now («value_buckets» .exit)) (now («name_buckets» .exit)) ⌝ }
+{
+    let f = front::scan_front(b);
+    let fa = f.answer;
+    let values = match fa {
+        Scan::End(e) => e,
+        Scan::Fault(n, p) => return walk_refused(n, p),
+    };
+    let v = tables::scan_table(b, values, value_buckets, MOST_VALUES);
+    let va = v.answer;
+    let names = match va {
+        Scan::End(e) => e,
+        Scan::Fault(n, p) => return walk_refused(n, p),
+    };
+    let m = tables::scan_table(b, names, name_buckets, MOST_NAMES);
+    let na = m.answer;
+    let end = match na {
+        Scan::End(e) => e,
+        Scan::Fault(n, p) => return walk_refused(n, p),
+    };
+    Walk {
+        answer: footer(b, end),
+        attributes: f.attributes,
+        nodes: f.nodes,
+        values,
+        value_list: v.list,
+        names,
+        name_list: m.list,
+    }
+}
+
+// The view of a file that passed.
+fn view_of(b: &[u8], w: Walk, value_buckets: [u32; 1024], name_buckets: [u32; 512]) -> View
+    requires { ⌜ Walked (now b) w «value_buckets» «name_buckets» × (w .answer ≡ Verdict.Accepted) ⌝ }
+    ensures { λ r. ⌜ Fits (now (b .entry)) r ⌝ }
+{
+    let attributes = region::mapped(b, w.attributes, ATTRIBUTE_SIZE);
+    let nodes = region::mapped(b, w.nodes, NODE_SIZE);
+    let value_chars = region::mapped(b, w.values, CHARACTER_SIZE);
+    let name_chars = region::mapped(b, w.names, CHARACTER_SIZE);
+    let mut attribute_starts = [0u32; 256];
+    region::sample_starts(b, attributes, ATTRIBUTE_SIZE, &mut attribute_starts);
+    let mut node_starts = [0u32; 256];
+    region::sample_starts(b, nodes, NODE_SIZE, &mut node_starts);
+    let mut node_counts = [0u32; 256];
+    let used_nodes = region::sample_counts(b, nodes, NODE_SIZE, &mut node_counts);
+    let mut value_starts = [0u32; 256];
+    region::sample_starts(b, value_chars, CHARACTER_SIZE, &mut value_starts);
+    let mut name_starts = [0u32; 256];
+    region::sample_starts(b, name_chars, CHARACTER_SIZE, &mut name_starts);
+    View {
+        header: front::report(b),
+        places: Places {
+            keys: le::u32_at(b, KEYS_AT),
+            attributes,
+            nodes,
+            used_nodes,
+            value_chars,
+            value_list: w.value_list,
+            name_chars,
+            name_list: w.name_list,
+        },
+        attribute_starts,
+        node_starts,
+        node_counts,
+        value_starts,
+        name_starts,
+        value_buckets,
+        name_buckets,
+    }
+}
+
+// A view that means nothing, for a refused file.
+fn no_view() -> View {
+    let none = Region {
+        at: 0,
+        count: 0,
+        shift: 0,
+        mask: 0,
+    };
+    View {
+        header: Header {
+            version: 0,
+            timestamp: Float64 {
+                value: 0.0,
+                bits: 0,
+            },
+            revision: 0,
+        },
+        places: Places {
+            keys: 0,
+            attributes: none,
+            nodes: none,
+            used_nodes: 0,
+            value_chars: none,
+            value_list: 0,
+            name_chars: none,
+            name_list: 0,
+        },
+        attribute_starts: [0u32; 256],
+        node_starts: [0u32; 256],
+        node_counts: [0u32; 256],
+        value_starts: [0u32; 256],
+        name_starts: [0u32; 256],
+        value_buckets: [0u32; 1024],
+        name_buckets: [0u32; 512],
+    }
+}
+
+// Refusals 1 to 6, and the view of a file that passes them.
+pub fn check_layout(b: &[u8]) -> Checked
+    ensures { λ r. ⌜ Viewed (now (b .entry)) r ⌝ }
+{
+    let mut value_buckets = [0u32; 1024];
+    let mut name_buckets = [0u32; 512];
+    let w = along(b, &mut value_buckets, &mut name_buckets);
+    let answer = w.answer;
+    if let Verdict::Refused(_, _) = answer {
+        return Checked {
+            answer,
+            view: no_view(),
+        };
+    }
+    Checked {
+        answer,
+        view: view_of(b, w, value_buckets, name_buckets),
+    }
+}
