@@ -1,0 +1,157 @@
+//! The benchmark: both loaders on made files of 8, 64 and 256 MB.
+//!
+//! Before each measurement the workspace is zeroed and every page of the file
+//! has been touched; the best of several runs counts, in processor time of the
+//! thread. Lookups of the proved
+//! library go in one batch question, whose acceptance (measured in the same
+//! run) is taken off; the second loader's go to a held view.
+
+mod clock;
+mod subject;
+
+use maker::large::{large, Large};
+use maker::rng::Rng;
+use maker::text::{to_bytes, Text};
+use second::{Marked, Plain, Right, Which};
+
+use subject::{Batch, Exported, Held, Subject};
+
+const SIZES: [usize; 3] = [8, 64, 256];
+/// Enough lookups to weigh more than the acceptance that is taken off.
+const NAMES: usize = 8_000_000;
+const VALUES: usize = 4_000_000;
+
+/// One loader's numbers on one file.
+struct Numbers {
+    accept: f64,
+    names: f64,
+    values: f64,
+    path: f64,
+    held_path: Option<f64>,
+}
+
+fn subjects() -> Vec<Box<dyn Subject>> {
+    let plain: Held<Plain> = Held { title: "second, plain", loader: second::Loader::new(Right) };
+    let marked: Held<Marked> =
+        Held { title: "second, indexed", loader: second::Loader::new(Right) };
+    let mut all: Vec<Box<dyn Subject>> = vec![Box::new(plain), Box::new(marked)];
+    all.extend(proved());
+    all
+}
+
+#[cfg(feature = "rattle")]
+fn proved() -> Option<Box<dyn Subject>> {
+    let loader = compare::rattle::Rattle::default();
+    Some(Box::new(Exported { title: "proved library", loader }))
+}
+
+/// Without the proved library the exported questions of the second loader are
+/// measured in its place, in the same way.
+#[cfg(not(feature = "rattle"))]
+fn proved() -> Option<Box<dyn Subject>> {
+    let loader: compare::loader::Second<Right, Plain> =
+        compare::loader::Second::new("second", Right);
+    Some(Box::new(Exported { title: "second, exported", loader }))
+}
+
+/// Texts picked at random, one in ten absent.
+fn batch(rng: &mut Rng, from: &[Text], count: usize) -> Batch {
+    let mut texts = Vec::new();
+    let bytes: Vec<Vec<u8>> = from.iter().map(|text| to_bytes(text)).collect();
+    for _ in 0..count {
+        let mut text = rng.pick(&bytes).clone();
+        if rng.one_in(10) {
+            text.extend([0x21, 0]);
+        }
+        texts.extend(text);
+        texts.extend([0, 0]);
+    }
+    Batch { texts, count }
+}
+
+fn best(runs: usize, mut measure: impl FnMut() -> f64) -> f64 {
+    (0..runs).map(|_| measure()).fold(f64::MAX, f64::min)
+}
+
+/// A path of two names that many nodes bear: the first sheet's name and the
+/// name of its first child.
+fn path(file: &Large) -> Vec<u8> {
+    let mut path = to_bytes(&file.names[60]);
+    path.extend([0, 0]);
+    path.extend(to_bytes(&file.names[299]));
+    path.extend([0, 0]);
+    path
+}
+
+fn measure(subject: &dyn Subject, file: &Large) -> Numbers {
+    let mut workspace = vec![0; file.nodes];
+    let bytes = &file.bytes;
+    let mut rng = Rng::new(3);
+    let (names, values) =
+        (batch(&mut rng, &file.names, NAMES), batch(&mut rng, &file.values, VALUES));
+    let path = path(file);
+    let accept = best(7, || {
+        workspace.fill(0);
+        subject.accept(bytes, &mut workspace)
+    });
+    let taken_off = if subject.accepts_again() { accept } else { 0.0 };
+    Numbers {
+        accept,
+        names: best(3, || subject.lookups(bytes, &mut workspace, Which::Names, &names)) - taken_off,
+        values: best(3, || subject.lookups(bytes, &mut workspace, Which::Values, &values))
+            - taken_off,
+        path: best(3, || subject.path(bytes, &mut workspace, &path)),
+        held_path: subject.held_path(bytes, &mut workspace, &path),
+    }
+}
+
+fn print(title: &str, file: &Large, numbers: &Numbers, first: &Numbers) {
+    let megabytes = file.bytes.len() as f64 / 1e6;
+    let millions = |count: usize, seconds: f64| count as f64 / seconds / 1e6;
+    println!(
+        "  {title:18} accept {:7.1} MB/s ({:5.2}x)  names {:6.2} M/s ({:5.2}x)  values {:6.2} M/s ({:5.2}x)",
+        megabytes / numbers.accept,
+        numbers.accept / first.accept,
+        millions(NAMES, numbers.names),
+        numbers.names / first.names,
+        millions(VALUES, numbers.values),
+        numbers.values / first.values,
+    );
+    let held = numbers.held_path.map(|seconds| format!(", held {:.2} us", seconds * 1e6));
+    println!(
+        "  {:18} path with acceptance {:.2} ms ({:.2}x){}",
+        "",
+        numbers.path * 1e3,
+        numbers.path / first.path,
+        held.unwrap_or_default(),
+    );
+}
+
+fn main() {
+    let most = std::env::args().nth(1).and_then(|word| word.parse().ok()).unwrap_or(256);
+    let subjects = subjects();
+    println!("workspace zeroed, file pages touched; times as multiples of the first line's");
+    let mut costs: Vec<Vec<f64>> = vec![Vec::new(); subjects.len()];
+    for size in SIZES.into_iter().filter(|&size| size <= most) {
+        let file = large(size);
+        println!(
+            "{size} MB: {} bytes, {} nodes, {} attributes, {} values",
+            file.bytes.len(),
+            file.nodes,
+            file.attributes,
+            file.values.len()
+        );
+        let all: Vec<Numbers> =
+            subjects.iter().map(|subject| measure(subject.as_ref(), &file)).collect();
+        for (i, (subject, numbers)) in subjects.iter().zip(&all).enumerate() {
+            print(subject.title(), &file, numbers, &all[0]);
+            costs[i].push(numbers.accept * 1e9 / file.bytes.len() as f64);
+        }
+    }
+    println!("acceptance, ns a byte, as files grow:");
+    for (subject, costs) in subjects.iter().zip(costs) {
+        let growth = costs.last().unwrap_or(&0.0) / costs.first().unwrap_or(&1.0);
+        let shown: Vec<String> = costs.iter().map(|cost| format!("{cost:.2}")).collect();
+        println!("  {:18} {} (last over first {growth:.2})", subject.title(), shown.join(" "));
+    }
+}

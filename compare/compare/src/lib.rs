@@ -1,0 +1,28 @@
+//! The comparison of loaders: files, questions, guarded buffers and counts.
+
+pub mod asks;
+pub mod case;
+pub mod guard;
+pub mod inputs;
+pub mod loader;
+pub mod program;
+pub mod question;
+#[cfg(feature = "rattle")]
+pub mod rattle;
+pub mod run;
+pub mod sparse;
+pub mod sweep;
+pub mod tally;
+
+use loader::{Loader, Second};
+use second::{Marked, Right};
+
+/// The loaders that the plain second one is compared with.
+pub fn others() -> Vec<Box<dyn Loader>> {
+    let indexed: Second<Right, Marked> = Second::new("second, indexed", Right);
+    #[cfg(feature = "rattle")]
+    let others: Vec<Box<dyn Loader>> = vec![Box::new(rattle::Rattle::default()), Box::new(indexed)];
+    #[cfg(not(feature = "rattle"))]
+    let others: Vec<Box<dyn Loader>> = vec![Box::new(indexed)];
+    others
+}

@@ -1,0 +1,72 @@
+//! Comparing outcomes and counting what was asked.
+
+use std::fmt;
+
+use crate::case::Case;
+use crate::question::{Outcome, Question};
+
+/// What was asked and what came of it.
+#[derive(Default)]
+pub struct Tally {
+    pub files: u64,
+    pub questions: u64,
+    /// How often each refusal was answered; 0 is answered without one.
+    pub refusals: [u64; 27],
+    pub differences: u64,
+}
+
+impl Tally {
+    pub fn count(&mut self, outcome: &Outcome) {
+        self.questions += 1;
+        let number = outcome.reply.refusal() as usize;
+        if let Some(count) = self.refusals.get_mut(number) {
+            *count += 1;
+        }
+    }
+
+    /// Refusals from 2 on that were answered fewer than `least` times.
+    pub fn rare(&self, least: u64) -> Vec<usize> {
+        (2..self.refusals.len()).filter(|&number| self.refusals[number] < least).collect()
+    }
+}
+
+impl fmt::Display for Tally {
+    fn fmt(&self, out: &mut fmt::Formatter) -> fmt::Result {
+        writeln!(out, "files:       {}", self.files)?;
+        writeln!(out, "questions:   {}", self.questions)?;
+        writeln!(out, "answered:    {}", self.refusals[0])?;
+        for (number, count) in self.refusals.iter().enumerate().skip(1) {
+            writeln!(out, "refusal {number:2}:  {count}")?;
+        }
+        write!(out, "differences: {}", self.differences)
+    }
+}
+
+/// A difference in words, and the file beside it.
+pub fn describe(
+    case: &Case,
+    question: &Question,
+    right: Option<&Outcome>,
+    other: Option<&Outcome>,
+) -> String {
+    let mut words =
+        format!("file: {} bytes, {}\nquestion: {question:?}\n", case.bytes.len(), case.words);
+    for (title, outcome) in [("second", right), ("other", other)] {
+        words += &match outcome {
+            Some(outcome) => format!("{title}: {:?}\n", outcome.reply),
+            None => format!("{title}: changed the file\n"),
+        };
+    }
+    if let (Some(right), Some(other)) = (right, other) {
+        words += &first_byte("workspace", &right.workspace, &other.workspace);
+        words += &first_byte("buffer", &right.out, &other.out);
+    }
+    words
+}
+
+fn first_byte(title: &str, right: &[u8], other: &[u8]) -> String {
+    match right.iter().zip(other).position(|(a, b)| a != b) {
+        Some(at) => format!("{title}: byte {at} is {:02x} and {:02x}\n", right[at], other[at]),
+        None => String::new(),
+    }
+}

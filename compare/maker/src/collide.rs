@@ -1,0 +1,116 @@
+//! Texts with a wished hash, by linear algebra over GF(2).
+//!
+//! The hash of a text of fixed length is affine in the bits of its characters.
+//! Flipping a set of bits changes the hash by the xor of what each bit alone
+//! changes, so a wished change is a linear system with 32 rows.
+
+use second::hashes::string_hash;
+
+use crate::rng::Rng;
+use crate::text::{to_bytes, Text};
+
+pub fn hash(text: &[u16]) -> u32 {
+    string_hash(&to_bytes(text))
+}
+
+/// One reduced vector: a change of the hash and the flips that make it, a bit
+/// for each flip.
+struct Row {
+    change: u32,
+    flips: u64,
+}
+
+/// Another text of the base's length with the wished hash, made by flipping the
+/// low four bits of its first characters. None where no flips give that hash.
+pub fn with_hash(rng: &mut Rng, base: &[u16], wished: u32) -> Option<Text> {
+    let mut bits: Vec<(usize, u16)> = (0..base.len().min(16))
+        .flat_map(|place| (0..4).map(move |bit| (place, 1 << bit)))
+        .collect();
+    rng.shuffle(&mut bits);
+    let start = hash(base);
+    let mut rows: Vec<Row> = Vec::new();
+    let mut idle: Vec<u64> = Vec::new();
+    for (number, &(place, bit)) in bits.iter().enumerate() {
+        let mut flipped = base.to_vec();
+        flipped[place] ^= bit;
+        let (change, flips) = reduce(&rows, hash(&flipped) ^ start, 1 << number);
+        if change == 0 {
+            idle.push(flips);
+        } else {
+            rows.push(Row { change, flips });
+        }
+    }
+    let (left, mut flips) = reduce(&rows, start ^ wished, 0);
+    if left != 0 {
+        return None;
+    }
+    // Flips that change nothing make the text another one.
+    let forced = rng.below(idle.len().max(1));
+    for (number, set) in idle.iter().enumerate() {
+        if number == forced || rng.one_in(2) {
+            flips ^= set;
+        }
+    }
+    let mut made = base.to_vec();
+    for (number, &(place, bit)) in bits.iter().enumerate() {
+        made[place] ^= if flips >> number & 1 == 1 { bit } else { 0 };
+    }
+    (made != base && !made.contains(&0)).then_some(made)
+}
+
+/// Another text with the same hash and length. The base needs about ten
+/// characters for it.
+pub fn twin(rng: &mut Rng, base: &[u16]) -> Option<Text> {
+    (0..8).find_map(|_| with_hash(rng, base, hash(base)))
+}
+
+fn reduce(rows: &[Row], mut change: u32, mut flips: u64) -> (u32, u64) {
+    for row in rows {
+        let top = 1 << (31 - row.change.leading_zeros());
+        if change & top != 0 {
+            change ^= row.change;
+            flips ^= row.flips;
+        }
+    }
+    (change, flips)
+}
+
+/// A hash of the given bucket among `buckets`.
+pub fn hash_in_bucket(rng: &mut Rng, bucket: usize, buckets: usize) -> u32 {
+    let hash = rng.word();
+    let mixed = (hash ^ (hash >> 16)) as usize % buckets;
+    // The low bits stand alone in the mix, so flipping them moves the bucket.
+    hash ^ (mixed ^ bucket) as u32
+}
+
+#[cfg(test)]
+mod tests {
+    use super::*;
+    use crate::text::letters;
+
+    #[test]
+    fn twins_share_the_hash() {
+        let mut rng = Rng::new(1);
+        let mut made = 0;
+        for _ in 0..50 {
+            let base = letters(&mut rng, 12, 16);
+            if let Some(other) = twin(&mut rng, &base) {
+                assert_ne!(base, other);
+                assert_eq!(hash(&base), hash(&other));
+                made += 1;
+            }
+        }
+        assert!(made > 40);
+    }
+
+    #[test]
+    fn any_hash_can_be_had() {
+        let mut rng = Rng::new(2);
+        let mut made = 0;
+        for wished in [0, 1, u32::MAX, 0x8000_0000, 77] {
+            let base = letters(&mut rng, 16, 16);
+            made += with_hash(&mut rng, &base, wished).is_some_and(|t| hash(&t) == wished) as u32;
+        }
+        assert!(made >= 4, "{made}");
+    }
+}

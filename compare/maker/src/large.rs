@@ -1,0 +1,183 @@
+//! Large realistic files for speed.
+//!
+//! At 64 MB about 490,000 nodes, 2.2 million attributes and 350,000 values in
+//! full segments of 65,535; other sizes in proportion.
+
+use crate::attributes::text_attribute;
+use crate::model::{Addr, Attr, Model, Node, Region, Segment};
+use crate::rich::index_of;
+use crate::rng::Rng;
+use crate::shapes::smallest;
+use crate::table::{table, Style};
+use crate::text::{text, Text};
+
+/// A large file and what lookups and paths can ask of it.
+pub struct Large {
+    pub bytes: Vec<u8>,
+    pub names: Vec<Text>,
+    pub values: Vec<Text>,
+    pub nodes: usize,
+    pub attributes: usize,
+}
+
+const FULL: usize = 65_535;
+const NAMES: usize = 2_000;
+/// Names a node of one level can have: so many, from this one on.
+const LEVELS: [(usize, usize); 4] = [(1, 120), (200, 300), (600, 300), (1_000, 200)];
+
+pub fn large(megabytes: usize) -> Large {
+    let mut rng = Rng::new(megabytes as u64);
+    let parts = megabytes.max(1);
+    let (node_goal, value_goal) = (490_000 * parts / 64, 350_000 * parts / 64);
+    let mut names: Vec<Text> = (0..NAMES).map(|i| text(&name_words(&mut rng, i))).collect();
+    names.extend([text("__root__"), text("__value__")]);
+    let values: Vec<Text> = (0..value_goal).map(|i| text(&value_words(&mut rng, i))).collect();
+    let style = Style { segment: FULL, untidy: false, share: false };
+    let mut value_table = table(&mut rng, &values, 1024, style);
+    let mut name_table = table(&mut rng, &names, 512, style);
+    fill_up(&mut value_table.chars);
+    fill_up(&mut name_table.chars);
+    let mut attributes = Packed::default();
+    let mut nodes = Packed::default();
+    grow(&mut rng, node_goal, index_of(&names, "__root__"), &mut nodes, |rng| {
+        let count = rng.between(2, 7);
+        let first = rng.between(1, NAMES - 120);
+        let run: Vec<Attr> = (0..count)
+            .map(|i| {
+                let name = (first + i * 15 + rng.below(15)) as u16;
+                attribute(rng, name, &values, &value_table.list)
+            })
+            .collect();
+        (attributes.block(run), count as u16)
+    });
+    let (node_count, attribute_count) = (nodes.count, attributes.count);
+    fill_up(&mut nodes.region);
+    fill_up(&mut attributes.region);
+    let model = Model {
+        attributes: attributes.region,
+        nodes: nodes.region,
+        values: value_table,
+        names: name_table,
+        ..smallest().model
+    };
+    Large { bytes: model.bytes(), names, values, nodes: node_count, attributes: attribute_count }
+}
+
+fn name_words(rng: &mut Rng, number: usize) -> String {
+    let words = ["item", "Quest", "price", "Skill", "level", "npc", "Zone", "effect", "Data"];
+    format!("{}{}{number}", rng.pick(&words), rng.pick(&words))
+}
+
+/// About 25 characters, as item texts and resource names are.
+fn value_words(rng: &mut Rng, number: usize) -> String {
+    let words = ["S1UI", "icon", "Sword", "of", "the", "Northern", "Forest", "elite", "Mesh", "0"];
+    let mut made = format!("{number}");
+    for _ in 0..rng.between(2, 6) {
+        made += *rng.pick(&["_", ".", " "]);
+        made += *rng.pick(&words);
+    }
+    made
+}
+
+/// Two in five are texts; short ones are used much more often than others, as
+/// in real files.
+fn attribute(rng: &mut Rng, name: u16, values: &[Text], addresses: &[Addr]) -> Attr {
+    let (type_word, word) = match rng.below(10) {
+        0..=3 => {
+            let often = rng.one_in(2);
+            let place = rng.below(if often { values.len() / 50 + 1 } else { values.len() });
+            return text_attribute(name, &values[place], addresses[place]);
+        }
+        4..=6 => (1, rng.word() >> rng.below(32)),
+        7 => (5, rng.word() & 1),
+        _ => (2, (rng.word() as f32 / 65_536.0).to_bits()),
+    };
+    Attr { name, type_word, word, ignored: 0 }
+}
+
+/// Elements packed into full segments, blocks never across two.
+struct Packed<T> {
+    region: Region<T>,
+    count: usize,
+}
+
+impl<T> Default for Packed<T> {
+    fn default() -> Packed<T> {
+        Packed { region: Region::default(), count: 0 }
+    }
+}
+
+impl<T: Clone + Default> Packed<T> {
+    fn block(&mut self, items: Vec<T>) -> Addr {
+        let room = |segment: &Segment<T>| segment.used.len() + items.len() <= FULL;
+        if !self.region.segments.last().is_some_and(room) {
+            self.region.segments.push(Segment::default());
+        }
+        let number = self.region.segments.len() - 1;
+        let used = &mut self.region.segments[number].used;
+        let address = (number as u16, used.len() as u16);
+        self.count += items.len();
+        used.extend(items);
+        address
+    }
+}
+
+fn fill_up<T: Clone + Default>(region: &mut Region<T>) {
+    for segment in &mut region.segments {
+        segment.slack.resize(FULL - segment.used.len(), T::default());
+    }
+}
+
+/// A tree level by level: many sheets below the root, then four levels whose
+/// width falls off.
+fn grow(
+    rng: &mut Rng,
+    goal: usize,
+    root_name: u16,
+    nodes: &mut Packed<Node>,
+    mut attributes: impl FnMut(&mut Rng) -> (Addr, u16),
+) {
+    nodes.block(vec![Node { name: root_name, ..Node::default() }]);
+    let mut open: Vec<Addr> = vec![(0, 0)];
+    let widths = [goal / 2_000 + 20, 40, 8, 6];
+    for (level, width) in widths.into_iter().enumerate() {
+        let mut next = Vec::new();
+        for parent in open {
+            if nodes.count >= goal {
+                break;
+            }
+            let count = if level == 0 { width } else { rng.between(width / 2, width * 3 / 2) };
+            let (first_name, kinds) = LEVELS[level];
+            let mut names: Vec<usize> = (0..count).map(|_| first_name + rng.below(kinds)).collect();
+            names.sort_unstable();
+            let children = names.into_iter().map(|name| {
+                let (attr_addr, attrs) = attributes(rng);
+                Node { name: name as u16, attrs, attr_addr, ..Node::default() }
+            });
+            let children: Vec<Node> = children.collect();
+            let address = nodes.block(children);
+            if let Some(node) = nodes.region.get_mut(parent) {
+                node.children = count as u16;
+                node.child_addr = address;
+            }
+            next.extend((0..count as u16).map(|i| (address.0, address.1 + i)));
+        }
+        open = next;
+    }
+}
+
+#[cfg(test)]
+mod tests {
+    use super::*;
+    use second::{Loader, Marked, Plain, Right};
+
+    #[test]
+    fn large_files_are_accepted() {
+        let made = large(2);
+        let mut workspace = vec![0; made.nodes];
+        let plain: Loader<Right, Plain> = Loader::new(Right);
+        let marked: Loader<Right, Marked> = Loader::new(Right);
+        assert_eq!(plain.accept(&made.bytes, &mut workspace).refusal, 0);
+        assert_eq!(marked.accept(&made.bytes, &mut workspace).refusal, 0);
+    }
+}

@@ -1,0 +1,174 @@
+//! Finding the entry of a text, in steps that many lookups can interleave.
+
+use crate::bytes::u32_at;
+use crate::hash::{bucket, folded_string_hash, string_hash};
+use crate::prefetch::prefetch;
+use crate::reading::{Mutant, Reading};
+use crate::table::{Entry, Table, ENTRY};
+
+/// A hash on its way to its entries: its bucket, and where they may stand.
+#[derive(Clone, Copy, Default)]
+pub struct Sought {
+    hash: u32,
+    count: u32,
+    first: usize,
+    guess: u32,
+}
+
+/// In buckets of so few entries the ones below are simply counted: that takes
+/// no turn a processor could guess wrong.
+const FEW: u32 = 8;
+
+/// Picks the bucket and guesses the place. Hashes are spread evenly over a
+/// bucket, so the hash itself tells about where it stands.
+#[inline]
+pub fn seek<R: Reading, const BUCKETS: usize>(
+    reading: R,
+    file: &[u8],
+    table: &Table<BUCKETS>,
+    hash: u32,
+) -> Sought {
+    let (count, first) = table.bucket(file, bucket(reading, hash, BUCKETS));
+    let guess = ((hash as u64 * count as u64) >> 32) as u32;
+    let sought = Sought { hash, count, first, guess };
+    prefetch(file, sought.place(guess));
+    sought
+}
+
+impl Sought {
+    #[inline(always)]
+    fn place(&self, number: u32) -> usize {
+        self.first + number as usize * ENTRY
+    }
+
+    #[inline(always)]
+    fn hash_at(&self, file: &[u8], number: u32) -> u32 {
+        u32_at(file, self.place(number))
+    }
+
+    /// Corrects the guess by what stands there.
+    #[inline]
+    pub fn refine(&mut self, file: &[u8]) {
+        if self.count > FEW {
+            let there = self.hash_at(file, self.guess);
+            let off = ((self.hash as i64 - there as i64) * self.count as i64) >> 32;
+            self.guess = (self.guess as i64 + off).clamp(0, self.count as i64 - 1) as u32;
+            prefetch(file, self.place(self.guess));
+        }
+    }
+
+    /// The bucket's first entry whose hash is not below the asked one.
+    ///
+    /// The place is closed in from the guess by doubling steps and then by
+    /// halving: a few entries in ordinary buckets, never more than twice the
+    /// logarithm in any.
+    #[inline]
+    pub fn first_entry(&self, file: &[u8]) -> u32 {
+        if self.count <= FEW {
+            let below = |number: u32| (self.hash_at(file, number) < self.hash) as u32;
+            return (0..self.count).map(below).sum();
+        }
+        let (mut low, mut high) = if self.hash_at(file, self.guess) < self.hash {
+            self.closed_in_above(file)
+        } else {
+            self.closed_in_below(file)
+        };
+        while low < high {
+            let middle = low + (high - low) / 2;
+            if self.hash_at(file, middle) < self.hash {
+                low = middle + 1;
+            } else {
+                high = middle;
+            }
+        }
+        low
+    }
+
+    /// Bounds of the place, which lies past the guess.
+    #[inline]
+    fn closed_in_above(&self, file: &[u8]) -> (u32, u32) {
+        let (mut low, mut step) = (self.guess + 1, 1);
+        while low + step < self.count && self.hash_at(file, low + step) < self.hash {
+            low += step + 1;
+            step *= 2;
+        }
+        (low, self.count.min(low + step))
+    }
+
+    /// Bounds of the place, which is the guess or lies before it.
+    #[inline]
+    fn closed_in_below(&self, file: &[u8]) -> (u32, u32) {
+        let (mut high, mut step) = (self.guess, 1);
+        while high >= step && self.hash_at(file, high - step) >= self.hash {
+            high -= step;
+            step *= 2;
+        }
+        ((high + 1).saturating_sub(step), high)
+    }
+
+    /// The entry with this hash for which `same` holds, from `number` on.
+    /// Entries with one hash stand together, and every one of them is asked.
+    #[inline]
+    pub fn entry<R: Reading>(
+        &self,
+        reading: R,
+        file: &[u8],
+        mut number: u32,
+        same: impl Fn(Entry) -> bool,
+    ) -> Option<Entry> {
+        while number < self.count {
+            let entry = Entry::at(file, self.place(number));
+            if entry.hash != self.hash {
+                return None;
+            }
+            if same(entry) || reading.wrong(Mutant::FirstHashOnly) {
+                return Some(entry);
+            }
+            number += 1;
+        }
+        None
+    }
+
+    /// Asks for the text of an entry that will be compared soon.
+    #[inline]
+    pub fn expect<const BUCKETS: usize>(&self, file: &[u8], table: &Table<BUCKETS>, number: u32) {
+        if number < self.count {
+            table.expect_text(file, Entry::at(file, self.place(number)));
+        }
+    }
+}
+
+/// Whether an entry bears a text. Entries hold no 0, so an equal text settles a
+/// 0 in the asked one too.
+#[inline]
+pub fn bears<const BUCKETS: usize>(
+    file: &[u8],
+    table: &Table<BUCKETS>,
+    entry: Entry,
+    text: &[u8],
+) -> bool {
+    entry.length as u64 == text.len() as u64 / 2 + 1 && table.entry_text(file, entry) == text
+}
+
+/// The hash a text is looked up by.
+#[inline]
+pub fn lookup_hash<R: Reading, const BUCKETS: usize>(reading: R, text: &[u8]) -> u32 {
+    if reading.wrong(Mutant::LookupFolds) && !Table::<BUCKETS>::NAMES {
+        return folded_string_hash(reading, text);
+    }
+    string_hash(reading, text)
+}
+
+/// The entry that bears a text given as bytes. A text holding a 0 has none.
+#[inline]
+pub fn find<R: Reading, const BUCKETS: usize>(
+    reading: R,
+    file: &[u8],
+    table: &Table<BUCKETS>,
+    text: &[u8],
+) -> Option<Entry> {
+    let mut sought = seek(reading, file, table, lookup_hash::<R, BUCKETS>(reading, text));
+    sought.refine(file);
+    let number = sought.first_entry(file);
+    sought.entry(reading, file, number, |entry| bears(file, table, entry, text))
+}

@@ -1,0 +1,58 @@
+//! A loader of plain data center files, written from document 01 alone: the
+//! second program the proved library is compared with.
+//!
+//! A file is lent as a byte slice with a workspace; it is checked whole and
+//! then answers questions. See `questions::Loader` for the exported questions
+//! and `view::View` for the held form.
+
+#![deny(unsafe_code)]
+
+mod answer;
+mod bytes;
+mod crc_table;
+mod cursor;
+mod escape;
+mod find;
+mod fold;
+mod hash;
+mod index;
+mod keys;
+mod layout;
+mod lookup;
+mod node;
+mod nodes;
+mod outline;
+mod path;
+mod pending;
+mod prefetch;
+pub mod program;
+mod questions;
+mod reading;
+mod region;
+mod scan;
+mod strings;
+mod table;
+mod tree;
+mod view;
+mod wrong_tree;
+
+pub use answer::{Answer, HeaderReport, Refusal};
+pub use index::{Index, Marked, Plain};
+pub use layout::FILE_LIMIT;
+pub use lookup::Which;
+pub use questions::Loader;
+pub use reading::{Mutant, Reading, Right, Wrong};
+pub use view::View;
+
+/// The hashes, for whoever makes files.
+pub mod hashes {
+    use crate::reading::Right;
+
+    pub fn string_hash(text: &[u8]) -> u32 {
+        crate::hash::string_hash(Right, text)
+    }
+
+    pub fn value_hash(text: &[u8]) -> u16 {
+        crate::hash::value_hash(Right, text)
+    }
+}

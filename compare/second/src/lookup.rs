@@ -1,0 +1,178 @@
+//! Lookups by text on a held view, one at a time and in batches.
+
+use crate::answer::{Answer, Refusal, ABSENT};
+use crate::find::{bears, find, lookup_hash, seek, Sought};
+use crate::index::Index;
+use crate::reading::{Mutant, Reading};
+use crate::scan::scan;
+use crate::table::{Entry, Table};
+use crate::view::View;
+
+/// Which string table a lookup asks.
+#[derive(Clone, Copy, Debug, PartialEq, Eq)]
+pub enum Which {
+    Names,
+    Values,
+}
+
+/// 24 for a single text: an odd number of bytes.
+pub fn text_fault(text: &[u8]) -> Option<Refusal> {
+    (text.len() % 2 == 1).then_some(Refusal { number: 24, place: text.len() as u64 })
+}
+
+/// 24 for a path or a batch: odd, or not empty and not ending in a 0 character.
+pub fn list_fault<R: Reading>(reading: R, texts: &[u8]) -> Option<Refusal> {
+    let odd = texts.len() % 2 == 1;
+    let unended = !texts.is_empty() && !texts.ends_with(&[0, 0]);
+    let allowed = reading.wrong(Mutant::UnendedPathAllowed) && !odd;
+    ((odd || unended) && !allowed).then_some(Refusal { number: 24, place: texts.len() as u64 })
+}
+
+/// The texts of a path or a batch: each is what stands before a 0 character.
+pub fn texts(list: &[u8]) -> impl Iterator<Item = &[u8]> {
+    let mut left = list;
+    std::iter::from_fn(move || {
+        if left.is_empty() {
+            return None;
+        }
+        let length = left.chunks_exact(2).position(|pair| pair == [0, 0]).unwrap_or(left.len() / 2);
+        let (text, rest) = left.split_at(2 * length);
+        left = rest.get(2..).unwrap_or(&[]);
+        Some(text)
+    })
+}
+
+/// How many lookups of a batch are under way at once.
+const GROUP: usize = 16;
+
+impl<R: Reading, I: Index> View<'_, R, I> {
+    /// A name's index, if the text is a name.
+    #[inline]
+    pub fn name(&self, text: &[u8]) -> Option<u32> {
+        self.lookup(&self.layout.names, text)
+    }
+
+    /// A value's address as a number, if the text is a value.
+    #[inline]
+    pub fn value(&self, text: &[u8]) -> Option<u32> {
+        self.lookup(&self.layout.values, text)
+    }
+
+    #[inline]
+    fn lookup<const BUCKETS: usize>(&self, table: &Table<BUCKETS>, text: &[u8]) -> Option<u32> {
+        let text = if self.reading.wrong(Mutant::ZeroCutsText) {
+            texts(text).next().unwrap_or(text)
+        } else {
+            text
+        };
+        let entry = find(self.reading, self.file, table, text)?;
+        Some(self.number::<BUCKETS>(entry))
+    }
+
+    /// What a lookup answers for an entry: a name's index, a value's address.
+    #[inline]
+    fn number<const BUCKETS: usize>(&self, entry: Entry) -> u32 {
+        if Table::<BUCKETS>::NAMES {
+            entry.index
+        } else if self.reading.wrong(Mutant::AddressNumberSwapped) {
+            entry.address.number().rotate_left(16)
+        } else {
+            entry.address.number()
+        }
+    }
+
+    pub fn single(&self, which: Which, text: &[u8]) -> Answer {
+        if let Some(refusal) = text_fault(text) {
+            return refusal.into();
+        }
+        let found = match which {
+            Which::Names => self.name(text),
+            Which::Values => self.value(text),
+        };
+        found.map_or(ABSENT, |number| Answer::of(number as u64))
+    }
+
+    /// Many lookups: eight bytes a text, kind and value, low byte first.
+    pub fn batch(&self, which: Which, list: &[u8], answers: &mut [u8]) -> Answer {
+        if let Some(refusal) = list_fault(self.reading, list) {
+            return refusal.into();
+        }
+        // Every text ends in a 0 and holds none.
+        let count = list.chunks_exact(2).filter(|pair| *pair == [0, 0]).count();
+        if answers.len() / 8 < count {
+            return Answer::from(Refusal { number: 25, place: count as u64 });
+        }
+        match which {
+            Which::Names => self.batch_of(&self.layout.names, list, answers),
+            Which::Values => self.batch_of(&self.layout.values, list, answers),
+        }
+        Answer::of(count as u64)
+    }
+
+    /// Lookups a group at a time, step by step, so that their waits for memory
+    /// fall together.
+    fn batch_of<const BUCKETS: usize>(
+        &self,
+        table: &Table<BUCKETS>,
+        list: &[u8],
+        answers: &mut [u8],
+    ) {
+        let mut left = list;
+        let mut group: [(&[u8], Sought, u32); GROUP] = [(&[], Sought::default(), 0); GROUP];
+        for places in answers.chunks_mut(8 * GROUP) {
+            let mut filled = 0;
+            while filled < GROUP && !left.is_empty() {
+                let (text, hash) = self.next_text::<BUCKETS>(&mut left);
+                group[filled] = (text, seek(self.reading, self.file, table, hash), 0);
+                filled += 1;
+            }
+            for (_, sought, _) in &mut group[..filled] {
+                sought.refine(self.file);
+            }
+            for (_, sought, number) in &mut group[..filled] {
+                *number = sought.first_entry(self.file);
+                sought.expect(self.file, table, *number);
+            }
+            for (&(text, sought, number), place) in group[..filled].iter().zip(places.chunks_mut(8))
+            {
+                let found = sought.entry(self.reading, self.file, number, |entry| {
+                    bears(self.file, table, entry, text)
+                });
+                self.put(found.map(|entry| self.number::<BUCKETS>(entry)), place);
+            }
+            if left.is_empty() {
+                break;
+            }
+        }
+    }
+
+    /// Takes the first text of a list, with the hash it is looked up by.
+    #[inline]
+    fn next_text<'t, const BUCKETS: usize>(&self, left: &mut &'t [u8]) -> (&'t [u8], u32) {
+        let list = *left;
+        match scan(self.reading, list, false) {
+            Some(scanned) => {
+                let text = &list[..scanned.bytes];
+                *left = &list[scanned.bytes + 2..];
+                if self.reading.wrong(Mutant::LookupFolds) {
+                    return (text, lookup_hash::<R, BUCKETS>(self.reading, text));
+                }
+                (text, scanned.hash)
+            }
+            None => {
+                *left = &[];
+                (list, lookup_hash::<R, BUCKETS>(self.reading, list))
+            }
+        }
+    }
+
+    #[inline]
+    fn put(&self, found: Option<u32>, place: &mut [u8]) {
+        if found.is_none() && self.reading.wrong(Mutant::BatchAbsentKeepsPlace) {
+            return;
+        }
+        let kind = found.is_none() as u64;
+        let both = kind | (found.unwrap_or(0) as u64) << 32;
+        place.copy_from_slice(&both.to_le_bytes());
+    }
+}

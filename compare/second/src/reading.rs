@@ -1,0 +1,154 @@
+//! The right reading of document 01, and the wrong ones the sensitivity run
+//! tells apart from it.
+//!
+//! Checks ask `reading.wrong(Mutant::…)` where a wrong reading would differ.
+//! For `Right` that is the constant `false`, so the shipped loader carries no
+//! trace of the mutants; `Wrong` decides at run time.
+
+pub trait Reading: Copy {
+    fn wrong(self, mutant: Mutant) -> bool;
+}
+
+#[derive(Clone, Copy, Debug, Default)]
+pub struct Right;
+
+impl Reading for Right {
+    #[inline(always)]
+    fn wrong(self, _: Mutant) -> bool {
+        false
+    }
+}
+
+#[derive(Clone, Copy, Debug)]
+pub struct Wrong(pub Mutant);
+
+impl Reading for Wrong {
+    #[inline]
+    fn wrong(self, mutant: Mutant) -> bool {
+        self.0 == mutant
+    }
+}
+
+macro_rules! mutants {
+    ($($name:ident: $words:literal,)*) => {
+        #[derive(Clone, Copy, Debug, PartialEq, Eq)]
+        pub enum Mutant { $($name,)* }
+
+        impl Mutant {
+            pub const ALL: &'static [Mutant] = &[$(Mutant::$name,)*];
+
+            /// The wrong reading in words.
+            pub fn words(self) -> &'static str {
+                match self { $(Mutant::$name => $words,)* }
+            }
+        }
+    };
+}
+
+mutants! {
+    // Layout, 1 to 6.
+    FileLimitExclusive: "a file of exactly 1,073,741,824 bytes is refused",
+    HeaderAsOne: "a header cut anywhere is 2 at 0",
+    ThirdZeroWordIgnored: "the header's zero word at 24 is not looked at",
+    CutArrayAtElement: "2 at a cut array names the first element that does not fit",
+    KeyLimit4095: "at most 4,095 keys",
+    NoKeysAllowed: "a key count of 0 is fine",
+    SegmentLimit65536: "65,536 segments are fine",
+    FullLimit65536: "a full count of 65,536 is fine",
+    FullAfterUsed: "the full count's limit is tested after the used count is read",
+    UsedBelowFull: "used equal to full is refused",
+    UsedFaultAtFull: "used above full is placed at the full count",
+    ValuesListLimited: "the values address count is limited to 65,536 too",
+    NamesListUnlimited: "the names address count has no upper limit",
+    ListCountZero: "an address count of 0 is taken as an empty list",
+    TailBeforeFooter: "bytes after the footer are told before a footer that is not 0",
+    EntriesWrap: "the size of a bucket's entries wraps in 32 bits",
+    // String tables, 7 to 14.
+    AddressUpToFull: "an entry's address resolves below the full count",
+    TextPastUsed: "a 0 past the used part ends a text",
+    LengthWithoutZero: "length does not count the 0",
+    HashShiftsLeft: "the hash shifts left",
+    HashHighByteFirst: "the hash takes the high byte first",
+    BucketWithoutFold: "the bucket is the hash modulo the bucket number",
+    BucketNotChecked: "an entry may stand in any bucket",
+    OrderNotChecked: "entries of a bucket may fall in hash",
+    EqualHashRefused: "two entries of one bucket may not share a hash",
+    IndexZeroAllowed: "an entry's index 0 is fine",
+    IndexAddressNotChecked: "the address at an entry's index may differ",
+    RepeatsNeighbourOnly: "12 looks only at the entry just before",
+    RepeatsAllowed: "12 is never given",
+    RepeatsByHash: "the same hash and length is taken for the same text",
+    UncarriedAllowed: "13 is never given",
+    NamesBeforeValues: "the names table is checked before the values table",
+    ValueNameLast: "`__value__` has to be the last name",
+    SpecialNamesAnywhere: "`__root__` and `__value__` may have any indices",
+    // Keys, nodes and attributes, 15 to 19 and 23.
+    FirstKeyFree: "key 0 may name attributes",
+    KeyMayNameValue: "a key may name `__value__`",
+    KeyMayNotNameRoot: "a key may not name `__root__`",
+    RootInLaterSegment: "the root is the first used node of any segment",
+    RootAttributesAllowed: "the root may have attributes",
+    FlagsUpToThree: "flags up to 3 are fine",
+    KeyIndexOnePast: "a key index equal to the key count is fine",
+    NamelessChecked: "a nameless node's fields are checked",
+    AttributeRangeFull: "an attribute range is tested against the full count",
+    AttributeEqualAllowed: "two attributes of a node may share a name",
+    AttributeOrderAcross: "an attribute is compared with the last one of the node before",
+    TypeZeroAllowed: "type 0 is taken for a whole number",
+    TruthLowByte: "a truth looks at its low byte alone",
+    FloatExtendedFree: "a float may have any extended code",
+    ValueAnyType: "`__value__` may have any type",
+    ValueHashUnfolded: "the value hash does not fold",
+    Fold0151Stays: "0151 folds to itself",
+    FoldF7: "00f7 folds like its neighbours",
+    Fold009cStays: "009c folds to itself",
+    ValueHashAs18: "a wrong value hash is 18",
+    AnyTextAddress: "a type 3 address may point inside an entry's text",
+    ChildRangeFull: "a child range is tested against the full count",
+    ChildOrderStrict: "two children may not share a name",
+    ChildOrderNameless: "a nameless child counts as name 0 in the order of names",
+    ChildrenBeforeAttributes: "23 comes before 17 within a node",
+    // Workspace and tree, 20 to 22.
+    LiveNodesCounted: "the workspace needs a byte for live nodes only",
+    WorkspaceBeforeNodes: "20 comes before 16 to 23",
+    RootInRangeAllowed: "a child range may hold the root",
+    OrphanRangesIgnored: "ranges of nodes that no range holds are not looked at in 21",
+    OwnRangeRefused: "a node in its own range is 21",
+    NamelessNotMarked: "nameless elements of a range are not marked",
+    SharedAtFirstOwner: "21 names the node whose range comes first",
+    ChainOf65Allowed: "a chain of 65 nodes is fine",
+    ChainOf64Refused: "a chain of 64 nodes is refused",
+    NamelessMakesChain: "a nameless element makes a chain longer",
+    DeepestInFileOrder: "22 names the first too deep node in file order",
+    MarksLeftAfter21: "marks stay in the workspace after 21",
+    MarksLeftAfter22: "marks stay in the workspace after 22",
+    WorkspaceClearedWhole: "bytes of the workspace past the used nodes are cleared",
+    RootMarked: "the root's byte is marked",
+    // Questions, 24 to 26.
+    OddBeforeAcceptance: "24 comes before acceptance",
+    ZeroCutsText: "a text holding a 0 is looked up as far as the 0",
+    FirstHashOnly: "a lookup stops at the first entry with the asked hash",
+    LookupFolds: "a value lookup folds the text",
+    AddressNumberSwapped: "a value's number is element times 65,536 plus segment",
+    UnendedPathAllowed: "a path's last name needs no 0",
+    EmptyPathMatchesNothing: "the empty path has no match",
+    EmptyNameIsNameless: "an empty name matches nameless nodes",
+    StopAtNameless: "the children scan stops at a nameless node",
+    FirstMatchOnly: "one match of each name is followed",
+    ListingFilledBefore25: "25 leaves as many matches as fit in the listing",
+    ListingRoomRoundedUp: "a listing's length is divided by four and rounded up",
+    LongPathIs24: "a path of more than 63 names is 24",
+    OutlineFilledBefore26: "26 leaves the start of the outline in the buffer",
+    OutlineRoomStrict: "an outline of exactly the buffer's length is 26",
+    NegativeAsUnsigned: "whole numbers are printed without a sign",
+    FloatBitsAsStored: "a float's digits follow its bytes in the file",
+    NanMadePlain: "a NaN loses its bits",
+    QuoteStands: "`\"` stands as itself",
+    SpaceStands: "a space stands as itself",
+    TildeEscaped: "`~` is escaped",
+    HexUpperCase: "hex digits are upper case",
+    NamesNotEscaped: "names are not escaped",
+    NoLastNewline: "the outline's last newline is left out",
+    TimestampMadePlain: "a NaN timestamp loses its bits",
+    BatchAbsentKeepsPlace: "an absent text of a batch leaves its place",
+}

@@ -1,0 +1,141 @@
+//! String tables: layout, entries and the text at an address.
+
+use crate::answer::{refuse, Refusal};
+use crate::bytes::{u32_at, Address};
+use crate::cursor::Cursor;
+use crate::prefetch::{prefetch, prefetch_text};
+use crate::reading::{Mutant, Reading};
+use crate::region::{Region, Segment};
+
+pub const VALUE_BUCKETS: usize = 1024;
+pub const NAME_BUCKETS: usize = 512;
+pub const ENTRY: usize = 16;
+
+pub struct Table<const BUCKETS: usize> {
+    pub chars: Region,
+    /// Offset of each bucket's count; its entries follow.
+    pub buckets: [u32; BUCKETS],
+    /// Entries of all buckets.
+    pub entries: u64,
+    /// Offset of the address count.
+    pub count_at: usize,
+    /// Address count less one: how many addresses the list holds.
+    pub listed: u32,
+}
+
+#[derive(Clone, Copy)]
+pub struct Entry {
+    pub hash: u32,
+    pub length: u32,
+    pub index: u32,
+    pub address: Address,
+}
+
+impl Entry {
+    #[inline(always)]
+    pub fn at(file: &[u8], at: usize) -> Entry {
+        let bytes = &file[at..at + ENTRY];
+        Entry {
+            hash: u32_at(bytes, 0),
+            length: u32_at(bytes, 4),
+            index: u32_at(bytes, 8),
+            address: Address::at(bytes, 12),
+        }
+    }
+}
+
+impl<const BUCKETS: usize> Table<BUCKETS> {
+    /// Whether this is the names table: the two differ in their bucket number.
+    pub const NAMES: bool = BUCKETS == NAME_BUCKETS;
+
+    /// A table still to be read.
+    pub fn unread() -> Self {
+        let chars = Region::unread(2);
+        Table { chars, buckets: [0; BUCKETS], entries: 0, count_at: 0, listed: 0 }
+    }
+
+    /// Reads in place: a table is too large to be handed about.
+    pub fn read<R: Reading>(&mut self, reading: R, cursor: &mut Cursor) -> Result<(), Refusal> {
+        self.chars.read(reading, cursor)?;
+        for bucket in &mut self.buckets {
+            *bucket = cursor.at as u32;
+            let count = cursor.word()?;
+            cursor.array(reading, count, ENTRY as u32)?;
+            self.entries += count as u64;
+        }
+        self.count_at = cursor.at;
+        let count = cursor.word()?;
+        let limited = if Self::NAMES {
+            !reading.wrong(Mutant::NamesListUnlimited)
+        } else {
+            reading.wrong(Mutant::ValuesListLimited)
+        };
+        if (count == 0 && !reading.wrong(Mutant::ListCountZero)) || (limited && count > 65_536) {
+            return refuse(5, self.count_at);
+        }
+        self.listed = count.saturating_sub(1);
+        cursor.array(reading, self.listed, 4)?;
+        Ok(())
+    }
+
+    /// Number of entries of a bucket and the offset of its first.
+    #[inline]
+    pub fn bucket(&self, file: &[u8], bucket: usize) -> (u32, usize) {
+        let at = self.buckets[bucket] as usize;
+        (u32_at(file, at), at + 4)
+    }
+
+    /// The list's address for an index from 1 to `listed`.
+    #[inline]
+    pub fn listed_address(&self, file: &[u8], index: u32) -> Address {
+        Address::at(file, self.count_at + 4 * index as usize)
+    }
+
+    /// The text of an entry that has passed its checks, without its 0.
+    #[inline]
+    pub fn entry_text<'a>(&self, file: &'a [u8], entry: Entry) -> &'a [u8] {
+        let first = self
+            .chars
+            .segment(file, entry.address.segment)
+            .map_or(0, |segment| self.chars.element_at(segment, entry.address.element));
+        let bytes = 2 * (entry.length as usize - 1);
+        &file[first..first + bytes]
+    }
+
+    /// Asks for the text of an entry that will be read soon.
+    #[inline]
+    pub fn expect_text(&self, file: &[u8], entry: Entry) {
+        if let Some(segment) = self.chars.segment(file, entry.address.segment) {
+            prefetch_text(file, self.chars.element_at(segment, entry.address.element));
+        }
+    }
+
+    /// Asks for all that the checks of an entry will read.
+    #[inline]
+    pub fn expect(&self, file: &[u8], entry: Entry) {
+        self.expect_text(file, entry);
+        prefetch(file, self.count_at.wrapping_add((entry.index as usize).wrapping_mul(4)));
+    }
+
+    /// The text at any address, without its 0; none where the address does not
+    /// resolve or no 0 follows in the used part.
+    pub fn text_at<'a>(&self, file: &'a [u8], address: Address) -> Option<&'a [u8]> {
+        let segment = self.chars.resolve(file, address)?;
+        let chars = used_chars(file, segment, address.element);
+        let length = chars.chunks_exact(2).position(|pair| pair == [0, 0])?;
+        Some(&chars[..2 * length])
+    }
+
+    /// The text of a name index that has passed its checks.
+    pub fn listed_text<'a>(&self, file: &'a [u8], index: u32) -> &'a [u8] {
+        let address = self.listed_address(file, index);
+        self.text_at(file, address).unwrap_or(&[])
+    }
+}
+
+/// The used characters of a segment from an element on, as bytes.
+#[inline]
+pub fn used_chars(file: &[u8], segment: Segment, element: u16) -> &[u8] {
+    let end = segment.first + 2 * segment.used as usize;
+    &file[segment.first + 2 * element as usize..end]
+}

@@ -1,0 +1,75 @@
+//! Shows that the comparison's questions tell wrong readings of document 01
+//! from the right one: each mutant of the second loader has to differ in an
+//! answer or a buffer somewhere.
+
+mod suspects;
+
+use std::process::ExitCode;
+use std::time::{Duration, Instant};
+
+use compare::asks::asks;
+use compare::case::{random, Case};
+use compare::guard::Edge;
+use compare::question::{Ask, Question};
+use compare::sparse::Largest;
+use compare::sweep::{cut_counts, cuts, limits};
+use maker::rng::Rng;
+
+use suspects::Suspects;
+
+/// After so long whoever is left has survived.
+const BUDGET: Duration = Duration::from_secs(300);
+
+fn case(suspects: &mut Suspects, rng: &mut Rng, case: &Case) {
+    let questions = asks(rng, case);
+    for edge in [Edge::End, Edge::Start] {
+        suspects.pages.put_file(&case.bytes, edge);
+        for question in questions.iter().filter(|question| question.edge == edge) {
+            suspects.question(&case.bytes, question);
+        }
+    }
+}
+
+/// Random files first, then the sweeps and limits that random ones rarely hit.
+fn run(suspects: &mut Suspects, seed: u64) {
+    let started = Instant::now();
+    let done = |suspects: &Suspects| suspects.all_caught() || started.elapsed() > BUDGET;
+    let mut rng = Rng::new(seed);
+    for _ in 0..1_500 {
+        let made = random(&mut rng);
+        case(suspects, &mut rng, &made);
+    }
+    for make in limits() {
+        let made = make(&mut rng);
+        case(suspects, &mut rng, &made);
+    }
+    let mut largest = Largest::new();
+    let question =
+        Question { ask: Ask::Accept, workspace: 1, out: 0, fill: 1, edge: Edge::End, null: false };
+    suspects.question_on(largest.bytes(0), &question);
+    for made in cut_counts(&mut rng).chain(cuts(&mut rng.clone())) {
+        if done(suspects) {
+            return;
+        }
+        case(suspects, &mut rng, &made);
+    }
+    while !done(suspects) {
+        let made = random(&mut rng);
+        case(suspects, &mut rng, &made);
+    }
+}
+
+fn main() -> ExitCode {
+    let seed = std::env::args().nth(1).and_then(|word| word.parse().ok()).unwrap_or(1);
+    // A mutant may run into its own mistake and panic; that is a difference
+    // too, and needs no words of its own.
+    std::panic::set_hook(Box::new(|_| {}));
+    let mut suspects = Suspects::new();
+    run(&mut suspects, seed);
+    print!("{suspects}");
+    if suspects.all_caught() {
+        ExitCode::SUCCESS
+    } else {
+        ExitCode::FAILURE
+    }
+}
