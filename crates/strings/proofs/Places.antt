@@ -1,0 +1,98 @@
+-- What the code holds of a table (specs/Held.antt): its entries and list positions lie in the file. Assumes nothing.
+use Prim.Native.Nat.{ℕ, _+_, _-_, _*_, _≤_, _<_}
+use native.Mathlib.Omega.{arith}
+use mathlib.Core.Path.{_≡_, refl, ap, _∙_}
+use mathlib.Core.List.{List}
+use lib.ListN.{length, getD}
+use Rattle.le.specs.Le.{u16At, u32At}
+use Rattle.layout.specs.Table.{Table, entries, entryAt, hashOf, lengthOf, indexOf, segmentOf, elementOf, count, positionAt, listedSegment, listedElement}
+use Rattle.layout.proofs.Laws.{bucket-fits, entry-fits, position-fits}
+use Rattle.strings.specs.Held.{Held, heldTable, Here}
+use Rattle.strings.specs.declared.Strings.{Strings}
+
+-- an entry in the file, by its bucket's start
+pub record Inside (b starts : List ℕ) (k j : ℕ) : Type 0 where
+  pub bucket : k < length starts
+  pub entry : getD starts k 0 + 4 + 16 * j + 16 ≤ length b
+  pub small : length b ≤ 1073741824
+
+module _ (b : List ℕ) (s : Strings) (samples starts : List ℕ) (h : Held b s samples starts) where
+  -- an entry, by what is read as its bucket's start
+  pub entry-is : (k j x : ℕ) → k < length starts → x ≡ getD starts k 0 → x + 4 + 16 * j ≡ entryAt (heldTable b s starts) k j
+  unfolding entryAt
+  entry-is k j x l e = ap (λ (a : ℕ). a + 4 + 16 * j) (e ∙ h .buckets .at k l)
+
+  pub inside : (k j : ℕ) → Here (heldTable b s starts) k j → Inside b starts k j
+  inside k j w = record {
+    bucket = w .bucket;
+    entry = omega (arith, entry-is k j _ (w .bucket) refl, entry-fits (heldTable b s starts) (h .laid) k j (w .bucket) (w .entry));
+    small = h .small;
+  }
+
+  -- the entry count of a bucket
+  pub count-in : (k : ℕ) → k < length starts → getD starts k 0 + 4 ≤ length b
+  count-in k l = omega (arith, h .buckets .at k l, bucket-fits (heldTable b s starts) (h .laid) k l)
+
+  pub count-is : (k x n : ℕ) → k < length starts → x ≡ getD starts k 0 → n ≡ u32At b x → n ≡ entries (heldTable b s starts) k
+  unfolding entries
+  count-is k x n l e q = q ∙ ap (u32At b) (e ∙ h .buckets .at k l)
+
+  pub few-entries : (k : ℕ) → k < length starts → entries (heldTable b s starts) k ≤ 1073741824
+  few-entries k l = omega (arith, h .laid .bucket k l, h .small)
+
+  -- the address count, and a list position
+  pub list-is : (n : ℕ) → n ≡ u32At b (s .list) → n ≡ count (heldTable b s starts)
+  unfolding count
+  list-is n e = e ∙ ap (u32At b) (h .list)
+
+  pub position-in : (n i : ℕ) → n ≡ u32At b (s .list) → i < n → s .list + 4 * i + 4 ≤ length b
+  unfolding positionAt
+  position-in n i e l =
+      omega (arith, h .list, list-is n e, position-fits (heldTable b s starts) (h .laid) i (omega (arith, list-is n e)))
+
+  pub listed-segment-at : (i x : ℕ) → x ≡ u16At b (s .list + 4 * i) → x ≡ listedSegment (heldTable b s starts) i
+  unfolding listedSegment positionAt
+  listed-segment-at i x e = e ∙ ap (λ (a : ℕ). u16At b (a + 4 * i)) (h .list)
+
+  pub listed-element-at : (i x : ℕ) → x ≡ u16At b (s .list + 4 * i + 2) → x ≡ listedElement (heldTable b s starts) i
+  unfolding listedElement positionAt
+  listed-element-at i x e = e ∙ ap (λ (a : ℕ). u16At b (a + 4 * i + 2)) (h .list)
+
+-- an entry below the count that was read, and an earlier one of its bucket
+pub here-in : (t : Table) (k j n : ℕ) → k < t .buckets → n ≡ entries t k → j < n → Here t k j
+here-in t k j n h q l = record { bucket = h; entry = omega (arith, q) }
+
+pub earlier : (t : Table) (k i j : ℕ) → Here t k j → i ≤ j → Here t k i
+earlier t k i j h l = record { bucket = h .bucket; entry = omega (arith, h .entry) }
+
+-- the fields of an entry as they are read at its place
+module _ (t : Table) (k j e x : ℕ) (q : e ≡ entryAt t k j) where
+  pub hash-at : x ≡ u32At (t .bytes) e → x ≡ hashOf t k j
+  unfolding hashOf
+  hash-at p = p ∙ ap (u32At (t .bytes)) q
+
+  pub length-at : x ≡ u32At (t .bytes) (e + 4) → x ≡ lengthOf t k j
+  unfolding lengthOf
+  length-at p = p ∙ ap (λ (a : ℕ). u32At (t .bytes) (a + 4)) q
+
+  pub index-at : x ≡ u32At (t .bytes) (e + 8) → x ≡ indexOf t k j
+  unfolding indexOf
+  index-at p = p ∙ ap (λ (a : ℕ). u32At (t .bytes) (a + 8)) q
+
+  pub segment-at : x ≡ u16At (t .bytes) (e + 12) → x ≡ segmentOf t k j
+  unfolding segmentOf
+  segment-at p = p ∙ ap (λ (a : ℕ). u16At (t .bytes) (a + 12)) q
+
+  pub element-at : x ≡ u16At (t .bytes) (e + 14) → x ≡ elementOf t k j
+  unfolding elementOf
+  element-at p = p ∙ ap (λ (a : ℕ). u16At (t .bytes) (a + 14)) q
+
+-- the entry before stands 16 bytes before
+module _ (t : Table) (k j e : ℕ) (q : e ≡ entryAt t k j) (z : j ≡ 0 → ⊥) where
+  pub before-in : 16 ≤ e
+  unfolding entryAt
+  before-in = omega arith
+
+  pub before-is : e - 16 ≡ entryAt t k (j - 1)
+  unfolding entryAt
+  before-is = omega arith

@@ -1,0 +1,41 @@
+-- A string table as the code holds it: its characters with their samples, its buckets' starts, the place of its address count.
+use Prim.Native.Nat.{ℕ, _-_, _≤_, _<_}
+use mathlib.Core.Path.{_≡_}
+use mathlib.Core.List.{List}
+use lib.ListN.{length}
+use Rattle.region.specs.Samples.{Mapped, Starts}
+use Rattle.layout.specs.Table.{Table, table, entries, hashOf, listAt, TableLaid, BucketStarts}
+use Rattle.layout.specs.Layout.{valuesMost}
+use Rattle.strings.specs.Rules.{Resolved, Delimited, Hashed}
+use Rattle.strings.specs.declared.Strings.{Strings}
+
+-- The table that the code holds: it starts with its characters, and has as many buckets as there are starts.
+abbrev pub heldTable : List ℕ → Strings → List ℕ → Table
+heldTable b s starts = table b (s .chars .at) (length starts)
+
+-- The parts are that table's, laid in a file that is small enough.
+pub record Held (b : List ℕ) (s : Strings) (samples starts : List ℕ) : Type 0 where
+  pub small : length b ≤ 1073741824
+  pub laid : TableLaid (heldTable b s starts) valuesMost
+  pub some-bucket : 1 ≤ length starts
+  pub chars : Mapped 2 b (s .chars .at) (s .chars)
+  pub sampled : Starts 2 b (s .chars .at) (s .chars .shift) samples
+  pub buckets : BucketStarts (heldTable b s starts) starts
+  pub list : s .list ≡ listAt (heldTable b s starts)
+
+-- There is an entry j of bucket k.
+pub record Here (t : Table) (k j : ℕ) : Type 0 where
+  pub bucket : k < t .buckets
+  pub entry : j < entries t k
+
+-- Refusals 7 to 9 are not due.
+pub record TextRight (t : Table) (k j : ℕ) : Type 0 where
+  pub resolved : Resolved t k j
+  pub delimited : Delimited t k j
+  pub hashed : Hashed t k j
+
+-- The entries of a bucket up to j resolve and have their texts' hashes, in order: what the test for a twin asks.
+pub record Sorted (t : Table) (k j : ℕ) : Type 0 where
+  pub resolved : (i : ℕ) → i ≤ j → Resolved t k i
+  pub hashed : (i : ℕ) → i ≤ j → Hashed t k i
+  pub ascends : (i : ℕ) → i ≤ j → hashOf t k (i - 1) ≤ hashOf t k i

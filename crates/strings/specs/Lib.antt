@@ -1,0 +1,6 @@
+pub mod Texts
+pub mod Rules
+pub mod Decisions
+pub mod Order
+pub mod Held
+pub mod Search

@@ -1,0 +1,192 @@
+// One entry: its fields, and refusals 7 to 12.
+ghost use mathlib.Core.Path.{_≡_};
+ghost use Prim.Native.Nat.{ℕ, _+_, _≤_, _<_, _^_};
+ghost use lib.ListN.{length};
+ghost use Rattle.verdict.specs.Checks.{Tells, firstFault};
+ghost use Rattle.verdict.specs.declared.Verdict.the-variants.{Accepted};
+ghost use Rattle.hash.specs.Table.{Tables};
+ghost use Rattle.layout.specs.Table.{entryAt, entries};
+ghost use Rattle.strings.specs.Rules.{Resolved, Placed, Indexed, Twin};
+ghost use Rattle.strings.specs.Order.{entryChecks};
+ghost use Rattle.strings.specs.Held.{Held, heldTable, Here, TextRight, Sorted};
+ghost use Rattle.strings.specs.Texts.{textOf};
+use crate::Strings;
+use crate::spot;
+use crate::spot::Spot;
+use verdict::Verdict;
+
+fn wide(x: u32) -> usize
+    ensures { λ r. ⌜ (r ≡ x) × (r < 2 ^ 32) ⌝ }
+{
+    x as usize
+}
+
+// Where entry j of bucket k stands.
+pub fn entry_at(
+    b: &[u8],
+    s: Strings,
+    samples: &[u32; 256],
+    starts: &[u32],
+    k: usize,
+    j: usize,
+) -> usize
+    requires { ⌜ Held (now b) s (now samples) (now starts) × Here (heldTable (now b) s (now starts)) k j ⌝ }
+    ensures { λ r. ⌜ (r ≡ entryAt (heldTable (now (b .entry)) s (now (starts .entry))) k j) × (r + 16 ≤ length (now (b .entry))) ⌝ }
+{
+    wide(starts[k]) + 4 + 16 * j
+}
+
+// The number of entries of bucket k.
+pub fn entry_count(b: &[u8], s: Strings, samples: &[u32; 256], starts: &[u32], k: usize) -> usize
+    requires { ⌜ Held (now b) s (now samples) (now starts) × (k < length (now starts)) ⌝ }
+    ensures { λ r. ⌜ r ≡ entries (heldTable (now (b .entry)) s (now (starts .entry))) k ⌝ }
+{
+    le::u32_at(b, wide(starts[k]))
+}
+
+// Refusal 10 is not due.
+fn placed(b: &[u8], s: Strings, samples: &[u32; 256], starts: &[u32], k: usize, j: usize) -> bool
+    requires { ⌜ Held (now b) s (now samples) (now starts) × Here (heldTable (now b) s (now starts)) k j ⌝ }
+    ensures { λ r. ⌜ Tells (Placed (heldTable (now (b .entry)) s (now (starts .entry))) k j) r ⌝ }
+{
+    let e = entry_at(b, s, samples, starts, k, j);
+    let h = le::u32_at(b, e);
+    if hash::bucket(h, starts.len()) != k {
+        return false;
+    }
+    if j == 0 {
+        return true;
+    }
+    le::u32_at(b, e - 16) <= h
+}
+
+// Refusal 11 is not due.
+fn indexed(b: &[u8], s: Strings, samples: &[u32; 256], starts: &[u32], k: usize, j: usize) -> bool
+    requires { ⌜ Held (now b) s (now samples) (now starts) × Here (heldTable (now b) s (now starts)) k j ⌝ }
+    ensures { λ r. ⌜ Tells (Indexed (heldTable (now (b .entry)) s (now (starts .entry))) k j) r ⌝ }
+{
+    let e = entry_at(b, s, samples, starts, k, j);
+    let i = le::u32_at(b, e + 8);
+    if i == 0 {
+        return false;
+    }
+    if le::u32_at(b, s.list) <= i {
+        return false;
+    }
+    let p = s.list + 4 * i;
+    if le::u16_at(b, p) != le::u16_at(b, e + 12) {
+        return false;
+    }
+    le::u16_at(b, p + 2) == le::u16_at(b, e + 14)
+}
+
+// Whether entries i and j of bucket k have the same text; both addresses resolve.
+fn same_text(
+    b: &[u8],
+    s: Strings,
+    samples: &[u32; 256],
+    starts: &[u32],
+    k: usize,
+    i: usize,
+    j: usize,
+) -> bool
+    requires { ⌜ Held (now b) s (now samples) (now starts)
+        × Here (heldTable (now b) s (now starts)) k i × Resolved (heldTable (now b) s (now starts)) k i
+        × Here (heldTable (now b) s (now starts)) k j × Resolved (heldTable (now b) s (now starts)) k j ⌝ }
+    ensures { λ r. ⌜ Tells (textOf (heldTable (now (b .entry)) s (now (starts .entry))) k i
+        ≡ textOf (heldTable (now (b .entry)) s (now (starts .entry))) k j) r ⌝ }
+{
+    let d = entry_at(b, s, samples, starts, k, i);
+    let e = entry_at(b, s, samples, starts, k, j);
+    let x = spot::spot_to(b, s.chars, samples, d + 12);
+    let y = spot::spot_to(b, s.chars, samples, e + 12);
+    let Spot::At(p, m) = x else {
+        return false;
+    };
+    let Spot::At(q, n) = y else {
+        return false;
+    };
+    text::same(b, p, m, q, n)
+}
+
+// What refusal 12 is given for. Texts that are the same have one hash, and hashes ascend: only the run of entries just
+// before with the same hash is read.
+fn twin(b: &[u8], s: Strings, samples: &[u32; 256], starts: &[u32], k: usize, j: usize) -> bool
+    requires { ⌜ Held (now b) s (now samples) (now starts) × Here (heldTable (now b) s (now starts)) k j
+        × Sorted (heldTable (now b) s (now starts)) k j ⌝ }
+    ensures { λ r. ⌜ Tells (Twin (heldTable (now (b .entry)) s (now (starts .entry))) k j) r ⌝ }
+{
+    let e = entry_at(b, s, samples, starts, k, j);
+    let h = le::u32_at(b, e);
+    let mut i = j;
+    while i > 0 {
+        let d = entry_at(b, s, samples, starts, k, i - 1);
+        if le::u32_at(b, d) != h {
+            return false;
+        }
+        if same_text(b, s, samples, starts, k, i - 1, j) {
+            return true;
+        }
+        i -= 1;
+    }
+    false
+}
+
+// Refusals 10 to 12 of an entry whose text is right.
+fn check_order(
+    b: &[u8],
+    s: Strings,
+    samples: &[u32; 256],
+    starts: &[u32],
+    k: usize,
+    j: usize,
+) -> Verdict
+    requires { ⌜ Held (now b) s (now samples) (now starts) × Here (heldTable (now b) s (now starts)) k j
+        × ((i : ℕ) → i < j → firstFault (entryChecks (heldTable (now b) s (now starts)) k i) ≡ Accepted)
+        × TextRight (heldTable (now b) s (now starts)) k j ⌝ }
+    ensures { λ r. ⌜ r ≡ firstFault (entryChecks (heldTable (now (b .entry)) s (now (starts .entry))) k j) ⌝ }
+{
+    let e = entry_at(b, s, samples, starts, k, j);
+    if !placed(b, s, samples, starts, k, j) {
+        return Verdict::Refused(10, e);
+    }
+    if !indexed(b, s, samples, starts, k, j) {
+        return Verdict::Refused(11, e);
+    }
+    if twin(b, s, samples, starts, k, j) {
+        return Verdict::Refused(12, e);
+    }
+    Verdict::Accepted
+}
+
+// Refusals 7 to 12 of an entry, where those before it in the bucket passed.
+pub fn check_entry(
+    b: &[u8],
+    t: &[u32; 512],
+    s: Strings,
+    samples: &[u32; 256],
+    starts: &[u32],
+    k: usize,
+    j: usize,
+) -> Verdict
+    requires { ⌜ Tables (now t) × Held (now b) s (now samples) (now starts) × Here (heldTable (now b) s (now starts)) k j
+        × ((i : ℕ) → i < j → firstFault (entryChecks (heldTable (now b) s (now starts)) k i) ≡ Accepted) ⌝ }
+    ensures { λ r. ⌜ r ≡ firstFault (entryChecks (heldTable (now (b .entry)) s (now (starts .entry))) k j) ⌝ }
+{
+    let e = entry_at(b, s, samples, starts, k, j);
+    let a = spot::spot_to(b, s.chars, samples, e + 12);
+    let Spot::At(p, n) = a else {
+        return Verdict::Refused(7, e);
+    };
+    let m = text::measure(b, t, p, n);
+    if !m.ended {
+        return Verdict::Refused(8, e);
+    }
+    if le::u32_at(b, e + 4) != m.length + 1 {
+        return Verdict::Refused(8, e);
+    }
+    if le::u32_at(b, e) != m.hash {
+        return Verdict::Refused(9, e);
+    }
+    check_order(b, s, samples, starts, k, j)
+}

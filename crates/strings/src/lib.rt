@@ -1,0 +1,14 @@
+// Refusals 7 to 12: the entries of a string table (01, "Strings", "Refusal numbers").
+pub mod entry;
+pub mod search;
+pub mod spot;
+pub mod table;
+
+use region::Region;
+
+// A string table: its characters, and the place of its address count. The samples of the one and the starts of its
+// buckets are lent beside it: arrays in a struct would be copied with it.
+pub struct Strings {
+    pub chars: Region,
+    pub list: usize,
+}

@@ -1,0 +1,38 @@
+// Addresses of characters.
+ghost use mathlib.Core.Path.{_≡_};
+ghost use Prim.Native.Nat.{_+_, _≤_, _<_};
+ghost use lib.ListN.{length};
+ghost use Rattle.le.specs.Le.{u16At};
+ghost use Rattle.region.specs.Samples.{Mapped, Starts};
+ghost use Rattle.strings.specs.Texts.{spotAt};
+use region::Region;
+
+// Where an address stands and how many characters of its segment's used part are left there.
+pub enum Spot {
+    At(usize, usize),
+    Nowhere,
+}
+
+// The spot of an address, or nowhere where it does not resolve.
+pub fn spot_at(b: &[u8], chars: Region, samples: &[u32; 256], seg: usize, el: usize) -> Spot
+    requires { ⌜ Mapped 2 (now b) (chars .at) chars × Starts 2 (now b) (chars .at) (chars .shift) (now samples) × (el < 65536) ⌝ }
+    ensures { λ r. ⌜ r ≡ spotAt (now (b .entry)) (chars .at) seg el ⌝ }
+{
+    if seg >= chars.count {
+        return Spot::Nowhere;
+    }
+    let p = region::locate(b, chars, 2, samples, seg);
+    let used = le::u32_at(b, p + 4);
+    if el >= used {
+        return Spot::Nowhere;
+    }
+    Spot::At(p + 8 + el * 2, used - el)
+}
+
+// The same for the address that stands at an offset of the file: an entry's, or a list position's.
+pub fn spot_to(b: &[u8], chars: Region, samples: &[u32; 256], at: usize) -> Spot
+    requires { ⌜ Mapped 2 (now b) (chars .at) chars × Starts 2 (now b) (chars .at) (chars .shift) (now samples) × (at + 4 ≤ length (now b)) ⌝ }
+    ensures { λ r. ⌜ r ≡ spotAt (now (b .entry)) (chars .at) (u16At (now (b .entry)) at) (u16At (now (b .entry)) (at + 2)) ⌝ }
+{
+    spot_at(b, chars, samples, le::u16_at(b, at), le::u16_at(b, at + 2))
+}
