@@ -1,0 +1,97 @@
+-- The search for the entry that bears a text. Assumes nothing.
+use Prim.Native.Nat.{ℕ, _+_, _≤_, _<_}
+use native.Mathlib.Omega.{arith}
+use mathlib.Core.Path.{_≡_, ap, sym, subst, _∙_}
+use mathlib.Core.Logic.{⊎-elim}
+use mathlib.Core.Bool.{Bool}
+use mathlib.Core.List.{List}
+use borrow.Author.Count.{below-more}
+use Rattle.laws.proofs.Order.{le-or-lt}
+use Rattle.verdict.specs.Checks.{Tells}
+use Rattle.verdict.proofs.Laws.{Clean}
+use Rattle.hash.specs.Hash.{hashText, bucketOf}
+use Rattle.text.specs.Text.{textIn}
+use Rattle.layout.specs.Table.{Table, entries, entryAt, hashOf, segmentOf, elementOf}
+use Rattle.strings.specs.Texts.{textOf}
+use Rattle.strings.specs.Rules.{Resolved}
+use Rattle.strings.specs.Held.{Here}
+use Rattle.strings.specs.Order.{stringChecks}
+use Rattle.strings.specs.Search.{Lower}
+use Rattle.strings.proofs.Accepted.{strings-parts, all-good}
+use Rattle.strings.proofs.Spots.{Spotted}
+use Rattle.strings.proofs.Only.{bucket-of, none-after, none-before}
+use Rattle.lookup.specs.Lookup.{Borne, entryOfText}
+use Rattle.lookup.specs.declared.Lookup.the-variants.{Found, Absent}
+use Rattle.lookup.proofs.Found.{told-none, told-some}
+
+-- ---- one entry
+
+pub entry-resolved : (t : Table) (k j : ℕ) → Clean (stringChecks t) → Here t k j → Resolved t k j
+entry-resolved t k j ok h = all-good t (strings-parts t ok .0) k j (h .bucket) (h .entry) .resolved
+
+-- its text, compared at its spot
+pub text-there : (t : Table) (x : List ℕ) (k j p n : ℕ) {r : Bool} → Spotted t (segmentOf t k j) (elementOf t k j) p n → Tells (textIn (t .bytes) p n ≡ x) r
+    → Tells (textOf t k j ≡ x) r
+unfolding textOf
+text-there t x k j p n s f = record {
+  so = λ w. sym (s .text) ∙ f .so w;
+  not = λ w e. f .not w (s .text ∙ e);
+}
+
+-- ---- the loop over a bucket
+
+-- it is the text's bucket, no entry before j bears the text, and from j on no hash is below the text's
+pub record Searched (t : Table) (x : List ℕ) (h k m j : ℕ) : Type 0 where
+  pub hash : h ≡ hashText x
+  pub bucket : k < t .buckets
+  pub right : bucketOf (t .buckets) (hashText x) ≡ k
+  pub many : m ≡ entries t k
+  pub none : (i : ℕ) → i < j → i < entries t k → textOf t k i ≡ x → ⊥
+  pub above : (i : ℕ) → j ≤ i → i < entries t k → h ≤ hashOf t k i
+
+pub searched-start : (t : Table) (x : List ℕ) (h k m j : ℕ) → Clean (stringChecks t) → h ≡ hashText x → k ≡ bucketOf (t .buckets) h → k < t .buckets
+    → m ≡ entries t k → Lower t k h j → Searched t x h k m j
+searched-start t x h k m j ok e q b n l = record {
+  hash = e;
+  bucket = b;
+  right = ap (bucketOf (t .buckets)) (sym e) ∙ sym q;
+  many = n;
+  none = λ i a c. none-before t (strings-parts t ok .0) k j i x b (subst (λ (y : ℕ). Lower t k y j) e l) c a;
+  above = l .above;
+}
+
+module _ (t : Table) (x : List ℕ) (h k m j : ℕ) (r : Searched t x h k m j) where
+  pub searched-more : (textOf t k j ≡ x → ⊥) → Searched t x h k m (j + 1)
+  searched-more f = record {
+    hash = r .hash;
+    bucket = r .bucket;
+    right = r .right;
+    many = r .many;
+    none = below-more _ j (r .none) (λ l. f);
+    above = λ i a l. r .above i (omega arith) l;
+  }
+
+  module _ (ok : Clean (stringChecks t)) where
+    -- no entry of another bucket bears the text, nor one before j: where none from j on does, none does
+    none-from : ((i : ℕ) → j ≤ i → i < entries t k → textOf t k i ≡ x → ⊥) → Absent ≡ entryOfText t x
+    unfolding entryOfText
+    none-from g = sym (told-none (entryAt t) t x unborne)
+      where
+        unborne : ¬ Borne t x
+        unborne w =
+            let y : w .0 ≡ k = sym (bucket-of t (strings-parts t ok .0) (w .0) (w .2 .0) x (w .1) (w .2 .1) (w .2 .2)) ∙ r .right in
+            let v = subst (λ (b : ℕ). (w .2 .0 < entries t b) × (textOf t b (w .2 .0) ≡ x)) y (w .2 .1, w .2 .2) in
+            ⊎-elim (λ l. g (w .2 .0) l (v .0) (v .1)) (λ l. r .none (w .2 .0) l (v .0) (v .1)) (le-or-lt j (w .2 .0))
+
+    -- at another hash the text's own are over
+    pub searched-over : (w : ℕ) → j < m → w ≡ hashOf t k j → (w ≡ h → ⊥) → Absent ≡ entryOfText t x
+    searched-over w l e f =
+        let a = r .above j (omega arith) (omega (arith, r .many)) in
+        none-from (λ i b c. none-after t (strings-parts t ok .0) k j i x (r .bucket) c b (omega (arith, r .hash)))
+
+    pub searched-end : m ≤ j → Absent ≡ entryOfText t x
+    searched-end l = none-from (λ i a b e. omega (arith, r .many))
+
+    pub searched-found : (e : ℕ) → Here t k j → e ≡ entryAt t k j → textOf t k j ≡ x → Found e ≡ entryOfText t x
+    unfolding entryOfText
+    searched-found e l q p = ap Found q ∙ sym (told-some (entryAt t) t x ok k j l p)

@@ -1,0 +1,82 @@
+use Prim.Native.Nat.{_-_}
+use borrow.Author.Needs.{needs}
+use Rattle.text.specs.Text.{chars}
+use Rattle.strings.specs.Held.{heldTable}
+use Rattle.strings.proofs.Places.{here-in, hash-at}
+use Rattle.strings.proofs.Accepted.{strings-parts}
+use Rattle.lookup.proofs.Bucket.{Searched, searched-start, searched-more, searched-over, searched-end, searched-found}
+use Rattle.lookup.proofs.find_entry.Statement.{statement}
+use Rattle.lookup.proofs.find_entry.Tie as tie
+
+abbrev Inv-loop : tie.InvT-loop
+Inv-loop b t s samples starts q p n h k m j₀ j = Searched (heldTable b s starts) (chars q p n) h k m j
+
+abbrev μ-loop : tie.MeasureT-loop
+μ-loop b t s samples starts q p n h k m j₀ j = m - j
+
+hash-chars-requires : tie.Need-hash-chars-requires Inv-loop μ-loop
+hash-chars-requires c κs = search needs
+
+bucket-requires : tie.Need-bucket-requires Inv-loop μ-loop
+bucket-requires c κs = search needs
+
+entry-count-requires : tie.Need-entry-count-requires Inv-loop μ-loop
+entry-count-requires c κs = search needs
+
+lower-requires : tie.Need-lower-requires Inv-loop μ-loop
+lower-requires c κs = let p = c .before .before .before .before .before .before .pre in (p .1, c .before .bucket .ensures .1, strings-parts _ (p .2) .0)
+
+loop-holds : tie.Need-loop-holds Inv-loop μ-loop
+loop-holds c = let k = c .before .before .bucket .ensures in
+    searched-start _ _ _ _ _ _ (c .before .before .before .before .before .before .before .pre .2) (c .before .before .before .hash-chars .ensures .0) (k .0) (k .1) (c .before .entry-count .ensures) (c .lower .ensures)
+
+entry-at-requires : tie.Need-entry-at-requires Inv-loop μ-loop
+entry-at-requires c κs = let i = c .before .loop .inv in (c .before .before .before .before .before .before .before .before .before .pre .1, here-in _ _ _ _ (i .bucket) (i .many) (c .loop-test .taken))
+
+u32-at-requires : tie.Need-u32-at-requires Inv-loop μ-loop
+u32-at-requires c κs = search needs
+
+returns : tie.Need-returns Inv-loop μ-loop
+returns c = searched-over _ _ _ _ _ _ (c .before .before .before .before .loop .inv) (c .before .before .before .before .before .before .before .before .before .before .before .before .pre .2) _ (c .before .before .before .loop-test .taken) (hash-at _ _ _ _ _ (c .before .before .entry-at .ensures .0) (c .before .u32-at .ensures .0)) (c .if1 .taken)
+
+entry-bears-requires : tie.Need-entry-bears-requires Inv-loop μ-loop
+entry-bears-requires c κs = let p = c .before .before .before .before .before .before .before .before .before .before .before .before .pre in
+    let i = c .before .before .before .before .loop .inv in
+    (p .1, here-in _ _ _ _ (i .bucket) (i .many) (c .before .before .before .loop-test .taken), p .2, p .3)
+
+returns-2 : tie.Need-returns-2 Inv-loop μ-loop
+returns-2 c = let i = c .before .before .before .before .before .before .loop .inv in
+    searched-found _ _ _ _ _ _ i (c .before .before .before .before .before .before .before .before .before .before .before .before .before .before .pre .2) _ (here-in _ _ _ _ (i .bucket) (i .many) (c .before .before .before .before .before .loop-test .taken)) (c .before .before .before .before .entry-at .ensures .0) (c .before .entry-bears .ensures .so (c .if2 .taken))
+
+add-j : tie.Need-add-j Inv-loop μ-loop
+add-j c = search needs
+
+loop-less : tie.Need-loop-less Inv-loop μ-loop
+loop-less c = search needs
+
+loop-again : tie.Need-loop-again Inv-loop μ-loop
+loop-again c = searched-more _ _ _ _ _ _ (c .before .before .before .before .before .before .loop .inv) (c .before .entry-bears .ensures .not (c .if2 .left))
+
+returns-3 : tie.Need-returns-3 Inv-loop μ-loop
+returns-3 c = searched-end _ _ _ _ _ _ (c .before .loop .inv) (c .before .before .before .before .before .before .before .before .before .pre .2) (c .loop-test .left)
+
+pub find-entry-spec : {M : Type 1} → statement M
+find-entry-spec =
+    tie.close
+    (tie.spec
+    Inv-loop
+    μ-loop
+    hash-chars-requires
+    bucket-requires
+    entry-count-requires
+    lower-requires
+    loop-holds
+    entry-at-requires
+    u32-at-requires
+    returns
+    entry-bears-requires
+    returns-2
+    add-j
+    loop-less
+    loop-again
+    returns-3)

@@ -1,0 +1,121 @@
+// Name by text and value by text in an accepted string table (01, "Questions").
+ghost use mathlib.Core.Path.{_≡_};
+ghost use Prim.Native.Nat.{_+_, _*_, _≤_};
+ghost use lib.ListN.{length};
+ghost use Rattle.verdict.specs.Checks.{Tells, firstFault};
+ghost use Rattle.verdict.specs.declared.Verdict.the-variants.{Accepted};
+ghost use Rattle.hash.specs.Table.{Tables};
+ghost use Rattle.text.specs.Text.{chars};
+ghost use Rattle.strings.specs.Texts.{textOf};
+ghost use Rattle.strings.specs.Order.{stringChecks};
+ghost use Rattle.strings.specs.Held.{Held, heldTable, Here};
+ghost use Rattle.lookup.specs.Lookup.{entryOfText, indexOfText, addressOfText};
+use strings::Strings;
+use strings::entry;
+use strings::search;
+use strings::spot;
+use strings::spot::Spot;
+
+// What is found: a number, or nothing.
+pub enum Lookup {
+    Found(usize),
+    Absent,
+}
+
+// Whether entry j of bucket k bears the n characters at p of what is asked.
+fn entry_bears(
+    b: &[u8],
+    s: Strings,
+    samples: &[u32; 256],
+    starts: &[u32],
+    k: usize,
+    j: usize,
+    q: &[u8],
+    p: usize,
+    n: usize,
+) -> bool
+    requires { ⌜ Held (now b) s (now samples) (now starts) × Here (heldTable (now b) s (now starts)) k j
+        × (firstFault (stringChecks (heldTable (now b) s (now starts))) ≡ Accepted) × (p + 2 * n ≤ length (now q)) ⌝ }
+    ensures { λ r. ⌜ Tells (textOf (heldTable (now (b .entry)) s (now (starts .entry))) k j ≡ chars (now (q .entry)) p n) r ⌝ }
+{
+    let e = entry::entry_at(b, s, samples, starts, k, j);
+    let a = spot::spot_to(b, s.chars, samples, e + 12);
+    let Spot::At(x, m) = a else {
+        return false;
+    };
+    text::bears(b, x, m, q, p, n)
+}
+
+// The entry that bears the n characters at p of what is asked. Among equal hashes all are read.
+pub fn find_entry(
+    b: &[u8],
+    t: &[u32; 512],
+    s: Strings,
+    samples: &[u32; 256],
+    starts: &[u32],
+    q: &[u8],
+    p: usize,
+    n: usize,
+) -> Lookup
+    requires { ⌜ Tables (now t) × Held (now b) s (now samples) (now starts)
+        × (firstFault (stringChecks (heldTable (now b) s (now starts))) ≡ Accepted) × (p + 2 * n ≤ length (now q)) ⌝ }
+    ensures { λ r. ⌜ r ≡ entryOfText (heldTable (now (b .entry)) s (now (starts .entry))) (chars (now (q .entry)) p n) ⌝ }
+{
+    let h = text::hash_chars(q, t, p, n);
+    let k = hash::bucket(h, starts.len());
+    let m = entry::entry_count(b, s, samples, starts, k);
+    let mut j = search::lower(b, s, samples, starts, k, h);
+    while j < m {
+        let e = entry::entry_at(b, s, samples, starts, k, j);
+        if le::u32_at(b, e) != h {
+            return Lookup::Absent;
+        }
+        if entry_bears(b, s, samples, starts, k, j, q, p, n) {
+            return Lookup::Found(e);
+        }
+        j += 1;
+    }
+    Lookup::Absent
+}
+
+// The index of a name.
+pub fn find_name(
+    b: &[u8],
+    t: &[u32; 512],
+    s: Strings,
+    samples: &[u32; 256],
+    starts: &[u32],
+    q: &[u8],
+    p: usize,
+    n: usize,
+) -> Lookup
+    requires { ⌜ Tables (now t) × Held (now b) s (now samples) (now starts)
+        × (firstFault (stringChecks (heldTable (now b) s (now starts))) ≡ Accepted) × (p + 2 * n ≤ length (now q)) ⌝ }
+    ensures { λ r. ⌜ r ≡ indexOfText (heldTable (now (b .entry)) s (now (starts .entry))) (chars (now (q .entry)) p n) ⌝ }
+{
+    match find_entry(b, t, s, samples, starts, q, p, n) {
+        Lookup::Found(e) => Lookup::Found(le::u32_at(b, e + 8)),
+        Lookup::Absent => Lookup::Absent,
+    }
+}
+
+// The address of a value.
+pub fn find_value(
+    b: &[u8],
+    t: &[u32; 512],
+    s: Strings,
+    samples: &[u32; 256],
+    starts: &[u32],
+    q: &[u8],
+    p: usize,
+    n: usize,
+) -> Lookup
+    requires { ⌜ Tables (now t) × Held (now b) s (now samples) (now starts)
+        × (firstFault (stringChecks (heldTable (now b) s (now starts))) ≡ Accepted) × (p + 2 * n ≤ length (now q)) ⌝ }
+    ensures { λ r. ⌜ r ≡ addressOfText (heldTable (now (b .entry)) s (now (starts .entry))) (chars (now (q .entry)) p n) ⌝ }
+{
+    match find_entry(b, t, s, samples, starts, q, p, n) {
+        Lookup::Found(e) => Lookup::Found(le::u16_at(b, e + 12) * 65536 + le::u16_at(b, e + 14)),
+        Lookup::Absent => Lookup::Absent,
+    }
+}
