@@ -1,3 +1,5 @@
 pub mod Order
 pub mod Xor
 pub mod Computed
+pub mod Splice
+pub mod Pigeon

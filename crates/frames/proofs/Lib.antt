@@ -1,0 +1,10 @@
+pub mod Tests
+pub mod Digits
+pub mod Lines
+pub mod Pairs
+pub mod Offsets
+pub mod Framed
+pub mod Answers
+pub mod Written
+pub mod Steps
+pub mod Examples

@@ -1,0 +1,5 @@
+pub mod Names
+pub mod Keys
+pub mod Decisions
+pub mod Order
+pub mod Known

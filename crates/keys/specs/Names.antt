@@ -1,0 +1,36 @@
+-- The names of a file (01, "Strings", "Questions"), and the two special ones.
+use Prim.Native.Nat.{ℕ, _-_, _≤_}
+use mathlib.Core.Path.{_≡_}
+use mathlib.Core.Logic.{_⊎_}
+use mathlib.Core.List.{List, [], _∷_}
+use Rattle.layout.specs.Table.{count}
+use Rattle.layout.specs.Layout.{names}
+use Rattle.strings.specs.Texts.{listedText}
+
+-- The name count: the address count of names less one.
+unfoldable pub nameCount : List ℕ → ℕ
+nameCount b = count (names b) - 1
+
+-- The text that name index i picks from the names address list, counted from 1.
+unfoldable pub nameText : List ℕ → ℕ → List ℕ
+nameText b i = listedText (names b) i
+
+-- `__root__` and `__value__`.
+unfoldable pub rootName : List ℕ
+rootName = 0x5f ∷ 0x5f ∷ 0x72 ∷ 0x6f ∷ 0x6f ∷ 0x74 ∷ 0x5f ∷ 0x5f ∷ []
+
+unfoldable pub valueName : List ℕ
+valueName = 0x5f ∷ 0x5f ∷ 0x76 ∷ 0x61 ∷ 0x6c ∷ 0x75 ∷ 0x65 ∷ 0x5f ∷ 0x5f ∷ []
+
+-- Index i is that of a name, whose text is x.
+pub record Bears (b : List ℕ) (i : ℕ) (x : List ℕ) : Type 0 where
+  pub low : 1 ≤ i
+  pub high : i ≤ nameCount b
+  pub text : nameText b i ≡ x
+
+-- 14: `__root__` and `__value__` are the two highest name indices, either way round.
+pub record Special (b : List ℕ) : Type 0 where
+  pub two : 2 ≤ nameCount b
+  pub highest :
+      ((nameText b (nameCount b) ≡ rootName) × (nameText b (nameCount b - 1) ≡ valueName))
+      ⊎ ((nameText b (nameCount b) ≡ valueName) × (nameText b (nameCount b - 1) ≡ rootName))

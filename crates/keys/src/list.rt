@@ -1,0 +1,51 @@
+// Refusal 15.
+ghost use mathlib.Core.Path.{_≡_};
+ghost use Prim.Native.Nat.{_<_};
+ghost use Rattle.verdict.specs.Checks.{Tells, firstFault};
+ghost use Rattle.layout.specs.Header.{keyCount};
+ghost use Rattle.layout.specs.Layout.{LaidOut};
+ghost use Rattle.keys.specs.Keys.{KeyRule};
+ghost use Rattle.keys.specs.Order.{allKeyChecks};
+ghost use Rattle.keys.specs.Known.{Known};
+use crate::Names;
+use verdict::Verdict;
+
+// Whether refusal 15 is not due to key k.
+fn key_right(b: &[u8], names: Names, k: usize) -> bool
+    requires { ⌜ LaidOut (now b) × Known (now b) names × (k < keyCount (now b)) ⌝ }
+    ensures { λ r. ⌜ Tells (KeyRule (now (b .entry)) k) r ⌝ }
+{
+    let mut f = 0usize;
+    while f < 4 {
+        let name = le::u16_at(b, 36 + 8 * k + 2 * f);
+        if k == 0 {
+            if name != 0 {
+                return false;
+            }
+        }
+        if name > names.count {
+            return false;
+        }
+        if name == names.value {
+            return false;
+        }
+        f += 1;
+    }
+    true
+}
+
+// Refusal 15 of every key.
+pub fn check_keys(b: &[u8], names: Names) -> Verdict
+    requires { ⌜ LaidOut (now b) × Known (now b) names ⌝ }
+    ensures { λ r. ⌜ r ≡ firstFault (allKeyChecks (now (b .entry))) ⌝ }
+{
+    let n = le::u32_at(b, 32);
+    let mut k = 0;
+    while k < n {
+        if !key_right(b, names, k) {
+            return Verdict::Refused(15, 36 + 8 * k);
+        }
+        k += 1;
+    }
+    Verdict::Accepted
+}

@@ -1,0 +1,90 @@
+// Refusal 14.
+ghost use mathlib.Core.Path.{_≡_};
+ghost use Prim.Native.Nat.{_*_, _≤_, _<_};
+ghost use lib.ListN.{length};
+ghost use Rattle.verdict.specs.Checks.{Tells, firstFault};
+ghost use Rattle.verdict.specs.declared.Verdict.the-variants.{Accepted};
+ghost use Rattle.text.specs.Text.{chars};
+ghost use Rattle.layout.specs.Table.{count};
+ghost use Rattle.layout.specs.Layout.{names};
+ghost use Rattle.strings.specs.Texts.{listedText};
+ghost use Rattle.strings.specs.Order.{stringChecks};
+ghost use Rattle.strings.specs.Held.{Held, heldTable};
+ghost use Rattle.keys.specs.Known.{SpecialsFound};
+use crate::Names;
+use strings::Strings;
+use strings::spot;
+use strings::spot::Spot;
+use verdict::Verdict;
+
+// What the check answers; the names mean something only where nothing is refused.
+pub struct Specials {
+    pub answer: Verdict,
+    pub names: Names,
+}
+
+// Whether the text at list position i is the k characters of x.
+fn listed_is(
+    b: &[u8],
+    s: Strings,
+    samples: &[u32; 256],
+    starts: &[u32],
+    i: usize,
+    x: &[u8],
+    k: usize,
+) -> bool
+    requires { ⌜ Held (now b) s (now samples) (now starts) × (firstFault (stringChecks (heldTable (now b) s (now starts))) ≡ Accepted) ⌝ }
+    requires { ⌜ (1 ≤ i) × (i < count (heldTable (now b) s (now starts))) × (2 * k ≤ length (now x)) ⌝ }
+    ensures { λ r. ⌜ Tells (listedText (heldTable (now (b .entry)) s (now (starts .entry))) i ≡ chars (now (x .entry)) 0 k) r ⌝ }
+{
+    let a = spot::spot_to(b, s.chars, samples, s.list + 4 * i);
+    let Spot::At(q, n) = a else {
+        return false;
+    };
+    text::bears(b, q, n, x, 0, k)
+}
+
+// Refusal 14 of a file whose names table passed 7 to 13.
+pub fn check_special(b: &[u8], s: Strings, samples: &[u32; 256], starts: &[u32]) -> Specials
+    requires { ⌜ Held (now b) s (now samples) (now starts) × (heldTable (now b) s (now starts) ≡ names (now b))
+        × (firstFault (stringChecks (heldTable (now b) s (now starts))) ≡ Accepted) ⌝ }
+    ensures { λ r. ⌜ SpecialsFound (now (b .entry)) r ⌝ }
+{
+    let root = b"_\0_\0r\0o\0o\0t\0_\0_\0";
+    let value = b"_\0_\0v\0a\0l\0u\0e\0_\0_\0";
+    let place = s.list;
+    let n = le::u32_at(b, place) - 1;
+    if n >= 2 {
+        if listed_is(b, s, samples, starts, n, root, 8) {
+            if listed_is(b, s, samples, starts, n - 1, value, 9) {
+                return Specials {
+                    answer: Verdict::Accepted,
+                    names: Names {
+                        count: n,
+                        root: n,
+                        value: n - 1,
+                    },
+                };
+            }
+        } else if listed_is(b, s, samples, starts, n, value, 9) {
+            if listed_is(b, s, samples, starts, n - 1, root, 8) {
+                return Specials {
+                    answer: Verdict::Accepted,
+                    names: Names {
+                        count: n,
+                        root: n - 1,
+                        value: n,
+                    },
+                };
+            }
+        }
+    }
+    Specials {
+        answer: Verdict::Refused(14, place),
+        names: Names {
+            count: n,
+            root: 0,
+            value: 0,
+        },
+    }
+}

@@ -1,0 +1,66 @@
+-- Refusals 16 to 19 and 23 find nothing exactly when their rules hold of the file. Assumes nothing.
+use Prim.Native.Nat.{ℕ, _<_}
+use native.Mathlib.Omega.{arith}
+use mathlib.Core.Path.{_≡_, _∙_}
+use mathlib.Core.Logic.{_↔_}
+use mathlib.Core.List.{List}
+use Rattle.verdict.specs.Checks.{firstFault}
+use Rattle.verdict.specs.declared.Verdict.the-variants.{Accepted}
+use Rattle.verdict.proofs.Laws.{Clean, pass, clean-inv, append-inv, fault-append, fault-none, each-inv, each-clean}
+use Rattle.nodes.specs.Node.{nodeAt, attributeCount, attributeAt}
+use Rattle.nodes.specs.Rules.{AttributeRule, TextRight, NodeRules, NodesRules}
+use Rattle.nodes.specs.Order.{attributeChecks, nodeAttributeChecks, nodeChecks, segmentNodeChecks, allNodeChecks}
+
+module _ (b : List ℕ) where
+  attribute-inv : (p i : ℕ) → Clean (attributeChecks b p i) → AttributeRule b p i × TextRight b (attributeAt b p i)
+  unfolding attributeChecks
+  attribute-inv p i e = let x = clean-inv _ _ _ _ _ e in (x .0, clean-inv _ _ _ _ _ (x .1) .0)
+
+  attribute-clean : (p i : ℕ) → AttributeRule b p i → TextRight b (attributeAt b p i) → Clean (attributeChecks b p i)
+  unfolding attributeChecks
+  attribute-clean p i h l = pass _ _ _ _ _ h ∙ pass _ _ _ _ _ l ∙ fault-none
+
+  attributes-inv : (p : ℕ) → Clean (nodeAttributeChecks b p) → (i : ℕ) → i < attributeCount b p → AttributeRule b p i × TextRight b (attributeAt b p i)
+  unfolding nodeAttributeChecks
+  attributes-inv p e i h = attribute-inv p i (each-inv _ _ _ e i (omega arith) (omega arith))
+
+  pub node-inv : (seg el : ℕ) → Clean (nodeChecks b seg el) → NodeRules b seg el
+  unfolding nodeChecks
+  node-inv seg el e =
+      let x = clean-inv _ _ _ _ _ e in
+      let y = clean-inv _ _ _ _ _ (x .1) in
+      let z = append-inv (nodeAttributeChecks b (nodeAt b seg el)) _ (y .1) in
+      let a = attributes-inv (nodeAt b seg el) (z .0) in
+      record {
+        node = x .0;
+        attributes = y .0;
+        attribute = λ i h. a i h .0;
+        text = λ i h. a i h .1;
+        children = clean-inv _ _ _ _ _ (z .1) .0;
+      }
+
+  pub node-clean : (seg el : ℕ) → NodeRules b seg el → Clean (nodeChecks b seg el)
+  unfolding nodeChecks nodeAttributeChecks
+  node-clean seg el g =
+      pass _ _ _ _ _ (g .node) ∙ pass _ _ _ _ _ (g .attributes)
+      ∙ fault-append _ _ (each-clean _ _ _ (λ i l h. attribute-clean (nodeAt b seg el) i (g .attribute i (omega arith)) (g .text i (omega arith))))
+      ∙ pass _ _ _ _ _ (g .children) ∙ fault-none
+
+  accepted-nodes : Clean (allNodeChecks b) → NodesRules b
+  unfolding allNodeChecks segmentNodeChecks
+  accepted-nodes e =
+      let x = clean-inv _ _ _ _ _ e in
+      record {
+        root = x .0;
+        each = λ seg el h.
+            node-inv seg el (each-inv _ _ _ (each-inv _ _ _ (x .1) seg (omega arith) (omega (arith, h .seg-in))) el (omega arith) (omega (arith, h .el-in)));
+      }
+
+  nodes-accepted : NodesRules b → Clean (allNodeChecks b)
+  unfolding allNodeChecks segmentNodeChecks
+  nodes-accepted g =
+      pass _ _ _ _ _ (g .root)
+      ∙ each-clean _ _ _ (λ seg l h. each-clean _ _ _ (λ el m k. node-clean seg el (g .each seg el (record { seg-in = omega arith; el-in = omega arith }))))
+
+  pub nodes-iff : firstFault (allNodeChecks b) ≡ Accepted ↔ NodesRules b
+  nodes-iff = (accepted-nodes, nodes-accepted)

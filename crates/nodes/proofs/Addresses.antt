@@ -1,0 +1,176 @@
+-- Refusal 19: an address is looked for in the bucket of the text there, among the entries with its hash. Assumes nothing.
+use Prim.Native.Nat.{ℕ, _+_, _*_, _≤_, _<_}
+use native.Mathlib.Omega.{arith}
+use mathlib.Core.Path.{_≡_, ap, sym, subst, _∙_}
+use mathlib.Core.Bool.{Bool, true, false, true≢false, false≢true}
+use mathlib.Core.Logic.{⊎-elim}
+use mathlib.Core.List.{List}
+use lib.ListN.{length}
+use borrow.Author.Count.{below-more}
+use Rattle.laws.proofs.Order.{le-or-lt}
+use Rattle.verdict.specs.Checks.{Tells}
+use Rattle.verdict.proofs.Laws.{Clean, tells-yes, tells-no}
+use Rattle.le.specs.Le.{u16At}
+use Rattle.words.specs.Words.{typeOf, extendedOf}
+use Rattle.hash.specs.Hash.{hashText, bucketOf}
+use Rattle.hash.specs.Fold.{valueHash}
+use Rattle.region.specs.Region.{Laid, Resolves}
+use Rattle.text.specs.Text.{textIn, textAt}
+use Rattle.text.specs.Measure.{Hashed}
+use Rattle.text.specs.declared.Hashes.{Hashes}
+use Rattle.text.proofs.Laws.{room-fits}
+use Rattle.layout.specs.Table.{Table, entries, hashOf, segmentOf, elementOf}
+use Rattle.layout.specs.Layout.{values}
+use Rattle.strings.specs.Texts.{textTo, spotAt}
+use Rattle.strings.specs.Order.{allEntryChecks, stringChecks}
+use Rattle.strings.specs.Search.{Lower}
+use Rattle.strings.specs.declared.spot.Spot.{Spot}
+use Rattle.strings.specs.declared.spot.Spot.the-variants.{At, Nowhere}
+use Rattle.strings.proofs.Accepted.{all-good, strings-parts}
+use Rattle.strings.proofs.Only.{text-of-address, hash-of, bucket-of, rises}
+use Rattle.strings.proofs.Spots.{spot-in, spot-out}
+use Rattle.nodes.specs.Attribute.{typeWord, textSegment, textElement}
+use Rattle.nodes.specs.Rules.{EntryAddress, TextRule, TextRight}
+use Rattle.nodes.specs.Search.{AddressIn}
+use Rattle.nodes.proofs.Fields.{kind-is, extended-is}
+
+-- ---- a bucket
+
+-- what the loop has passed: entries without the hash or without the address; from there on no hash is below
+pub record Passed (t : Table) (k h seg el n j : ℕ) : Type 0 where
+  pub many : n ≡ entries t k
+  pub none : (m : ℕ) → m < j → hashOf t k m ≡ h → segmentOf t k m ≡ seg → elementOf t k m ≡ el → ⊥
+  pub above : (m : ℕ) → j ≤ m → m < entries t k → h ≤ hashOf t k m
+
+pub passed-start : (t : Table) (k h seg el n j : ℕ) → n ≡ entries t k → Lower t k h j → Passed t k h seg el n j
+passed-start t k h seg el n j e w = record { many = e; none = λ m a g. absurd (below a g); above = w .above }
+  where
+    below : {m : ℕ} → m < j → hashOf t k m ≡ h → ⊥
+    below {m} a g = omega (arith, w .below m a)
+
+module _ (t : Table) (k h seg el n j : ℕ) (r : Passed t k h seg el n j) where
+  passed-on : (segmentOf t k j ≡ seg → elementOf t k j ≡ el → ⊥) → Passed t k h seg el n (j + 1)
+  passed-on f = record {
+    many = r .many;
+    none = below-more _ j (r .none) (λ g. f);
+    above = λ m a. r .above m (omega arith);
+  }
+
+  pub passed-segment : (x : ℕ) → x ≡ segmentOf t k j → (x ≡ seg → ⊥) → Passed t k h seg el n (j + 1)
+  passed-segment x p f = passed-on (λ a c. f (p ∙ a))
+
+  pub passed-element : (y : ℕ) → y ≡ elementOf t k j → (y ≡ el → ⊥) → Passed t k h seg el n (j + 1)
+  passed-element y p f = passed-on (λ a c. f (p ∙ c))
+
+  pub address-found : j < n → (x y : ℕ) → x ≡ segmentOf t k j → x ≡ seg → y ≡ elementOf t k j → y ≡ el → AddressIn t k h seg el true
+  address-found l x y p a q c = record {
+    so = λ w. (j, omega (arith, r .many), (sym p ∙ a, sym q ∙ c));
+    not = λ w. absurd (true≢false w);
+  }
+
+  pub address-none : n ≤ j → AddressIn t k h seg el false
+  address-none l = record { so = λ w. absurd (false≢true w); not = λ w m a. r .none m (omega (arith, r .many)) }
+
+  -- behind an entry with another hash, which is above, none has the hash
+  pub address-over : Clean (allEntryChecks t) → k < t .buckets → j < n → (w : ℕ) → w ≡ hashOf t k j → (w ≡ h → ⊥) → AddressIn t k h seg el false
+  address-over ok b l w e f = record {
+    so = λ z. absurd (false≢true z);
+    not = λ z m a g. ⊎-elim (λ d. absurd (past m a g d)) (λ d. r .none m d g) (le-or-lt j m);
+  }
+    where
+      past : (m : ℕ) → m < entries t k → hashOf t k m ≡ h → j ≤ m → ⊥
+      past m a g d = f (omega (arith, e, r .above j (omega arith) (omega (arith, r .many)), rises t ok k j m b d a))
+
+-- ---- the table
+
+module _ (t : Table) (ok : Clean (allEntryChecks t)) (seg el : ℕ) where
+  -- an entry's address resolves
+  address-resolves : EntryAddress t seg el → Resolves 2 (t .bytes) (t .at) seg el
+  address-resolves w =
+      let g = all-good t ok (w .0) (w .2 .0) (w .1) (w .2 .1) .resolved in
+      subst (Resolves 2 (t .bytes) (t .at) seg) (w .2 .2 .1) (subst (λ (x : ℕ). Resolves 2 (t .bytes) (t .at) x (elementOf t (w .0) (w .2 .0))) (w .2 .2 .0) g)
+
+  -- an entry with the address stands in no bucket but that of the text there, and has its hash
+  module _ (h k : ℕ) (e : h ≡ hashText (textTo t seg el)) (d : k ≡ bucketOf (t .buckets) h) (l : k < t .buckets) {r : Bool} (f : AddressIn t k h seg el r) where
+    only-there : r ≡ false → EntryAddress t seg el → ⊥
+    only-there z w =
+        let m = w .0 in
+        let j = w .2 .0 in
+        let q = text-of-address t m j seg el (w .2 .2 .0) (w .2 .2 .1) in
+        let y : m ≡ k = sym (bucket-of t ok m j _ (w .1) (w .2 .1) q) ∙ ap (bucketOf (t .buckets)) (sym e) ∙ sym d in
+        let u = hash-of t ok m j _ (w .1) (w .2 .1) q ∙ sym e in
+        let v = subst (λ (x : ℕ). (j < entries t x) × (hashOf t x j ≡ h) × (segmentOf t x j ≡ seg) × (elementOf t x j ≡ el)) y (w .2 .1, u, w .2 .2 .0, w .2 .2 .1) in
+        f .not z j (v .0) (v .1) (v .2) (v .3)
+
+    address-told : Tells (EntryAddress t seg el) r
+    address-told = record { so = λ z. (k, l, f .so z); not = only-there }
+
+-- ---- the attribute
+
+-- what is left at a spot lies in the file
+pub spot-fits : (b : List ℕ) (p seg el : ℕ) → Laid 2 b p → {r : Spot} {x n : ℕ} → r ≡ spotAt b p seg el → r ≡ At x n → x + 2 * n ≤ length b
+spot-fits b p seg el l g z =
+    let s = spot-in _ _ _ _ (sym g ∙ z) in
+    omega (arith, room-fits b p seg el l (s .0), s .1, s .2)
+
+pub clean-entries : (b : List ℕ) (t : Table) → t ≡ values b → Clean (stringChecks (values b)) → Clean (allEntryChecks t)
+clean-entries b t same ok = subst (λ (u : Table). Clean (allEntryChecks u)) (sym same) (strings-parts (values b) ok .0)
+
+moved : (P : Table → ℕ → ℕ → Type 0) {t u : Table} {x y c d : ℕ} → t ≡ u → x ≡ c → y ≡ d → P t x y → P u c d
+moved P {t} {x = x} {c = c} {d = d} e f g h = subst (λ (v : Table). P v c d) e (subst (λ (z : ℕ). P t z d) f (subst (P t x) g h))
+
+module _ (b : List ℕ) (q w y : ℕ) (e : w ≡ u16At b (q + 2)) (f : y ≡ typeOf w) where
+  pub other-type : (y ≡ 3 → ⊥) → Tells (TextRight b q) true
+  other-type d = tells-yes (λ z. absurd (d (sym (kind-is b q w e y f) ∙ z)))
+
+  module _ (three : y ≡ 3) (t : Table) (same : t ≡ values b) (ok : Clean (stringChecks (values b))) (seg el : ℕ)
+      (a : seg ≡ u16At b (q + 4)) (c : el ≡ u16At b (q + 6)) where
+    passed : Clean (allEntryChecks t)
+    passed = clean-entries b t same ok
+
+    there : (P : Table → ℕ → ℕ → Type 0) → P t seg el → P (values b) (textSegment b q) (textElement b q)
+    unfolding textSegment textElement
+    there P h = moved P same a c h
+
+    back : (P : Table → ℕ → ℕ → Type 0) → P (values b) (textSegment b q) (textElement b q) → P t seg el
+    unfolding textSegment textElement
+    back P h = moved P (sym same) (sym a) (sym c) h
+
+    rule-of : TextRight b q → TextRule b q
+    rule-of r = r (kind-is b q w e y f ∙ three)
+
+    entry-of : TextRight b q → EntryAddress t seg el
+    entry-of r = back EntryAddress (rule-of r .entry)
+
+    module _ {r : Spot} (g : r ≡ spotAt (t .bytes) (t .at) seg el) where
+      -- an address that does not resolve is no entry's
+      pub text-nowhere : r ≡ Nowhere → Tells (TextRight b q) false
+      text-nowhere z = tells-no (λ u. spot-out _ _ _ _ (sym g ∙ z) (address-resolves t passed seg el (entry-of u)))
+
+      module _ {x n : ℕ} (z : r ≡ At x n) where
+        text-there : textIn (t .bytes) x n ≡ textTo t seg el
+        unfolding textTo textAt
+        text-there =
+            let s = spot-in _ _ _ _ (sym g ∙ z) in
+            ap (λ (p : ℕ). textIn (t .bytes) p n) (s .1) ∙ ap (textIn (t .bytes) _) (s .2)
+
+        module _ (h : Hashes) (m : Hashed (t .bytes) x n h) (v : ℕ) (i : v ≡ extendedOf w) where
+          pub text-differs : (v ≡ h .value → ⊥) → Tells (TextRight b q) false
+          text-differs d =
+              tells-no (λ u. d (sym (extended-is b q w e v i)
+              ∙ back (λ s k j. extendedOf (typeWord b q) ≡ valueHash (textTo s k j)) (rule-of u .hash)
+              ∙ ap valueHash (sym text-there) ∙ sym (m .value)))
+
+          pub text-told : v ≡ h .value → (k : ℕ) → (k ≡ bucketOf (t .buckets) (h .hash)) × (k < t .buckets) → {o : Bool}
+              → AddressIn t k (h .hash) seg el o → Tells (TextRight b q) o
+          text-told d k l {o} p = record {
+            so = λ u s. record {
+              entry = there EntryAddress (told .so u);
+              hash = there (λ s k j. extendedOf (typeWord b q) ≡ valueHash (textTo s k j))
+                  (extended-is b q w e v i ∙ d ∙ m .value ∙ ap valueHash text-there);
+            };
+            not = λ u s. told .not u (entry-of s);
+          }
+            where
+              told : Tells (EntryAddress t seg el) o
+              told = address-told t passed seg el (h .hash) k (m .hashed ∙ ap hashText text-there) (l .0) (l .1) p

@@ -1,0 +1,65 @@
+-- The scan over all nodes: whether there is a root, and what the loops over segments and nodes have left. Assumes nothing.
+use Prim.Native.Nat.{ℕ, _+_, _*_, _≤_, _<_}
+use native.Mathlib.Omega.{arith}
+use mathlib.Core.Path.{_≡_, refl, ap, sym, _∙_}
+use mathlib.Core.List.{List}
+use lib.ListN.{length}
+use Rattle.le.specs.Le.{u32At}
+use Rattle.verdict.specs.Checks.{firstFault}
+use Rattle.verdict.specs.declared.Verdict.{Verdict}
+use Rattle.verdict.specs.declared.Verdict.the-variants.{Refused}
+use Rattle.verdict.proofs.Laws.{pass, stop}
+use Rattle.region.specs.declared.Region.{Region}
+use Rattle.region.specs.Region.{Resolves, countOf, startOf, usedOf, placeOf}
+use Rattle.region.specs.Samples.{Mapped}
+use Rattle.region.proofs.Samples.{start-more, used-at, place-at}
+use Rattle.layout.specs.Layout.{nodeSize, nodesAt}
+use Rattle.nodes.specs.Node.{nodeAt}
+use Rattle.nodes.specs.Rules.{RootUsed}
+use Rattle.nodes.specs.Order.{nodeChecks, segmentNodeChecks, allNodeChecks}
+use Rattle.nodes.proofs.Rows.{rowsLeft, placesLeft, left-start}
+
+-- from segment seg on
+abbrev pub segmentsLeft : List ℕ → ℕ → Verdict
+segmentsLeft b seg = rowsLeft (nodeChecks b) (usedOf nodeSize b (nodesAt b)) (countOf b (nodesAt b)) seg
+
+-- from node seg:el on
+abbrev pub nodesLeft : List ℕ → ℕ → ℕ → Verdict
+nodesLeft b seg el = placesLeft (nodeChecks b) (usedOf nodeSize b (nodesAt b)) (countOf b (nodesAt b)) seg el
+
+module _ (b : List ℕ) (g : Region) (w : Mapped nodeSize b (nodesAt b) g) where
+  none-used : (RootUsed b → ⊥) → Refused 16 (g .at) ≡ firstFault (allNodeChecks b)
+  unfolding allNodeChecks
+  none-used f = ap (Refused 16) (w .at-is) ∙ sym (stop _ _ _ _ _ f)
+
+  pub no-segment : g .count ≡ 0 → Refused 16 (g .at) ≡ firstFault (allNodeChecks b)
+  no-segment z = none-used (λ h. omega (arith, h .seg-in, w .count-is))
+
+  pub first-start : g .at + 4 ≡ startOf nodeSize b (nodesAt b) 0
+  unfolding startOf
+  first-start = omega (arith, w .at-is)
+
+  module _ (u : ℕ) (e : u ≡ u32At b (g .at + 4 + 4)) where
+    first-used : u ≡ usedOf nodeSize b (nodesAt b) 0
+    first-used = used-at nodeSize b (nodesAt b) 0 (g .at + 4) u first-start e
+
+    pub no-node : u ≡ 0 → Refused 16 (g .at) ≡ firstFault (allNodeChecks b)
+    no-node z = none-used (λ h. omega (arith, h .el-in, first-used))
+
+    pub nodes-start : (g .count ≡ 0 → ⊥) → (u ≡ 0 → ⊥) → firstFault (allNodeChecks b) ≡ segmentsLeft b 0
+    unfolding allNodeChecks segmentNodeChecks
+    nodes-start d f =
+        pass _ _ _ _ _ (record { seg-in = omega (arith, d, w .count-is); el-in = omega (arith, f, first-used) }) ∙ left-start _ _ _
+
+  -- the nodes of the segment that starts at p
+  module _ (seg p : ℕ) (s : seg < g .count) (q : p ≡ startOf nodeSize b (nodesAt b) seg) where
+    pub node-in : (u el : ℕ) → u ≡ u32At b (p + 4) → el < u → Resolves nodeSize b (nodesAt b) seg el
+    node-in u el e l = record { seg-in = omega (arith, w .count-is); el-in = omega (arith, used-at nodeSize b (nodesAt b) seg p u q e) }
+
+    pub node-at : (el : ℕ) → p + 8 + el * 24 ≡ nodeAt b seg el
+    unfolding nodeAt nodeSize
+    node-at el = place-at nodeSize b (nodesAt b) seg p el q
+
+    pub next-start : (n : ℕ) → n ≡ u32At b p → p + 8 + n * 24 ≡ startOf nodeSize b (nodesAt b) (seg + 1)
+    unfolding nodeSize
+    next-start n e = start-more nodeSize b (nodesAt b) seg (seg + 1) p (p + 8 + n * 24) refl q (omega (arith, e))

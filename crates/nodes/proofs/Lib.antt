@@ -1,0 +1,12 @@
+pub mod Accepted
+pub mod Sought
+pub mod Named
+pub mod Climbs
+pub mod Ways
+pub mod Rows
+pub mod Left
+pub mod Fields
+pub mod Values
+pub mod Types
+pub mod Attributes
+pub mod Addresses

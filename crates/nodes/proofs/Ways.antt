@@ -1,0 +1,124 @@
+-- The ways out of the check of one node, and what the code reads on them. Assumes nothing.
+use Prim.Native.Nat.{ℕ, _+_, _*_, _≤_, _<_}
+use native.Mathlib.Nat.{not-suc-le-zero}
+use native.Mathlib.Omega.{arith}
+use mathlib.Core.Path.{_≡_, refl, ap, sym, _∙_}
+use mathlib.Core.Logic.{inl}
+use mathlib.Core.List.{List, [], _∷_, _++_}
+use lib.ListN.{length}
+use lib.Dec.{eqb}
+use borrow.Author.Tests.{eq-eqb, ne-eqb}
+use Rattle.verdict.specs.Checks.{Check, check, firstFault}
+use Rattle.verdict.specs.declared.Verdict.the-variants.{Accepted, Refused}
+use Rattle.verdict.proofs.Laws.{Clean, pass, stop, fault-none, fault-append, fault-keep}
+use Rattle.verdict.proofs.Scans.{each-end}
+use Rattle.le.specs.Le.{u16At}
+use Rattle.region.specs.declared.Place.{Place}
+use Rattle.region.specs.declared.Place.the-variants.{At, Nowhere}
+use Rattle.region.specs.declared.Region.{Region}
+use Rattle.region.specs.Region.{Laid, Resolves, rangeAt}
+use Rattle.region.specs.Samples.{Mapped}
+use Rattle.region.proofs.Laws.{place-fits}
+use Rattle.layout.specs.Layout.{attributeSize, nodeSize, attributesAt, nodesAt}
+use Rattle.nodes.specs.Node.{nodeName, attributeField, childField, attributeSegment, attributeElement, attributeCount, childCount, Live, nodeAt, attributeAt}
+use Rattle.nodes.specs.Rules.{NodeRule, AttributesReach, ChildRule}
+use Rattle.nodes.specs.Decisions.{nodeRule?, attributesReach?, childRule?}
+use Rattle.nodes.specs.Order.{nodeAttributeChecks, nodeChecks}
+use Rattle.nodes.proofs.Sought.{sought-out, sought-in, sought-at, sought-fits}
+
+-- ---- counts: a nameless node has none, a live one those of its fields
+
+module _ (b : List ℕ) (p : ℕ) where
+  no-attributes : nodeName b p ≡ 0 → attributeCount b p ≡ 0
+  unfolding attributeCount
+  no-attributes z = rw (eq-eqb (nodeName b p) 0 z)
+
+  no-children : nodeName b p ≡ 0 → childCount b p ≡ 0
+  unfolding childCount
+  no-children z = rw (eq-eqb (nodeName b p) 0 z)
+
+  pub attribute-count : Live b p → (n : ℕ) → n ≡ u16At b (p + 4) → n ≡ attributeCount b p
+  unfolding attributeCount attributeField
+  attribute-count l n e = rw (ne-eqb (nodeName b p) 0 l) e
+
+  pub child-count : Live b p → (n : ℕ) → n ≡ u16At b (p + 6) → n ≡ childCount b p
+  unfolding childCount childField
+  child-count l n e = rw (ne-eqb (nodeName b p) 0 l) e
+
+pub node-fits : (b : List ℕ) (seg el x : ℕ) → Laid nodeSize b (nodesAt b) → Resolves nodeSize b (nodesAt b) seg el → x ≡ nodeAt b seg el → x + 24 ≤ length b
+unfolding nodeAt nodeSize
+node-fits b seg el x g h q = omega (arith, place-fits nodeSize b (nodesAt b) g seg el h)
+
+pub live-node : (b : List ℕ) (x n : ℕ) → n ≡ u16At b x → (n ≡ 0 → ⊥) → Live b x
+unfolding nodeName
+live-node b x n e d z = d (e ∙ z)
+
+-- ---- 17
+
+-- where the attributes of the node at p are looked for, as the code reads it
+pub attributes-sought : (b : List ℕ) (p n : ℕ) (g : Region) → Mapped attributeSize b (attributesAt b) g
+    → (seg el : ℕ) → seg ≡ u16At b (p + 8) → el ≡ u16At b (p + 10) → (r : Place) → r ≡ rangeAt 12 b (g .at) seg el n
+    → r ≡ rangeAt attributeSize b (attributesAt b) (attributeSegment b p) (attributeElement b p) n
+unfolding attributeSize attributeSegment attributeElement
+attributes-sought b p n g w seg el s t r f = let a = w .at-is in cc
+
+module _ (b : List ℕ) (p n : ℕ) (c : n ≡ attributeCount b p) where
+  pub attributes-none : n ≡ 0 → AttributesReach b p × Clean (nodeAttributeChecks b p)
+  unfolding nodeAttributeChecks
+  attributes-none z = (inl (sym c ∙ z), each-end _ _ _ (sym c ∙ z))
+
+  module _ (r : Place) (f : r ≡ rangeAt attributeSize b (attributesAt b) (attributeSegment b p) (attributeElement b p) n) where
+    pub attributes-nowhere : 0 < n → r ≡ Nowhere → AttributesReach b p → ⊥
+    attributes-nowhere l e h = sought-out _ _ _ _ _ _ _ c r f (λ z. omega arith) e h
+
+    module _ (a : ℕ) (e : r ≡ At a) where
+      pub attributes-reach : AttributesReach b p
+      attributes-reach = sought-in _ _ _ _ _ _ _ c r f a e
+
+      pub attributes-fit : Laid attributeSize b (attributesAt b) → a + n * 12 ≤ length b
+      unfolding attributeSize
+      attributes-fit g = sought-fits _ _ _ _ _ _ _ c r f a e g
+
+      pub attributes-start : a ≡ attributeAt b p 0
+      unfolding attributeAt
+      attributes-start = let z : attributeElement b p + 0 ≡ attributeElement b p = omega arith in rw z (sought-at _ _ _ _ _ _ _ c r f a e)
+
+-- ---- the verdict on node seg:el, which stands at x, for each way out
+
+checksAt : List ℕ → ℕ → ℕ → ℕ → List Check
+checksAt b seg el x =
+    check 16 x (NodeRule b seg el) (nodeRule? b seg el)
+    ∷ check 17 x (AttributesReach b x) (attributesReach? b x)
+    ∷ (nodeAttributeChecks b x ++ (check 23 x (ChildRule b x) (childRule? b x) ∷ []))
+
+module _ (b : List ℕ) (seg el x : ℕ) (q : x ≡ nodeAt b seg el) where
+  at-node : nodeChecks b seg el ≡ checksAt b seg el x
+  unfolding nodeChecks checksAt
+  at-node = ap (checksAt b seg el) (sym q)
+
+  pub refused-16 : (NodeRule b seg el → ⊥) → Refused 16 x ≡ firstFault (nodeChecks b seg el)
+  unfolding checksAt
+  refused-16 f = sym (ap firstFault at-node ∙ stop _ _ _ _ _ f)
+
+  module _ (r : NodeRule b seg el) where
+    pub refused-17 : (AttributesReach b x → ⊥) → Refused 17 x ≡ firstFault (nodeChecks b seg el)
+    unfolding checksAt
+    refused-17 f = sym (ap firstFault at-node ∙ pass _ _ _ _ _ r ∙ stop _ _ _ _ _ f)
+
+    pub refused-attribute : AttributesReach b x → {n p : ℕ} → firstFault (nodeAttributeChecks b x) ≡ Refused n p → Refused n p ≡ firstFault (nodeChecks b seg el)
+    unfolding checksAt
+    refused-attribute a e = sym (ap firstFault at-node ∙ pass _ _ _ _ _ r ∙ pass _ _ _ _ _ a ∙ fault-keep _ _ e)
+
+    module _ (a : AttributesReach b x × Clean (nodeAttributeChecks b x)) where
+      pub refused-23 : (ChildRule b x → ⊥) → Refused 23 x ≡ firstFault (nodeChecks b seg el)
+      unfolding checksAt
+      refused-23 f = sym (ap firstFault at-node ∙ pass _ _ _ _ _ r ∙ pass _ _ _ _ _ (a .0) ∙ fault-append _ _ (a .1) ∙ stop _ _ _ _ _ f)
+
+      pub node-passes : ChildRule b x → Accepted ≡ firstFault (nodeChecks b seg el)
+      unfolding checksAt
+      node-passes h = sym (ap firstFault at-node ∙ pass _ _ _ _ _ r ∙ pass _ _ _ _ _ (a .0) ∙ fault-append _ _ (a .1) ∙ pass _ _ _ _ _ h ∙ fault-none)
+
+    pub nameless-passes : (n : ℕ) → n ≡ u16At b x → n ≡ 0 → Accepted ≡ firstFault (nodeChecks b seg el)
+    unfolding nodeName
+    nameless-passes n e v = let z : nodeName b x ≡ 0 = sym e ∙ v in node-passes (attributes-none b x 0 (sym (no-attributes b x z)) refl)
+        (record { reach = inl (no-children b x z); rising = λ j l. absurd (not-suc-le-zero {n = j} (omega (arith, no-children b x z))) })

@@ -1,0 +1,67 @@
+use Prim.Native.Nat.{_-_}
+use native.Mathlib.Omega.{arith}
+use mathlib.Core.Path.{_≡_, sym, _∙_}
+use borrow.Author.Needs.{needs}
+use borrow.Author.Tests.{not-true, not-false}
+use Rattle.verdict.specs.Checks.{firstFault}
+use Rattle.nodes.specs.Order.{nodeAttributeChecks}
+use Rattle.nodes.proofs.Attributes.{attributesLeft, attribute-is, attributes-start, attributes-none, attributes-more, refused-18, refused-19}
+use Rattle.nodes.proofs.attribute.check_attributes.Statement.{statement}
+use Rattle.nodes.proofs.attribute.check_attributes.Tie as tie
+
+abbrev Inv-loop : tie.InvT-loop
+Inv-loop b t names s samples starts p a n i₀ i = firstFault (nodeAttributeChecks b p) ≡ attributesLeft b p i
+
+abbrev μ-loop : tie.MeasureT-loop
+μ-loop b t names s samples starts p a n i₀ i = n - i
+
+loop-holds : tie.Need-loop-holds Inv-loop μ-loop
+loop-holds c = attributes-start _ _
+
+mul-q : tie.Need-mul-q Inv-loop μ-loop
+mul-q c = search needs
+
+add-q : tie.Need-add-q Inv-loop μ-loop
+add-q c = search needs
+
+attribute-right-requires : tie.Need-attribute-right-requires Inv-loop μ-loop
+attribute-right-requires c κs = let p = c .before .before .before .before .pre in (p .0 .1, attribute-is _ _ _ _ (p .1 .1), omega arith)
+
+returns : tie.Need-returns Inv-loop μ-loop
+returns c = sym (c .before .before .before .loop .inv ∙ refused-18 _ _ _ _ (c .before .before .before .before .before .before .pre .1 .0) (c .before .before .loop-test .taken) _ (attribute-is _ _ _ _ (c .before .before .before .before .before .before .pre .1 .1)) (c .before .attribute-right .ensures .not (not-true _ (c .if1 .taken))))
+
+text-right-requires : tie.Need-text-right-requires Inv-loop μ-loop
+text-right-requires c κs = let p = c .before .before .before .before .before .before .pre .0 in (p .0, p .2, p .3, p .4, omega arith)
+
+returns-2 : tie.Need-returns-2 Inv-loop μ-loop
+returns-2 c = sym (c .before .before .before .before .before .loop .inv ∙ refused-19 _ _ _ _ (c .before .before .before .before .before .before .before .before .pre .1 .0) (c .before .before .before .before .loop-test .taken) _ (attribute-is _ _ _ _ (c .before .before .before .before .before .before .before .before .pre .1 .1)) (c .before .before .before .attribute-right .ensures .so (not-false _ (c .before .before .if1 .left))) (c .before .text-right .ensures .not (not-true _ (c .if2 .taken))))
+
+add-i : tie.Need-add-i Inv-loop μ-loop
+add-i c = search needs
+
+loop-less : tie.Need-loop-less Inv-loop μ-loop
+loop-less c = search needs
+
+loop-again : tie.Need-loop-again Inv-loop μ-loop
+loop-again c = c .before .before .before .before .before .loop .inv ∙ attributes-more _ _ _ _ (c .before .before .before .before .before .before .before .before .pre .1 .0) (c .before .before .before .before .loop-test .taken) _ (attribute-is _ _ _ _ (c .before .before .before .before .before .before .before .before .pre .1 .1)) (c .before .before .before .attribute-right .ensures .so (not-false _ (c .before .before .if1 .left))) (c .before .text-right .ensures .so (not-false _ (c .if2 .left)))
+
+returns-3 : tie.Need-returns-3 Inv-loop μ-loop
+returns-3 c = sym (c .before .loop .inv ∙ attributes-none _ _ _ _ (c .before .before .before .before .pre .1 .0) (c .loop-test .left))
+
+pub check-attributes-spec : {M : Type 1} → statement M
+check-attributes-spec =
+    tie.close
+    (tie.spec
+    Inv-loop
+    μ-loop
+    loop-holds
+    mul-q
+    add-q
+    attribute-right-requires
+    returns
+    text-right-requires
+    returns-2
+    add-i
+    loop-less
+    loop-again
+    returns-3)

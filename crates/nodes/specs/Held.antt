@@ -1,0 +1,30 @@
+-- What the code holds when it comes to the nodes: the places, the names, and the lent samples and starts.
+use Prim.Native.Nat.{ℕ}
+use mathlib.Core.Path.{_≡_}
+use mathlib.Core.List.{List}
+use Rattle.verdict.specs.Checks.{firstFault}
+use Rattle.verdict.specs.declared.Verdict.the-variants.{Accepted}
+use Rattle.region.specs.Samples.{Starts}
+use Rattle.layout.specs.Layout.{LaidOut, attributeSize, nodeSize, attributesAt, nodesAt, values}
+use Rattle.layout.specs.View.{Placed}
+use Rattle.layout.specs.declared.Places.{Places}
+use Rattle.strings.specs.Order.{stringChecks}
+use Rattle.strings.specs.Held.{Held, heldTable}
+use Rattle.strings.specs.declared.Strings.{Strings}
+use Rattle.keys.specs.Known.{Known}
+use Rattle.keys.specs.declared.Names.{Names}
+
+-- The values table as the strings layer holds it.
+unfoldable pub valueStrings : Places → Strings
+valueStrings p = record { chars = p .«value_chars»; list = p .«value_list» }
+
+-- The file is laid out, its values table passed 7 to 13, and its special names are known.
+pub record Ready (b : List ℕ) (p : Places) (n : Names) (attributeStarts nodeStarts valueStarts valueBuckets : List ℕ) : Type 0 where
+  pub laid : LaidOut b
+  pub placed : Placed b p
+  pub known : Known b n
+  pub attributes : Starts attributeSize b (attributesAt b) (p .attributes .shift) attributeStarts
+  pub nodes : Starts nodeSize b (nodesAt b) (p .nodes .shift) nodeStarts
+  pub strings : Held b (valueStrings p) valueStarts valueBuckets
+  pub table : heldTable b (valueStrings p) valueBuckets ≡ values b
+  pub accepted : firstFault (stringChecks (values b)) ≡ Accepted

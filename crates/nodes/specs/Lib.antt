@@ -1,0 +1,7 @@
+pub mod Node
+pub mod Attribute
+pub mod Rules
+pub mod Decisions
+pub mod Order
+pub mod Held
+pub mod Search

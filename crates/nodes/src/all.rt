@@ -1,0 +1,66 @@
+// All used nodes, in the order of the file.
+ghost use mathlib.Core.Path.{_≡_};
+ghost use Rattle.verdict.specs.Checks.{firstFault};
+ghost use Rattle.hash.specs.Table.{Tables};
+ghost use Rattle.nodes.specs.Order.{allNodeChecks};
+ghost use Rattle.nodes.specs.Held.{Ready};
+use crate::node;
+use keys::Names;
+use layout::Places;
+use verdict::Verdict;
+
+// Refusals 16 to 19 and 23 of every used node, up to the first fault.
+pub fn check_nodes(
+    b: &[u8],
+    t: &[u32; 512],
+    p: Places,
+    names: Names,
+    attribute_starts: &[u32; 256],
+    node_starts: &[u32; 256],
+    value_starts: &[u32; 256],
+    value_buckets: &[u32],
+) -> Verdict
+    requires { ⌜ Tables (now t) × Ready (now b) p names (now «attribute_starts») (now «node_starts») (now «value_starts») (now «value_buckets») ⌝ }
+    ensures { λ r. ⌜ r ≡ firstFault (allNodeChecks (now (b .entry))) ⌝ }
+{
+    let nodes = p.nodes;
+    if nodes.count == 0 {
+        return Verdict::Refused(16, nodes.at);
+    }
+    let mut at = nodes.at + 4;
+    if le::u32_at(b, at + 4) == 0 {
+        return Verdict::Refused(16, nodes.at);
+    }
+    let mut fault = Verdict::Accepted;
+    let mut seg = 0;
+    'segments: while seg < nodes.count {
+        let used = le::u32_at(b, at + 4);
+        let mut el = 0;
+        while el < used {
+            let x = at + 8 + el * 24;
+            match node::check_node(
+                b,
+                t,
+                p,
+                names,
+                attribute_starts,
+                node_starts,
+                value_starts,
+                value_buckets,
+                seg,
+                el,
+                x,
+            ) {
+                Verdict::Accepted => {}
+                Verdict::Refused(num, place) => {
+                    fault = Verdict::Refused(num, place);
+                    break 'segments;
+                }
+            }
+            el += 1;
+        }
+        at = at + 8 + le::u32_at(b, at) * 24;
+        seg += 1;
+    }
+    fault
+}

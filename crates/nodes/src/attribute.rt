@@ -1,0 +1,169 @@
+// Refusals 18 and 19: the attributes of a node.
+ghost use mathlib.Core.Path.{_≡_};
+ghost use Prim.Native.Nat.{_+_, _*_, _≤_, _<_};
+ghost use lib.ListN.{length};
+ghost use Rattle.verdict.specs.Checks.{Tells, firstFault};
+ghost use Rattle.verdict.specs.declared.Verdict.the-variants.{Accepted};
+ghost use Rattle.hash.specs.Table.{Tables};
+ghost use Rattle.layout.specs.Layout.{values};
+ghost use Rattle.strings.specs.Order.{allEntryChecks, stringChecks};
+ghost use Rattle.strings.specs.Held.{Held, heldTable};
+ghost use Rattle.keys.specs.Known.{Known};
+ghost use Rattle.nodes.specs.Node.{attributeCount, attributeAt};
+ghost use Rattle.nodes.specs.Attribute.{Typed};
+ghost use Rattle.nodes.specs.Rules.{AttributeRule, TextRight};
+ghost use Rattle.nodes.specs.Order.{nodeAttributeChecks};
+ghost use Rattle.nodes.specs.Search.{AddressIn};
+use keys::Names;
+use strings::Strings;
+use strings::entry;
+use strings::search;
+use strings::spot;
+use strings::spot::Spot;
+use verdict::Verdict;
+
+// Whether type, extended code and truth word of the attribute at q are right.
+fn typed(b: &[u8], q: usize) -> bool
+    requires { ⌜ q + 12 ≤ length (now b) ⌝ }
+    ensures { λ r. ⌜ Tells (Typed (now (b .entry)) q) r ⌝ }
+{
+    let word = le::u16_at(b, q + 2);
+    let kind = words::kind(word);
+    if kind == 3 {
+        return true;
+    }
+    if kind == 0 {
+        return false;
+    }
+    let extended = words::extended(word);
+    if extended == 0 {
+        return true;
+    }
+    if kind == 2 {
+        return false;
+    }
+    if extended != 1 {
+        return false;
+    }
+    le::u32_at(b, q + 4) <= 1
+}
+
+// Whether refusal 18 is not due to attribute i of the node at p, which stands at q.
+fn attribute_right(b: &[u8], names: Names, p: usize, i: usize, q: usize) -> bool
+    requires { ⌜ Known (now b) names × (q ≡ attributeAt (now b) p i) × (q + 12 ≤ length (now b)) ⌝ }
+    ensures { λ r. ⌜ Tells (AttributeRule (now (b .entry)) p i) r ⌝ }
+{
+    let name = le::u16_at(b, q);
+    if name == 0 {
+        return false;
+    }
+    if name > names.count {
+        return false;
+    }
+    if i > 0 {
+        if name <= le::u16_at(b, q - 12) {
+            return false;
+        }
+    }
+    if !typed(b, q) {
+        return false;
+    }
+    if name != names.value {
+        return true;
+    }
+    words::kind(le::u16_at(b, q + 2)) == 3
+}
+
+// Whether an entry of bucket k with hash h has the address seg:el.
+fn address_in(
+    b: &[u8],
+    s: Strings,
+    samples: &[u32; 256],
+    starts: &[u32],
+    k: usize,
+    h: usize,
+    seg: usize,
+    el: usize,
+) -> bool
+    requires { ⌜ Held (now b) s (now samples) (now starts) × (k < length (now starts))
+        × (firstFault (allEntryChecks (heldTable (now b) s (now starts))) ≡ Accepted) ⌝ }
+    ensures { λ r. ⌜ AddressIn (heldTable (now (b .entry)) s (now (starts .entry))) k h seg el r ⌝ }
+{
+    let n = entry::entry_count(b, s, samples, starts, k);
+    let mut j = search::lower(b, s, samples, starts, k, h);
+    while j < n {
+        let e = entry::entry_at(b, s, samples, starts, k, j);
+        if le::u32_at(b, e) != h {
+            return false;
+        }
+        if le::u16_at(b, e + 12) == seg {
+            if le::u16_at(b, e + 14) == el {
+                return true;
+            }
+        }
+        j += 1;
+    }
+    false
+}
+
+// Whether refusal 19 is not due to the attribute at q. An entry with its address would stand in the bucket of the text there.
+fn text_right(
+    b: &[u8],
+    t: &[u32; 512],
+    s: Strings,
+    samples: &[u32; 256],
+    starts: &[u32],
+    q: usize,
+) -> bool
+    requires { ⌜ Tables (now t) × Held (now b) s (now samples) (now starts) × (heldTable (now b) s (now starts) ≡ values (now b))
+        × (firstFault (stringChecks (values (now b))) ≡ Accepted) × (q + 12 ≤ length (now b)) ⌝ }
+    ensures { λ r. ⌜ Tells (TextRight (now (b .entry)) q) r ⌝ }
+{
+    let word = le::u16_at(b, q + 2);
+    if words::kind(word) != 3 {
+        return true;
+    }
+    let seg = le::u16_at(b, q + 4);
+    let el = le::u16_at(b, q + 6);
+    let a = spot::spot_at(b, s.chars, samples, seg, el);
+    let Spot::At(x, n) = a else {
+        return false;
+    };
+    let h = text::both_hashes(b, t, x, n);
+    if words::extended(word) != h.value {
+        return false;
+    }
+    let k = hash::bucket(h.hash, starts.len());
+    address_in(b, s, samples, starts, k, h.hash, seg, el)
+}
+
+// Refusals 18 and 19 of the attributes of the node at p, the first of which stands at a.
+pub fn check_attributes(
+    b: &[u8],
+    t: &[u32; 512],
+    names: Names,
+    s: Strings,
+    samples: &[u32; 256],
+    starts: &[u32],
+    p: usize,
+    a: usize,
+    n: usize,
+) -> Verdict
+    requires { ⌜ Tables (now t) × Known (now b) names × Held (now b) s (now samples) (now starts)
+        × (heldTable (now b) s (now starts) ≡ values (now b)) × (firstFault (stringChecks (values (now b))) ≡ Accepted) ⌝ }
+    requires { ⌜ (n ≡ attributeCount (now b) p) × (a ≡ attributeAt (now b) p 0) × (a + n * 12 ≤ length (now b)) ⌝ }
+    ensures { λ r. ⌜ r ≡ firstFault (nodeAttributeChecks (now (b .entry)) p) ⌝ }
+{
+    let mut i = 0;
+    while i < n {
+        let q = a + i * 12;
+        if !attribute_right(b, names, p, i, q) {
+            return Verdict::Refused(18, q);
+        }
+        if !text_right(b, t, s, samples, starts, q) {
+            return Verdict::Refused(19, q);
+        }
+        i += 1;
+    }
+    Verdict::Accepted
+}

@@ -1,0 +1,149 @@
+// Refusals 16, 17 and 23, and all of one node.
+ghost use mathlib.Core.Path.{_≡_};
+ghost use Prim.Native.Nat.{ℕ, _+_, _*_, _≤_, _<_};
+ghost use lib.ListN.{length};
+ghost use Rattle.verdict.specs.Checks.{Tells, firstFault};
+ghost use Rattle.hash.specs.Table.{Tables};
+ghost use Rattle.region.specs.Region.{Resolves};
+ghost use Rattle.region.specs.Samples.{Mapped, Starts};
+ghost use Rattle.layout.specs.Header.{keyCount};
+ghost use Rattle.layout.specs.Layout.{nodeSize, nodesAt};
+ghost use Rattle.keys.specs.Known.{Known};
+ghost use Rattle.nodes.specs.Node.{nodeAt, childAt, childCount, nodeName, Live};
+ghost use Rattle.nodes.specs.Rules.{NodeRule, ChildRule};
+ghost use Rattle.nodes.specs.Search.{Rising};
+ghost use Rattle.nodes.specs.Order.{nodeChecks};
+ghost use Rattle.nodes.specs.Held.{Ready};
+use crate::attribute;
+use keys::Names;
+use layout::Places;
+use region::Place;
+use region::Region;
+use strings::Strings;
+use verdict::Verdict;
+
+// Whether refusal 16 is not due to node seg:el, which stands at p.
+fn node_right(b: &[u8], names: Names, keys: usize, seg: usize, el: usize, p: usize) -> bool
+    requires { ⌜ Known (now b) names × (keys ≡ keyCount (now b)) × (p ≡ nodeAt (now b) seg el) × (p + 24 ≤ length (now b)) ⌝ }
+    ensures { λ r. ⌜ Tells (NodeRule (now (b .entry)) seg el) r ⌝ }
+{
+    let name = le::u16_at(b, p);
+    if seg + el == 0 {
+        if name != names.root {
+            return false;
+        }
+        if le::u16_at(b, p + 4) != 0 {
+            return false;
+        }
+    }
+    if name == 0 {
+        return true;
+    }
+    if name > names.count {
+        return false;
+    }
+    let word = le::u16_at(b, p + 2);
+    if words::flags(word) > 1 {
+        return false;
+    }
+    words::key_index(word) < keys
+}
+
+// Whether the name indices of the live ones among the n nodes from q on do not fall.
+fn rising(b: &[u8], q: usize, n: usize) -> bool
+    requires { ⌜ q + n * 24 ≤ length (now b) ⌝ }
+    ensures { λ r. ⌜ Tells (Rising (now (b .entry)) q n) r ⌝ }
+{
+    let mut last = 0;
+    let mut i = 0;
+    while i < n {
+        let name = le::u16_at(b, q + i * 24);
+        if name != 0 {
+            if name < last {
+                return false;
+            }
+            last = name;
+        }
+        i += 1;
+    }
+    true
+}
+
+// Whether refusal 23 is not due to the live node at p.
+fn children_right(b: &[u8], nodes: Region, starts: &[u32; 256], p: usize) -> bool
+    requires { ⌜ Mapped nodeSize (now b) (nodesAt (now b)) nodes × Starts nodeSize (now b) (nodesAt (now b)) (nodes .shift) (now starts) ⌝ }
+    requires { ⌜ (p + 24 ≤ length (now b)) × Live (now b) p ⌝ }
+    ensures { λ r. ⌜ Tells (ChildRule (now (b .entry)) p) r ⌝ }
+{
+    let n = le::u16_at(b, p + 6);
+    if n == 0 {
+        return true;
+    }
+    let r = region::range_at(
+        b,
+        nodes,
+        24,
+        starts,
+        le::u16_at(b, p + 16),
+        le::u16_at(b, p + 18),
+        n,
+    );
+    match r {
+        Place::At(q) => rising(b, q, n),
+        Place::Nowhere => false,
+    }
+}
+
+// Refusals 16 to 19 and 23 of node seg:el, which stands at x.
+pub fn check_node(
+    b: &[u8],
+    t: &[u32; 512],
+    p: Places,
+    names: Names,
+    attribute_starts: &[u32; 256],
+    node_starts: &[u32; 256],
+    value_starts: &[u32; 256],
+    value_buckets: &[u32],
+    seg: usize,
+    el: usize,
+    x: usize,
+) -> Verdict
+    requires { ⌜ Tables (now t) × Ready (now b) p names (now «attribute_starts») (now «node_starts») (now «value_starts») (now «value_buckets»)
+        × Resolves nodeSize (now b) (nodesAt (now b)) seg el × (x ≡ nodeAt (now b) seg el) ⌝ }
+    ensures { λ r. ⌜ r ≡ firstFault (nodeChecks (now (b .entry)) seg el) ⌝ }
+{
+    if !node_right(b, names, p.keys, seg, el, x) {
+        return Verdict::Refused(16, x);
+    }
+    if le::u16_at(b, x) == 0 {
+        return Verdict::Accepted;
+    }
+    let n = le::u16_at(b, x + 4);
+    if n > 0 {
+        let r = region::range_at(
+            b,
+            p.attributes,
+            12,
+            attribute_starts,
+            le::u16_at(b, x + 8),
+            le::u16_at(b, x + 10),
+            n,
+        );
+        let Place::At(a) = r else {
+            return Verdict::Refused(17, x);
+        };
+        let chars = p.value_chars;
+        let s = Strings {
+            chars,
+            list: p.value_list,
+        };
+        let v = attribute::check_attributes(b, t, names, s, value_starts, value_buckets, x, a, n);
+        if let Verdict::Refused(num, place) = v {
+            return Verdict::Refused(num, place);
+        }
+    }
+    if !children_right(b, p.nodes, node_starts, x) {
+        return Verdict::Refused(23, x);
+    }
+    Verdict::Accepted
+}

@@ -1,0 +1,116 @@
+-- Laws of refusal 13. Assumes nothing.
+use Prim.Native.Nat.{ℕ, _+_, _-_, _≤_, _<_}
+use native.Mathlib.Omega.{arith}
+use mathlib.Core.Path.{_≡_, refl, ap, sym, subst, _∙_}
+use mathlib.Core.Bool.{Bool, true, false, true≢false, false≢true}
+use mathlib.Core.Logic.{⊎-elim}
+use borrow.Author.Count.{below-more}
+use Rattle.laws.proofs.Order.{le-or-lt}
+use Rattle.verdict.specs.Checks.{firstFault, each, Tells}
+use Rattle.verdict.specs.declared.Verdict.{Verdict}
+use Rattle.verdict.specs.declared.Verdict.the-variants.{Accepted, Refused}
+use Rattle.verdict.proofs.Laws.{Clean, pass, stop, fault-none, fault-append, fault-keep}
+use Rattle.verdict.proofs.Scans.{each-more, each-stop, each-end}
+use Rattle.hash.specs.Hash.{hashText, bucketOf}
+use Rattle.layout.specs.Table.{Table, entries, hashOf, indexOf, segmentOf, elementOf, count, positionAt, listedSegment, listedElement}
+use Rattle.region.specs.Region.{Resolves}
+use Rattle.strings.specs.Texts.{listedText}
+use Rattle.strings.specs.Rules.{Carried}
+use Rattle.strings.specs.Search.{Lower}
+use Rattle.strings.specs.Order.{allEntryChecks, positionChecks, allPositionChecks, stringChecks}
+use Rattle.strings.proofs.Accepted.{all-good}
+use Rattle.strings.proofs.Only.{bucket-of, hash-of, text-of-index, rises}
+use Rattle.positions.specs.Carry.{Carries}
+use Rattle.positions.proofs.Listed.{ListedIn}
+
+-- ---- the search for an index in one bucket
+
+-- none that was passed carries it, and the hashes to come are not below h
+pub record Scanned (t : Table) (k h i n j : ℕ) : Type 0 where
+  pub many : n ≡ entries t k
+  pub none : (m : ℕ) → m < j → hashOf t k m ≡ h → indexOf t k m ≡ i → ⊥
+  pub above : (m : ℕ) → j ≤ m → m < entries t k → h ≤ hashOf t k m
+
+pub scanned-start : (t : Table) (k h i n j : ℕ) → n ≡ entries t k → Lower t k h j → Scanned t k h i n j
+scanned-start t k h i n j e f = record { many = e; none = λ m l g. absurd (omega (arith, f .below m l)); above = f .above }
+
+module _ (t : Table) (k h i n j : ℕ) (r : Scanned t k h i n j) where
+  pub scanned-more : (w : ℕ) → w ≡ indexOf t k j → (w ≡ i → ⊥) → Scanned t k h i n (j + 1)
+  scanned-more w e f = record {
+    many = r .many;
+    none = below-more _ j (r .none) (λ a g. f (e ∙ g));
+    above = λ m l. r .above m (omega arith);
+  }
+
+  pub scanned-found : j < n → (w : ℕ) → w ≡ indexOf t k j → w ≡ i → Carries t k h i true
+  scanned-found l w e f = record { so = λ a. (j, omega (arith, r .many), sym e ∙ f); not = λ a. absurd (true≢false a) }
+
+  pub scanned-none : n ≤ j → Carries t k h i false
+  scanned-none l = record { so = λ a. absurd (false≢true a); not = λ a m b. r .none m (omega (arith, r .many)) }
+
+  -- past an entry with another hash none has this one
+  pub scanned-over : Clean (allEntryChecks t) → k < t .buckets → j < n → (w : ℕ) → w ≡ hashOf t k j → (w ≡ h → ⊥) → Carries t k h i false
+  scanned-over ok b l w e f = record { so = λ a. absurd (false≢true a); not = λ a m c g. ⊎-elim (later m c g) (λ d. r .none m d g) (le-or-lt j m) }
+    where
+      later : (m : ℕ) → m < entries t k → hashOf t k m ≡ h → j ≤ m → indexOf t k m ≡ i → ⊥
+      later m c g d q = f (omega (arith, r .above j (omega arith) (omega (arith, r .many)), rises t ok k j m b d c, e))
+
+-- ---- an index stands in no bucket but that of its text
+
+module _ (t : Table) (i : ℕ) (ok : Clean (allEntryChecks t)) where
+  -- what holds of each entry's address holds of that at a carried position
+  pub carried-at : (P : ℕ → ℕ → Type 0) → ((k j : ℕ) → k < t .buckets → j < entries t k → P (segmentOf t k j) (elementOf t k j)) → Carried t i
+      → P (listedSegment t i) (listedElement t i)
+  carried-at P f c =
+      let g = all-good t ok (c .0) (c .2 .0) (c .1) (c .2 .1) .indexed in
+      let x : segmentOf t (c .0) (c .2 .0) ≡ listedSegment t i = sym (g .segment) ∙ ap (listedSegment t) (c .2 .2) in
+      let y : elementOf t (c .0) (c .2 .0) ≡ listedElement t i = sym (g .element) ∙ ap (listedElement t) (c .2 .2) in
+      subst (λ (a : ℕ). P a (listedElement t i)) x (subst (P (segmentOf t (c .0) (c .2 .0))) y (f (c .0) (c .2 .0) (c .1) (c .2 .1)))
+
+  pub carried-in : Carried t i → ListedIn t i
+  carried-in = carried-at (Resolves 2 (t .bytes) (t .at)) (λ k j h l. all-good t ok k j h l .resolved)
+
+  pub only-there : (k h : ℕ) (r : Bool) → h ≡ hashText (listedText t i) → k ≡ bucketOf (t .buckets) h → k < t .buckets → Carries t k h i r
+      → Tells (Carried t i) r
+  only-there k h r e b l f = record { so = λ w. (k, l, f .so w); not = λ w c. move w c }
+    where
+      move : r ≡ false → Carried t i → ⊥
+      move w c =
+          let q = text-of-index t ok (c .0) (c .2 .0) i (c .1) (c .2 .1) (c .2 .2) in
+          let y : c .0 ≡ k = sym (bucket-of t ok (c .0) (c .2 .0) _ (c .1) (c .2 .1) q) ∙ ap (bucketOf (t .buckets)) (sym e) ∙ sym b in
+          let z = hash-of t ok (c .0) (c .2 .0) _ (c .1) (c .2 .1) q ∙ sym e in
+          let v = subst (λ (x : ℕ). (c .2 .0 < entries t x) × (hashOf t x (c .2 .0) ≡ h) × (indexOf t x (c .2 .0) ≡ i)) y (c .2 .1, z, c .2 .2) in
+          f .not w (c .2 .0) (v .0) (v .1) (v .2)
+
+-- ---- all list positions
+
+-- from position i on
+unfoldable pub positionsLeft : Table → ℕ → Verdict
+positionsLeft t i = firstFault (each (positionChecks t) (count t - i) i)
+
+module _ (t : Table) where
+  pub left-start : firstFault (allPositionChecks t) ≡ positionsLeft t 1
+  unfolding allPositionChecks positionsLeft
+  left-start = refl
+
+  pub left-more : (i : ℕ) → i < count t → Carried t i → positionsLeft t i ≡ positionsLeft t (i + 1)
+  unfolding positionsLeft positionChecks
+  left-more i h c = each-more (positionChecks t) _ _ _ (omega arith) (pass _ _ _ _ _ c ∙ fault-none)
+
+  pub left-stop : (i e : ℕ) → i < count t → e ≡ positionAt t i → (Carried t i → ⊥) → positionsLeft t i ≡ Refused 13 e
+  unfolding positionsLeft positionChecks
+  left-stop i e h p c = each-stop (positionChecks t) _ _ (omega arith) (stop _ _ _ _ _ c) ∙ ap (Refused 13) (sym p)
+
+  pub left-none : (i : ℕ) → count t ≤ i → positionsLeft t i ≡ Accepted
+  unfolding positionsLeft
+  left-none i h = each-end (positionChecks t) _ _ (omega arith)
+
+  -- ---- 7 to 12 of all entries, then 13
+
+  pub table-accepted : {v : Verdict} → Clean (allEntryChecks t) → v ≡ firstFault (allPositionChecks t) → v ≡ firstFault (stringChecks t)
+  unfolding stringChecks
+  table-accepted e q = q ∙ sym (fault-append (allEntryChecks t) (allPositionChecks t) e)
+
+  pub table-refused : {n p : ℕ} → firstFault (allEntryChecks t) ≡ Refused n p → Refused n p ≡ firstFault (stringChecks t)
+  unfolding stringChecks
+  table-refused e = sym (fault-keep (allEntryChecks t) (allPositionChecks t) e)

@@ -1,0 +1,87 @@
+use Prim.Native.Nat.{_-_, _≤_}
+use native.Mathlib.Omega.{arith}
+use mathlib.Core.Path.{_≡_, sym, _∙_}
+use borrow.Author.Needs.{needs}
+use borrow.Author.Tests.{not-true, not-false}
+use Rattle.verdict.specs.Checks.{firstFault}
+use Rattle.layout.specs.Table.{count}
+use Rattle.strings.specs.Held.{heldTable}
+use Rattle.strings.specs.Order.{allPositionChecks}
+use Rattle.strings.proofs.Places.{list-is}
+use Rattle.positions.proofs.Listed.{listed-is}
+use Rattle.positions.proofs.Laws.{positionsLeft, left-start, left-more, left-stop, left-none}
+use Rattle.positions.proofs.Enough.{enough}
+use Rattle.positions.proofs.check_positions.Statement.{statement}
+use Rattle.positions.proofs.check_positions.Tie as tie
+
+abbrev Inv-loop : tie.InvT-loop
+Inv-loop b t s samples starts n i₀ i = (1 ≤ i) × (n ≡ count (heldTable b s starts)) × (firstFault (allPositionChecks (heldTable b s starts)) ≡ positionsLeft (heldTable b s starts) i)
+
+abbrev μ-loop : tie.MeasureT-loop
+μ-loop b t s samples starts n i₀ i = n - i
+
+u32-at-requires : tie.Need-u32-at-requires Inv-loop μ-loop
+u32-at-requires c κs = search needs
+
+entry-total-requires : tie.Need-entry-total-requires Inv-loop μ-loop
+entry-total-requires c κs = search needs
+
+add-if1 : tie.Need-add-if1 Inv-loop μ-loop
+add-if1 c = search needs
+
+returns : tie.Need-returns Inv-loop μ-loop
+returns c = let p = c .before .before .before .before .before .pre in
+    let n = list-is _ _ _ _ (p .1) _ (c .before .before .u32-at .ensures .0) in
+    sym (enough _ (p .2) (omega (arith, n, c .before .entry-total .ensures .0, c .if1 .taken)))
+
+loop-holds : tie.Need-loop-holds Inv-loop μ-loop
+loop-holds c = (search needs, list-is _ _ _ _ (c .before .before .before .before .before .pre .1) _ (c .before .before .u32-at .ensures .0), left-start _)
+
+carried-requires : tie.Need-carried-requires Inv-loop μ-loop
+carried-requires c κs = let p = c .before .before .before .before .before .before .before .pre in
+    let l = c .before .loop .inv in
+    (p .0, p .1, p .2, l .0, omega (arith, l .1))
+
+mul-t13 : tie.Need-mul-t13 Inv-loop μ-loop
+mul-t13 c = search needs
+
+add-t14 : tie.Need-add-t14 Inv-loop μ-loop
+add-t14 c = search needs
+
+returns-2 : tie.Need-returns-2 Inv-loop μ-loop
+returns-2 c = let l = c .before .before .before .before .loop .inv in
+    sym (l .2 ∙ left-stop _ _ _ (omega (arith, l .1)) (listed-is _ _ _ _ (c .before .before .before .before .before .before .before .before .before .before .pre .1) _)
+    (c .before .before .carried .ensures .not (not-true _ (c .before .if2 .taken))))
+
+add-i : tie.Need-add-i Inv-loop μ-loop
+add-i c = search needs
+
+loop-less : tie.Need-loop-less Inv-loop μ-loop
+loop-less c = search needs
+
+loop-again : tie.Need-loop-again Inv-loop μ-loop
+loop-again c = let l = c .before .before .before .loop .inv in
+    (omega arith, l .1, l .2 ∙ left-more _ _ (omega (arith, l .1)) (c .before .carried .ensures .so (not-false _ (c .if2 .left))))
+
+returns-3 : tie.Need-returns-3 Inv-loop μ-loop
+returns-3 c = let l = c .before .loop .inv in sym (l .2 ∙ left-none _ _ (omega (arith, l .1)))
+
+pub check-positions-spec : {M : Type 1} → statement M
+check-positions-spec =
+    tie.close
+    (tie.spec
+    Inv-loop
+    μ-loop
+    u32-at-requires
+    entry-total-requires
+    add-if1
+    returns
+    loop-holds
+    carried-requires
+    mul-t13
+    add-t14
+    returns-2
+    add-i
+    loop-less
+    loop-again
+    returns-3)

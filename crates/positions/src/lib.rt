@@ -1,0 +1,132 @@
+// Refusal 13, and all of 7 to 13 of a string table (01, "Refusal numbers").
+ghost use mathlib.Core.Path.{_≡_};
+ghost use Prim.Native.Nat.{_≤_, _<_, _^_};
+ghost use lib.ListN.{length};
+ghost use Rattle.verdict.specs.Checks.{Tells, firstFault};
+ghost use Rattle.verdict.specs.declared.Verdict.the-variants.{Accepted};
+ghost use Rattle.hash.specs.Table.{Tables};
+ghost use Rattle.layout.specs.Table.{count};
+ghost use Rattle.strings.specs.Rules.{Carried};
+ghost use Rattle.strings.specs.Order.{allEntryChecks, allPositionChecks, stringChecks};
+ghost use Rattle.strings.specs.Held.{Held, heldTable};
+ghost use Rattle.positions.specs.Carry.{Carries, allEntries};
+use strings::Strings;
+use strings::entry;
+use strings::search;
+use strings::spot;
+use strings::spot::Spot;
+use strings::table;
+use verdict::Verdict;
+
+// Whether an entry of bucket k carries index i, looked for among those with hash h.
+fn carries(
+    b: &[u8],
+    s: Strings,
+    samples: &[u32; 256],
+    starts: &[u32],
+    k: usize,
+    h: usize,
+    i: usize,
+) -> bool
+    requires { ⌜ Held (now b) s (now samples) (now starts) × (k < length (now starts))
+        × (firstFault (allEntryChecks (heldTable (now b) s (now starts))) ≡ Accepted) ⌝ }
+    ensures { λ r. ⌜ Carries (heldTable (now (b .entry)) s (now (starts .entry))) k h i r ⌝ }
+{
+    let n = entry::entry_count(b, s, samples, starts, k);
+    let mut j = search::lower(b, s, samples, starts, k, h);
+    while j < n {
+        let e = entry::entry_at(b, s, samples, starts, k, j);
+        if le::u32_at(b, e) != h {
+            return false;
+        }
+        if le::u32_at(b, e + 8) == i {
+            return true;
+        }
+        j += 1;
+    }
+    false
+}
+
+// Whether any entry carries index i: it would stand in the bucket of the text at list position i.
+fn carried(
+    b: &[u8],
+    t: &[u32; 512],
+    s: Strings,
+    samples: &[u32; 256],
+    starts: &[u32],
+    i: usize,
+) -> bool
+    requires { ⌜ Tables (now t) × Held (now b) s (now samples) (now starts)
+        × (firstFault (allEntryChecks (heldTable (now b) s (now starts))) ≡ Accepted)
+        × (1 ≤ i) × (i < count (heldTable (now b) s (now starts))) ⌝ }
+    ensures { λ r. ⌜ Tells (Carried (heldTable (now (b .entry)) s (now (starts .entry))) i) r ⌝ }
+{
+    let a = spot::spot_to(b, s.chars, samples, s.list + 4 * i);
+    let Spot::At(q, n) = a else {
+        return false;
+    };
+    let m = text::measure(b, t, q, n);
+    let h = m.hash;
+    let k = hash::bucket(h, starts.len());
+    carries(b, s, samples, starts, k, h, i)
+}
+
+fn wide(x: u32) -> usize
+    ensures { λ r. ⌜ (r ≡ x) × (r < 2 ^ 32) ⌝ }
+{
+    x as usize
+}
+
+// The number of entries of all buckets, by the bytes that they take: from the first bucket's start up to the address
+// count there are 4 a bucket and 16 an entry.
+fn entry_total(b: &[u8], s: Strings, samples: &[u32; 256], starts: &[u32]) -> usize
+    requires { ⌜ Held (now b) s (now samples) (now starts) ⌝ }
+    ensures { λ r. ⌜ (r ≡ allEntries (heldTable (now (b .entry)) s (now (starts .entry)))) × (r < 2 ^ 32) ⌝ }
+{
+    (s.list - wide(starts[0]) - 4 * starts.len()) / 16
+}
+
+// Refusal 13 of every list position, where the entries passed 7 to 12.
+pub fn check_positions(
+    b: &[u8],
+    t: &[u32; 512],
+    s: Strings,
+    samples: &[u32; 256],
+    starts: &[u32],
+) -> Verdict
+    requires { ⌜ Tables (now t) × Held (now b) s (now samples) (now starts)
+        × (firstFault (allEntryChecks (heldTable (now b) s (now starts))) ≡ Accepted) ⌝ }
+    ensures { λ r. ⌜ r ≡ firstFault (allPositionChecks (heldTable (now (b .entry)) s (now (starts .entry)))) ⌝ }
+{
+    let n = le::u32_at(b, s.list);
+    // No two entries carry one index: they would bear one text, and 12 refuses that. So where there are as many entries
+    // as list positions, each position is carried, and none has to be looked for.
+    if entry_total(b, s, samples, starts) + 1 == n {
+        return Verdict::Accepted;
+    }
+    let mut i = 1;
+    while i < n {
+        if !carried(b, t, s, samples, starts, i) {
+            return Verdict::Refused(13, s.list + 4 * i);
+        }
+        i += 1;
+    }
+    Verdict::Accepted
+}
+
+// Refusals 7 to 13 of a table, up to the first fault.
+pub fn check_table(
+    b: &[u8],
+    t: &[u32; 512],
+    s: Strings,
+    samples: &[u32; 256],
+    starts: &[u32],
+) -> Verdict
+    requires { ⌜ Tables (now t) × Held (now b) s (now samples) (now starts) ⌝ }
+    ensures { λ r. ⌜ r ≡ firstFault (stringChecks (heldTable (now (b .entry)) s (now (starts .entry)))) ⌝ }
+{
+    match table::check_entries(b, t, s, samples, starts) {
+        Verdict::Accepted => check_positions(b, t, s, samples, starts),
+        Verdict::Refused(num, place) => Verdict::Refused(num, place),
+    }
+}

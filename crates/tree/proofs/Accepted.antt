@@ -1,0 +1,54 @@
+-- Refusals 20 to 22 find nothing exactly when their rules hold, and then no node has two chains. Assumes nothing.
+use Prim.Native.Nat.{ℕ, _/_, _%_}
+use native.Mathlib.Omega.{arith}
+use mathlib.Core.Path.{_≡_, _∙_}
+use mathlib.Core.Logic.{_↔_}
+use mathlib.Core.List.{List}
+use Rattle.verdict.specs.Checks.{firstFault}
+use Rattle.verdict.specs.declared.Verdict.the-variants.{Accepted}
+use Rattle.verdict.proofs.Laws.{Clean, pass, clean-inv, append-inv, fault-append, fault-none, each-inv, each-clean}
+use Rattle.region.specs.Region.{Laid}
+use Rattle.layout.specs.Layout.{nodeSize, nodesAt}
+use Rattle.nodes.specs.Rules.{NodesRules}
+use Rattle.tree.specs.Chain.{Chain}
+use Rattle.tree.specs.File.{address, Used, treeOf}
+use Rattle.tree.specs.Rules.{RangeRule, TreeRules}
+use Rattle.tree.specs.Order.{roomChecks, rangeChecks, segmentRangeChecks, allRangeChecks, depthChecks}
+use Rattle.tree.specs.Outcome.{treeChecks}
+use Rattle.tree.proofs.Addresses.{address-of, used-of}
+use Rattle.tree.proofs.Unique.{one-chain, one-parent}
+
+module _ (b : List ℕ) (g : Laid nodeSize b (nodesAt b)) where
+  pub ranges-inv : Clean (allRangeChecks b) → (a : ℕ) → Used b a → RangeRule b a
+  unfolding allRangeChecks segmentRangeChecks rangeChecks
+  ranges-inv e a u =
+      rw address-of at
+      (clean-inv _ _ _ _ _
+      (each-inv _ _ _ (each-inv _ _ _ e (a / 65536) (omega arith) (omega (arith, u .seg-in))) (a % 65536) (omega arith) (omega (arith, u .el-in)))
+      .0)
+
+  pub ranges-clean : ((a : ℕ) → Used b a → RangeRule b a) → Clean (allRangeChecks b)
+  unfolding allRangeChecks segmentRangeChecks rangeChecks
+  ranges-clean f =
+      each-clean _ _ _
+      (λ seg l h. each-clean _ _ _
+      (λ el m k. pass _ _ _ _ _ (f (address seg el) (used-of b g seg el (record { seg-in = omega arith; el-in = omega arith }))) ∙ fault-none))
+
+  module _ (bytes : ℕ) where
+    accepted-tree : Clean (treeChecks b bytes) → TreeRules b bytes
+    unfolding treeChecks roomChecks depthChecks
+    accepted-tree e =
+        let x = clean-inv _ _ _ _ _ e in
+        let y = append-inv (allRangeChecks b) _ (x .1) in
+        record { room = x .0; ranges = ranges-inv (y .0); depth = clean-inv _ _ _ _ _ (y .1) .0 }
+
+    tree-accepted : TreeRules b bytes → Clean (treeChecks b bytes)
+    unfolding treeChecks roomChecks depthChecks
+    tree-accepted r = pass _ _ _ _ _ (r .room) ∙ fault-append _ _ (ranges-clean (r .ranges)) ∙ pass _ _ _ _ _ (r .depth) ∙ fault-none
+
+    pub tree-iff : firstFault (treeChecks b bytes) ≡ Accepted ↔ TreeRules b bytes
+    tree-iff = (accepted-tree, tree-accepted)
+
+    -- any two chains from the root that end at the same node are the same chain
+    pub file-chains : NodesRules b → TreeRules b bytes → (ps qs : List ℕ) (e : ℕ) → Chain (treeOf b) ps 0 e → Chain (treeOf b) qs 0 e → ps ≡ qs
+    file-chains n r = one-chain (treeOf b) (Used b) (one-parent b g n (r .ranges))

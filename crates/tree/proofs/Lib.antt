@@ -1,0 +1,14 @@
+pub mod Addresses
+pub mod Ranged
+pub mod Chains
+pub mod Unique
+pub mod Children
+pub mod Deepest
+pub mod Accepted
+pub mod Fills
+pub mod Numbers
+pub mod Marking
+pub mod Left
+pub mod Passing
+pub mod OneRange
+pub mod Outcomes

@@ -1,0 +1,68 @@
+-- The child range of one node: what the code reads of it, and what marking it is. Assumes nothing.
+use Prim.Native.Nat.{ℕ, _+_, _≤_, _<_}
+use native.Mathlib.Omega.{arith}
+use mathlib.Core.Path.{_≡_, refl, sym, subst, _∙_}
+use mathlib.Core.Bool.{Bool, true, false, true≢false, false≢true}
+use mathlib.Core.Logic.{⊎-elim}
+use mathlib.Core.List.{List}
+use lib.ListN.{length, replicate}
+use Rattle.le.specs.Le.{u16At}
+use Rattle.laws.specs.Lists.{splice}
+use Rattle.laws.proofs.Splice.{splice-nil}
+use Rattle.verdict.specs.Checks.{Tells}
+use Rattle.verdict.proofs.Laws.{tells-yes, tells-no}
+use Rattle.region.specs.Region.{countOf, numberOf}
+use Rattle.region.specs.Samples.{Mapped, Starts, Counts}
+use Rattle.region.specs.declared.Region.{Region}
+use Rattle.layout.specs.Layout.{nodeSize, nodesAt}
+use Rattle.nodes.specs.Node.{childSegment, childElement, childCount}
+use Rattle.tree.specs.File.{usedNodes}
+use Rattle.tree.specs.Outcome.{TreeReady, Free, Reached, firstNumber, MarkedOne}
+use Rattle.tree.proofs.Children.{own-region}
+use Rattle.tree.proofs.Numbers.{range-room}
+
+-- the region of the nodes, with its samples of running numbers
+pub own-counts : {b : List ℕ} {r : Region} {starts counts : List ℕ} → TreeReady b r starts → Counts nodeSize b (nodesAt b) (r .shift) counts
+    → Mapped 24 b (r .at) r × Starts 24 b (r .at) (r .shift) starts × Counts 24 b (r .at) (r .shift) counts
+unfolding nodeSize
+own-counts {b} {r} {starts} {counts} g k =
+    (own-region g .0, own-region g .1, subst (λ (x : ℕ). Counts 24 b x (r .shift) counts) (sym (g .nodes .at-is)) k)
+
+module _ (b : List ℕ) (p : ℕ) where
+  -- no child: nothing is to be marked
+  pub marked-none : (w : List ℕ) → childCount b p ≡ 0 → MarkedOne b p w true w
+  marked-none w z = record {
+    free = tells-yes (record { rootless = λ j l. absurd (omega arith); unmarked = λ j l. absurd (omega arith) });
+    set = λ t. rw (z, splice-nil);
+    kept = λ f. absurd (true≢false f);
+  }
+
+  -- the range resolves, so its segment is there
+  pub segment-there : (n seg : ℕ) → n ≡ childCount b p → seg ≡ u16At b (p + 16) → (n ≡ 0 → ⊥) → Reached b p → seg < countOf b (nodesAt b)
+  unfolding childSegment
+  segment-there n seg k s f h = ⊎-elim (λ z. absurd (f (k ∙ z))) (λ x. omega (arith, x .seg-in)) h
+
+  pub first-number : (at seg el i : ℕ) → at ≡ nodesAt b → seg ≡ u16At b (p + 16) → el ≡ u16At b (p + 18) → i ≡ numberOf 24 b at seg el → i ≡ firstNumber b p
+  unfolding firstNumber childSegment childElement nodeSize
+  first-number at seg el i a s e q = q ∙ rw (a, s, e)
+
+  module _ (i n : ℕ) (w : List ℕ) (q : i ≡ firstNumber b p) (k : n ≡ childCount b p) where
+    pub range-there : (n ≡ 0 → ⊥) → Reached b p → usedNodes b ≤ length w → i + n ≤ length w
+    range-there f h l = ⊎-elim (λ z. absurd (f (k ∙ z))) (λ x. omega arith) (range-room b p h)
+
+    module _ {t : Bool} (f : Tells (Free w i n) t) where
+      -- the range was free and is marked
+      pub marked-now : (v : List ℕ) → t ≡ true → v ≡ splice w i (replicate n 1) → MarkedOne b p w true v
+      marked-now v z h = record {
+        free = tells-yes (rw (q, k) at (f .so z));
+        set = λ y. rw (q, k) at h;
+        kept = λ y. absurd (true≢false y);
+      }
+
+      -- it was not, and nothing changed
+      pub marked-not : t ≡ false → MarkedOne b p w false w
+      marked-not z = record {
+        free = tells-no (rw (q, k) at (f .not z));
+        set = λ y. absurd (false≢true y);
+        kept = λ y. refl;
+      }

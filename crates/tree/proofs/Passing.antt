@@ -1,0 +1,170 @@
+-- Refusal 21 and its marks, as the code passes the nodes: at a segment, at a node, and at the end. Assumes nothing.
+use Prim.Native.Nat.{ℕ, _+_, _*_, _≤_, _<_}
+use native.Mathlib.Omega.{arith}
+use mathlib.Core.Path.{_≡_, refl, sym, ap, subst, _∙_}
+use mathlib.Core.Bool.{Bool, true, false}
+use mathlib.Core.Logic.{_⊎_, inl, inr, ⊎-elim}
+use mathlib.Core.List.{List}
+use lib.ListN.{length, drop, replicate}
+use Rattle.laws.specs.Lists.{splice}
+use Rattle.le.specs.Le.{u32At}
+use Rattle.verdict.specs.Checks.{firstFault}
+use Rattle.verdict.specs.declared.Verdict.{Verdict}
+use Rattle.verdict.specs.declared.Verdict.the-variants.{Accepted, Refused}
+use Rattle.verdict.proofs.Laws.{never}
+use Rattle.region.specs.Region.{Resolves, Laid, countOf, usedOf, fullOf, startOf, placeOf}
+use Rattle.region.proofs.Laws.{start-next, place-fits}
+use Rattle.layout.specs.Layout.{nodeSize, nodesAt}
+use Rattle.nodes.specs.Node.{nodeAt}
+use Rattle.nodes.specs.Rules.{NodesRules}
+use Rattle.tree.specs.File.{address, nodeOf, treeOf, usedNodes}
+use Rattle.tree.specs.Order.{allRangeChecks}
+use Rattle.tree.specs.Marks.{marked}
+use Rattle.tree.specs.Outcome.{MarkedOne, workspaceAfter}
+use Rattle.tree.proofs.Addresses.{node-of, small-element, used-of}
+use Rattle.tree.proofs.Left.{segmentsLeft, nodesLeft, left-start, left-none, left-open, left-next, left-more, left-stop}
+use Rattle.tree.proofs.Marking.{Marks, marks-start, marks-segment, free-rule, rule-free, marks-node, marks-end, marked-same, clear-same, clear-rest}
+
+-- the nodes before segment seg are passed, which starts at offset at; ws was the workspace before them and w is now
+pub record AtSegment (b ws : List ℕ) (seg at : ℕ) (w : List ℕ) : Type 0 where
+  pub low : seg ≤ countOf b (nodesAt b)
+  pub at-is : at ≡ startOf nodeSize b (nodesAt b) seg
+  pub marks : Marks b ws (address seg 0) w
+  pub left : firstFault (allRangeChecks b) ≡ segmentsLeft b seg
+
+-- the nodes before node seg:el are passed
+pub record AtNode (b ws : List ℕ) (seg el : ℕ) (w : List ℕ) : Type 0 where
+  pub low : el ≤ usedOf nodeSize b (nodesAt b) seg
+  pub marks : Marks b ws (address seg el) w
+  pub left : firstFault (allRangeChecks b) ≡ nodesLeft b seg el
+
+-- all are, or a fault is found
+pub record Passed (b ws : List ℕ) (fault : Verdict) (w : List ℕ) : Type 0 where
+  pub answer : fault ≡ firstFault (allRangeChecks b)
+  pub long : length w ≡ length ws
+  pub rest : drop (usedNodes b) w ≡ drop (usedNodes b) ws
+  pub way : ((fault ≡ Accepted) × (w ≡ marked b ws)) ⊎ ((p : ℕ) × (fault ≡ Refused 21 p))
+
+-- segment seg, which starts at offset at, lies in the file
+pub record Inside (b : List ℕ) (seg at : ℕ) : Type 0 where
+  pub seg-in : seg < countOf b (nodesAt b)
+  pub used : u32At b (at + 4) ≡ usedOf nodeSize b (nodesAt b) seg
+  pub few : usedOf nodeSize b (nodesAt b) seg ≤ 65535
+  pub full : u32At b at ≡ fullOf nodeSize b (nodesAt b) seg
+  pub fits : at + 8 + fullOf nodeSize b (nodesAt b) seg * 24 ≤ length b
+
+module _ (b : List ℕ) (g : Laid nodeSize b (nodesAt b)) (seg at : ℕ) (h : seg < countOf b (nodesAt b)) (q : at ≡ startOf nodeSize b (nodesAt b) seg) where
+  pub inside : Inside b seg at
+  unfolding usedOf fullOf nodeSize
+  inside = record {
+    seg-in = h;
+    used = ap (λ (x : ℕ). u32At b (x + 4)) q;
+    few = omega (arith, g .used seg h, g .full seg h);
+    full = ap (u32At b) q;
+    fits = omega (arith, g .fits seg h);
+  }
+
+  -- node seg:el
+  module _ (el : ℕ) (l : el < usedOf nodeSize b (nodesAt b) seg) where
+    pub node-there : Resolves nodeSize b (nodesAt b) seg el
+    node-there = record { seg-in = h; el-in = l }
+
+    pub node-place : at + 8 + el * 24 ≡ nodeAt b seg el
+    unfolding nodeAt placeOf nodeSize
+    node-place = ap (λ (x : ℕ). x + 8 + el * 24) q
+
+    pub node-fits : at + 8 + el * 24 + 24 ≤ length b
+    unfolding nodeAt nodeSize
+    node-fits = omega (arith, place-fits nodeSize b (nodesAt b) g seg el node-there, node-place)
+
+module _ (b ws : List ℕ) where
+  pub pass-open : (seg at : ℕ) (w : List ℕ) → seg < countOf b (nodesAt b) → AtSegment b ws seg at w → AtNode b w seg 0 w
+  pass-open seg at w l h = record {
+    low = omega arith;
+    marks = record { long = refl; rest = refl; bits = h .marks .bits };
+    left = h .left ∙ left-open b seg l;
+  }
+
+module _ (b ws : List ℕ) (room : usedNodes b ≤ length ws) where
+  pub pass-start : (at : ℕ) (w : List ℕ) → at ≡ nodesAt b → w ≡ splice ws 0 (replicate (usedNodes b) 0) → AtSegment b w 0 (at + 4) w
+  unfolding startOf
+  pass-start at w h q = record {
+    low = omega arith;
+    at-is = ap (λ (x : ℕ). x + 4) h;
+    marks = rw q (marks-start b ws room);
+    left = left-start b;
+  }
+
+  module _ (g : Laid nodeSize b (nodesAt b)) where
+    -- the next segment; v was the workspace where this one began
+    pub pass-next : (seg el at : ℕ) (v w : List ℕ) → seg < countOf b (nodesAt b) → usedOf nodeSize b (nodesAt b) seg ≤ el → AtSegment b ws seg at v
+        → AtNode b v seg el w → AtSegment b ws (seg + 1) (at + 8 + fullOf nodeSize b (nodesAt b) seg * 24) w
+    unfolding nodeSize
+    pass-next seg el at v w l e h k =
+        let m : Marks b ws (address seg el) w = record { long = k .marks .long ∙ h .marks .long; rest = k .marks .rest ∙ h .marks .rest; bits = k .marks .bits } in
+        record {
+          low = omega arith;
+          at-is = omega (arith, h .at-is, start-next nodeSize b (nodesAt b) seg);
+          marks = marks-segment b ws room seg el w e (omega (arith, k .low, g .used seg l, g .full seg l)) m;
+          left = k .left ∙ left-next b seg el e;
+        }
+
+    pub pass-end : (seg at : ℕ) (w : List ℕ) → countOf b (nodesAt b) ≤ seg → AtSegment b ws seg at w → Passed b ws Accepted w
+    pass-end seg at w l h =
+        let e : seg ≡ countOf b (nodesAt b) = omega (arith, h .low) in
+        record {
+          answer = sym (h .left ∙ left-none b seg l);
+          long = h .marks .long;
+          rest = h .marks .rest;
+          way = inl (refl, marks-end b g ws w room (subst (λ (x : ℕ). Marks b ws (address x 0) w) e (h .marks)));
+        }
+
+    module _ (r : NodesRules b) (seg el p : ℕ) (x : Resolves nodeSize b (nodesAt b) seg el) (place : p ≡ nodeAt b seg el) (w v : List ℕ) (t : Bool)
+        (k : MarkedOne b p w t v) where
+      place-is : p ≡ nodeOf b (address seg el)
+      place-is = place ∙ sym (node-of b seg el (small-element b g seg el x))
+
+      pub pass-node : AtNode b ws seg el w → t ≡ true → AtNode b ws seg (el + 1) v
+      unfolding treeOf
+      pass-node h z =
+          let u = used-of b g seg el x in
+          let f = rw place-is at (k .free .so z) in
+          let m : Marks b ws (address seg el + 1) v = rw (k .set z, place-is) (marks-node b ws room g r (address seg el) u w (h .marks)) in
+          record {
+            low = omega (arith, x .el-in);
+            marks = subst (λ (y : ℕ). Marks b ws y v) (omega arith) m;
+            left = h .left ∙ left-more b seg el (x .el-in) (free-rule b ws room g r (address seg el) u w (h .marks) f);
+          }
+
+      pub pass-stop : (base : List ℕ) (at : ℕ) → AtSegment b base seg at ws → AtNode b ws seg el w → t ≡ false → Passed b base (Refused 21 p) v
+      unfolding treeOf
+      pass-stop base at d h z =
+          let u = used-of b g seg el x in
+          let f = rw place-is at (k .free .not z) in
+          record {
+            answer = ap (Refused 21) place ∙ sym (h .left ∙ left-stop b seg el (x .el-in) (λ y. f (rule-free b ws room g r (address seg el) u w (h .marks) y)));
+            long = ap length (k .kept z) ∙ h .marks .long ∙ d .marks .long;
+            rest = ap (drop (usedNodes b)) (k .kept z) ∙ h .marks .rest ∙ d .marks .rest;
+            way = inr (p, refl);
+          }
+
+  -- what the answer leaves in the workspace; w0 is the cleared workspace
+  module _ (w0 w : List ℕ) (fault : Verdict) (q : w0 ≡ splice ws 0 (replicate (usedNodes b) 0)) (h : Passed b w0 fault w) where
+    rest-is : drop (usedNodes b) w ≡ drop (usedNodes b) ws
+    rest-is = h .rest ∙ ap (drop (usedNodes b)) q ∙ clear-rest b ws room
+
+    pub left-refused : (n p : ℕ) (v : List ℕ) → fault ≡ Refused n p → v ≡ splice w 0 (replicate (usedNodes b) 0)
+        → v ≡ workspaceAfter b ws (firstFault (allRangeChecks b))
+    unfolding workspaceAfter
+    left-refused n p v f s =
+        ⊎-elim (λ y. absurd (never f (y .0)))
+        (λ y. s ∙ clear-same b w ws rest-is ∙ ap (workspaceAfter b ws) (sym (y .1) ∙ h .answer))
+        (h .way)
+
+    pub left-accepted : fault ≡ Accepted → w ≡ workspaceAfter b ws (firstFault (allRangeChecks b))
+    unfolding workspaceAfter
+    left-accepted f =
+        ⊎-elim
+        (λ y. y .1 ∙ marked-same b w0 ws (ap (drop (usedNodes b)) q ∙ clear-rest b ws room) ∙ ap (workspaceAfter b ws) (sym f ∙ h .answer))
+        (λ y. absurd (never (y .1) f))
+        (h .way)

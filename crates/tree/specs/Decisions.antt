@@ -1,0 +1,47 @@
+-- How the rules of Rules.antt are decided: nothing to judge here, a decision is right by its type.
+use Prim.Native.Nat.{ℕ, zero, suc, _+_, _*_, _/_, _%_, _<_}
+use native.Mathlib.Decide.{ℕ-discrete}
+use native.Mathlib.Omega.{arith}
+use mathlib.Core.Path.{_≡_, refl, ap}
+use mathlib.Core.Logic.{Dec·and, Dec·not}
+use mathlib.Core.List.{List, [], _∷_}
+use lib.ListN.{length}
+use Rattle.verdict.specs.Decide.{SomeBelow, someBelow?, decBy, implies?, allBelow?}
+use Rattle.region.specs.Decisions.{resolves?}
+use Rattle.layout.specs.Layout.{nodeSize, nodesAt}
+use Rattle.tree.specs.Chain.{Tree, LiveIn, child, Chain}
+use Rattle.tree.specs.File.{Used, treeOf}
+use Rattle.tree.specs.Rules.{RangeRule, Deep, DepthRule}
+
+unfoldable pub used? : (b : List ℕ) (a : ℕ) → Dec (Used b a)
+used? b a = resolves? nodeSize b (nodesAt b) (a / 65536) (a % 65536)
+
+unfoldable pub rangeRule? : (b : List ℕ) (a : ℕ) → Dec (RangeRule b a)
+rangeRule? b a =
+    decBy (λ w. record { rootless = w .0; fresh = w .1 }) (λ r. (r .rootless, r .fresh))
+    (Dec·and (allBelow? (treeOf b .count a) (λ j. Dec·not (ℕ-discrete (child (treeOf b) a j) 0)))
+    (allBelow? a (λ c. implies? (used? b c) (allBelow? (treeOf b .count a) (λ j. allBelow? (treeOf b .count c) (λ k.
+    Dec·not (ℕ-discrete (child (treeOf b) a j) (child (treeOf b) c k))))))))
+
+-- The first of a list, or another.
+unfoldable pub firstOr : ℕ → List ℕ → ℕ
+firstOr d [] = d
+firstOr d (a ∷ l) = a
+
+unfoldable pub deep? : (t : Tree) (n a : ℕ) → Dec (Deep t n a)
+unfolding Chain
+deep? t zero a = yes ([], a, refl, refl)
+deep? t (suc n) a = decBy down up (someBelow? (t .count a) (λ j. Dec·and (Dec·not (ℕ-discrete (t .name (child t a j)) 0)) (deep? t n (child t a j))))
+  where
+    down : SomeBelow (t .count a) (λ j. LiveIn t (child t a j) × Deep t n (child t a j)) → Deep t (suc n) a
+    down w = (w .0 ∷ w .2 .1 .0, w .2 .1 .1, ap suc (w .2 .1 .2), (w .1, (w .2 .0, w .2 .1 .3)))
+
+    from : (ps : List ℕ) (e : ℕ) → length ps ≡ suc n → Chain t ps a e → SomeBelow (t .count a) (λ j. LiveIn t (child t a j) × Deep t n (child t a j))
+    from [] e q c = absurd (omega arith)
+    from (j ∷ ps) e q c = (j, c .0, (c .1 .0, (ps, e, omega arith, c .1 .1)))
+
+    up : Deep t (suc n) a → SomeBelow (t .count a) (λ j. LiveIn t (child t a j) × Deep t n (child t a j))
+    up d = from (d .0) (d .1) (d .2) (d .3)
+
+unfoldable pub depthRule? : (b : List ℕ) → Dec (DepthRule b)
+depthRule? b = Dec·not (deep? (treeOf b) 64 0)

@@ -1,0 +1,42 @@
+-- What acceptance leaves in the workspace (01, "Refusal numbers").
+use Prim.Native.Nat.{ℕ, _+_}
+use mathlib.Core.Path.{_≡_}
+use mathlib.Core.List.{List, [], _∷_, _++_}
+use native.Mathlib.Decide.{ℕ-discrete}
+use lib.ListN.{drop, replicate}
+use Rattle.verdict.specs.Decide.{SomeBelow, someBelow?}
+use Rattle.region.specs.Region.{countOf, usedOf, allUsed}
+use Rattle.layout.specs.Layout.{nodeSize, nodesAt}
+use Rattle.tree.specs.Chain.{Tree, child}
+use Rattle.tree.specs.File.{address, treeOf, usedNodes}
+
+-- Node c is in node a's child range.
+abbrev pub InRange : Tree → ℕ → ℕ → Type 0
+InRange t a c = SomeBelow (t .count a) (λ j. child t a j ≡ c)
+
+-- Node c is in some used node's child range. (A nameless node's holds nothing.)
+abbrev pub IsChild : List ℕ → ℕ → Type 0
+IsChild b c =
+    SomeBelow (countOf b (nodesAt b)) (λ s. SomeBelow (usedOf nodeSize b (nodesAt b) s) (λ e. InRange (treeOf b) (address s e) c))
+
+unfoldable pub isChild? : (b : List ℕ) (c : ℕ) → Dec (IsChild b c)
+isChild? b c =
+    someBelow? (countOf b (nodesAt b)) (λ s. someBelow? (usedOf nodeSize b (nodesAt b) s) (λ e.
+    someBelow? (treeOf b .count (address s e)) (λ j. ℕ-discrete (child (treeOf b) (address s e) j) c)))
+
+-- 1 where it is so, else 0.
+unfoldable pub markBy : {P : Type 0} → Dec P → ℕ
+markBy (yes p) = 1
+markBy (no f) = 0
+
+-- The marks of some nodes.
+unfoldable pub marksOf : List ℕ → List ℕ → List ℕ
+marksOf b [] = []
+marksOf b (a ∷ l) = markBy (isChild? b a) ∷ marksOf b l
+
+-- A workspace with its first U bytes 0, and with the marks of the used nodes in file order; bytes past U stay.
+unfoldable pub cleared : List ℕ → List ℕ → List ℕ
+cleared b ws = replicate (usedNodes b) 0 ++ drop (usedNodes b) ws
+
+unfoldable pub marked : List ℕ → List ℕ → List ℕ
+marked b ws = marksOf b (allUsed nodeSize b (nodesAt b)) ++ drop (usedNodes b) ws

@@ -1,0 +1,46 @@
+// Refusals 20 to 22: the workspace, the tree test and the depth (01, "Refusal numbers").
+ghost use mathlib.Core.Path.{_≡_};
+ghost use Prim.Native.Nat.{ℕ, _≤_};
+ghost use lib.ListN.{length};
+ghost use Rattle.verdict.specs.Checks.{firstFault};
+ghost use Rattle.region.specs.Samples.{Counts};
+ghost use Rattle.layout.specs.Layout.{nodeSize, nodesAt};
+ghost use Rattle.tree.specs.File.{usedNodes};
+ghost use Rattle.tree.specs.Outcome.{TreeReady, treeChecks, workspaceAfter};
+
+pub mod depth;
+pub mod marks;
+
+use depth::Found;
+use region::Region;
+use verdict::Verdict;
+
+// Refusals 20 to 22 of a file that passed the others, with what they leave in the workspace.
+pub fn check_tree(
+    b: &[u8],
+    nodes: Region,
+    starts: &[u32; 256],
+    counts: &[u32; 256],
+    used: usize,
+    ws: &mut [u8],
+) -> Verdict
+    requires { ⌜ TreeReady (now b) nodes (now starts) × Counts nodeSize (now b) (nodesAt (now b)) (nodes .shift) (now counts)
+        × (used ≡ usedNodes (now b)) ⌝ }
+    ensures answer { λ r. ⌜ r ≡ firstFault (treeChecks (now (b .entry)) (length (now (ws .entry)))) ⌝ }
+    ensures workspace { λ _. ⌜ now (ws .exit) ≡ workspaceAfter (now (b .entry)) (now (ws .entry)) (firstFault (treeChecks (now (b .entry)) (length (now (ws .entry))))) ⌝ }
+{
+    if ws.len() < used {
+        return Verdict::Refused(20, used);
+    }
+    let m = marks::mark_nodes(b, nodes, starts, counts, used, ws);
+    if let Verdict::Refused(num, place) = m {
+        return Verdict::Refused(num, place);
+    }
+    match depth::find_deep(b, nodes, starts, 0, nodes.at + 12, 64) {
+        Found::At(p) => {
+            marks::set_range(ws, 0, used, 0);
+            Verdict::Refused(22, p)
+        }
+        Found::Nothing => Verdict::Accepted,
+    }
+}

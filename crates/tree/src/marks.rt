@@ -1,0 +1,121 @@
+// Refusal 21: each live node's child range is marked in the workspace, and a second mark refuses.
+ghost use mathlib.Core.Path.{_≡_};
+ghost use Prim.Native.Nat.{ℕ, _+_, _≤_, _<_};
+ghost use lib.ListN.{length, replicate};
+ghost use Rattle.laws.specs.Lists.{splice};
+ghost use Rattle.verdict.specs.Checks.{Tells, firstFault};
+ghost use Rattle.region.specs.Samples.{Counts};
+ghost use Rattle.layout.specs.Layout.{nodeSize, nodesAt};
+ghost use Rattle.tree.specs.File.{usedNodes};
+ghost use Rattle.tree.specs.Order.{allRangeChecks};
+ghost use Rattle.tree.specs.Outcome.{TreeReady, Free, Reached, MarkedOne, workspaceAfter};
+use region::Region;
+use verdict::Verdict;
+
+// Whether none of the n nodes from number i on is the root or is marked.
+fn range_free(ws: &[u8], i: usize, n: usize) -> bool
+    requires { ⌜ i + n ≤ length (now ws) ⌝ }
+    ensures { λ r. ⌜ Tells (Free (now (ws .entry)) i n) r ⌝ }
+{
+    if n == 0 {
+        return true;
+    }
+    if i == 0 {
+        return false;
+    }
+    let mut j = 0;
+    while j < n {
+        if ws[i + j] != 0 {
+            return false;
+        }
+        j += 1;
+    }
+    true
+}
+
+// Sets the n bytes from i on to x.
+pub fn set_range(ws: &mut [u8], i: usize, n: usize, x: u8)
+    requires { ⌜ i + n ≤ length (now ws) ⌝ }
+    ensures { λ _. ⌜ now (ws .exit) ≡ splice (now (ws .entry)) i (replicate n x) ⌝ }
+{
+    let mut j = 0;
+    while j < n {
+        ws[i + j] = x;
+        j += 1;
+    }
+}
+
+// Marks the child range of the node at p, or tells that it is not free and marks nothing.
+fn mark_node(
+    b: &[u8],
+    nodes: Region,
+    starts: &[u32; 256],
+    counts: &[u32; 256],
+    p: usize,
+    ws: &mut [u8],
+) -> bool
+    requires { ⌜ TreeReady (now b) nodes (now starts) × Counts nodeSize (now b) (nodesAt (now b)) (nodes .shift) (now counts)
+        × (p + 24 ≤ length (now b)) × (usedNodes (now b) ≤ length (now ws)) ⌝ }
+    requires { ⌜ Reached (now b) p ⌝ }
+    ensures { λ r. ⌜ MarkedOne (now (b .entry)) p (now (ws .entry)) r (now (ws .exit)) ⌝ }
+{
+    if le::u16_at(b, p) == 0 {
+        return true;
+    }
+    let n = le::u16_at(b, p + 6);
+    if n == 0 {
+        return true;
+    }
+    let i = region::number(
+        b,
+        nodes,
+        24,
+        starts,
+        counts,
+        le::u16_at(b, p + 16),
+        le::u16_at(b, p + 18),
+    );
+    if !range_free(ws, i, n) {
+        return false;
+    }
+    set_range(ws, i, n, 1);
+    true
+}
+
+// Refusal 21 of every used node in file order; the first U bytes are 0 before.
+pub fn mark_nodes(
+    b: &[u8],
+    nodes: Region,
+    starts: &[u32; 256],
+    counts: &[u32; 256],
+    used: usize,
+    ws: &mut [u8],
+) -> Verdict
+    requires { ⌜ TreeReady (now b) nodes (now starts) × Counts nodeSize (now b) (nodesAt (now b)) (nodes .shift) (now counts)
+        × (used ≡ usedNodes (now b)) × (usedNodes (now b) ≤ length (now ws)) ⌝ }
+    ensures answer { λ r. ⌜ r ≡ firstFault (allRangeChecks (now (b .entry))) ⌝ }
+    ensures workspace { λ _. ⌜ now (ws .exit) ≡ workspaceAfter (now (b .entry)) (now (ws .entry)) (firstFault (allRangeChecks (now (b .entry)))) ⌝ }
+{
+    set_range(ws, 0, used, 0);
+    let mut fault = Verdict::Accepted;
+    let mut at = nodes.at + 4;
+    let mut seg = 0;
+    'segments: while seg < nodes.count {
+        let n = le::u32_at(b, at + 4);
+        let mut el = 0;
+        while el < n {
+            let p = at + 8 + el * 24;
+            if !mark_node(b, nodes, starts, counts, p, ws) {
+                fault = Verdict::Refused(21, p);
+                break 'segments;
+            }
+            el += 1;
+        }
+        at = at + 8 + le::u32_at(b, at) * 24;
+        seg += 1;
+    }
+    if let Verdict::Refused(_, _) = fault {
+        set_range(ws, 0, used, 0);
+    }
+    fault
+}
