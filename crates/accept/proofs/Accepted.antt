@@ -1,0 +1,67 @@
+-- Demand 2, first sentence: a file is accepted exactly when every rule holds of it and the workspace has a byte for each used node,
+-- and is otherwise refused for the first fault in the stated order. Assumes nothing.
+use Prim.Native.Nat.{ℕ, _≤_}
+use mathlib.Core.Path.{_≡_, _∙_}
+use mathlib.Core.Logic.{_↔_}
+use mathlib.Core.List.{List, _∷_, _++_}
+use Rattle.verdict.specs.Checks.{Check, check}
+use Rattle.verdict.specs.declared.Verdict.the-variants.{Accepted, Refused}
+use Rattle.verdict.proofs.Laws.{Clean, append-inv, fault-append, first-failing}
+use Rattle.layout.specs.Layout.{layoutChecks, values, names}
+use Rattle.layout.proofs.Accepted.{layout-iff}
+use Rattle.strings.specs.Order.{stringChecks}
+use Rattle.strings.proofs.Accepted.{strings-iff}
+use Rattle.keys.specs.Order.{specialChecks, allKeyChecks}
+use Rattle.keys.proofs.Accepted.{special-iff, keys-iff}
+use Rattle.nodes.specs.Order.{allNodeChecks}
+use Rattle.nodes.proofs.Accepted.{nodes-iff}
+use Rattle.tree.specs.File.{usedNodes}
+use Rattle.tree.proofs.Accepted.{tree-iff}
+use Rattle.accept.specs.Verdict.{acceptChecks, verdictOf}
+use Rattle.accept.specs.Rules.{FileRules}
+
+module _ (b : List ℕ) (room : ℕ) where
+  accepted-file : verdictOf b room ≡ Accepted → FileRules b × (usedNodes b ≤ room)
+  unfolding verdictOf acceptChecks
+  accepted-file e =
+      let l = append-inv (layoutChecks b) _ e in
+      let v = append-inv (stringChecks (values b)) _ (l .1) in
+      let n = append-inv (stringChecks (names b)) _ (v .1) in
+      let s = append-inv (specialChecks b) _ (n .1) in
+      let k = append-inv (allKeyChecks b) _ (s .1) in
+      let d = append-inv (allNodeChecks b) _ (k .1) in
+      let laid = layout-iff b .0 (l .0) in
+      let t = tree-iff b (laid .nodes) room .0 (d .1) in (
+        record {
+          laid = laid;
+          value-table = strings-iff (values b) .0 (v .0);
+          name-table = strings-iff (names b) .0 (n .0);
+          special = special-iff b .0 (s .0);
+          key = keys-iff b .0 (k .0);
+          nodes = nodes-iff b .0 (d .0);
+          range = t .ranges;
+          depth = t .depth;
+        },
+        t .room,
+      )
+
+  file-accepted : FileRules b × (usedNodes b ≤ room) → verdictOf b room ≡ Accepted
+  unfolding verdictOf acceptChecks
+  file-accepted p =
+      let r = p .0 in
+      fault-append (layoutChecks b) _ (layout-iff b .1 (r .laid))
+      ∙ fault-append (stringChecks (values b)) _ (strings-iff (values b) .1 (r .value-table))
+      ∙ fault-append (stringChecks (names b)) _ (strings-iff (names b) .1 (r .name-table))
+      ∙ fault-append (specialChecks b) _ (special-iff b .1 (r .special))
+      ∙ fault-append (allKeyChecks b) _ (keys-iff b .1 (r .key))
+      ∙ fault-append (allNodeChecks b) _ (nodes-iff b .1 (r .nodes))
+      ∙ tree-iff b (r .laid .nodes) room .1 (record { room = p .1; ranges = r .range; depth = r .depth })
+
+  pub accepted-iff : verdictOf b room ≡ Accepted ↔ (FileRules b × (usedNodes b ≤ room))
+  accepted-iff = (accepted-file, file-accepted)
+
+  -- the refusal is that of the first check in the stated order that does not hold: all before it hold
+  pub refused-first : {n p : ℕ} → verdictOf b room ≡ Refused n p
+      → (xs : List Check) × (P : Type 0) × (d : Dec P) × (ys : List Check) × (acceptChecks b room ≡ xs ++ (check n p P d ∷ ys)) × Clean xs × (P → ⊥)
+  unfolding verdictOf
+  refused-first e = first-failing (acceptChecks b room) e

@@ -1,0 +1,13 @@
+-- What acceptance answers: the verdict, and a view that fits where the file is accepted.
+use mathlib.Core.Path.{_≡_}
+use mathlib.Core.List.{List}
+use Prim.Native.Nat.{ℕ}
+use lib.ListN.{length}
+use Rattle.verdict.specs.declared.Verdict.the-variants.{Accepted}
+use Rattle.layout.specs.View.{Fits}
+use Rattle.accept.specs.Verdict.{verdictOf}
+use Rattle.accept.specs.declared.Acceptance.{Acceptance}
+
+pub record Judged (b ws : List ℕ) (r : Acceptance) : Type 0 where
+  pub answer : r .answer ≡ verdictOf b (length ws)
+  pub view : r .answer ≡ Accepted → Fits b (r .view)

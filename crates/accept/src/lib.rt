@@ -1,0 +1,93 @@
+// Acceptance: every refusal of 1 to 23, the first fault in the stated order (01, "Refusal numbers").
+ghost use mathlib.Core.Path.{_≡_};
+ghost use lib.ListN.{length};
+ghost use Rattle.layout.specs.View.{Fits};
+ghost use Rattle.tree.specs.Outcome.{workspaceAfter};
+ghost use Rattle.accept.specs.Verdict.{verdictOf};
+ghost use Rattle.accept.specs.Accepted.{Judged};
+use layout::View;
+use strings::Strings;
+use verdict::Verdict;
+
+// The verdict, and the view, which means something only where the file is accepted.
+pub struct Acceptance {
+    pub answer: Verdict,
+    pub view: View,
+}
+
+// Refusals 7 to 23 of a file that is laid out, with what they leave in the workspace.
+fn judge(b: &[u8], v: View, ws: &mut [u8]) -> Verdict
+    requires { ⌜ Fits (now b) v ⌝ }
+    ensures answer { λ r. ⌜ r ≡ verdictOf (now (b .entry)) (length (now (ws .entry))) ⌝ }
+    ensures workspace { λ _. ⌜ now (ws .exit) ≡ workspaceAfter (now (b .entry)) (now (ws .entry)) (verdictOf (now (b .entry)) (length (now (ws .entry)))) ⌝ }
+{
+    let t = hash::tables();
+    let p = v.places;
+    let value_starts = v.value_starts;
+    let value_buckets = v.value_buckets;
+    let name_starts = v.name_starts;
+    let name_buckets = v.name_buckets;
+    let value_chars = p.value_chars;
+    let name_chars = p.name_chars;
+    let values = Strings {
+        chars: value_chars,
+        list: p.value_list,
+    };
+    let names = Strings {
+        chars: name_chars,
+        list: p.name_list,
+    };
+    let a = positions::check_table(b, &t, values, &value_starts, &value_buckets);
+    if let Verdict::Refused(num, place) = a {
+        return Verdict::Refused(num, place);
+    }
+    let c = positions::check_table(b, &t, names, &name_starts, &name_buckets);
+    if let Verdict::Refused(num, place) = c {
+        return Verdict::Refused(num, place);
+    }
+    let known = keys::special::check_special(b, names, &name_starts, &name_buckets);
+    let d = known.answer;
+    if let Verdict::Refused(num, place) = d {
+        return Verdict::Refused(num, place);
+    }
+    let special = known.names;
+    let e = keys::list::check_keys(b, special);
+    if let Verdict::Refused(num, place) = e {
+        return Verdict::Refused(num, place);
+    }
+    let attribute_starts = v.attribute_starts;
+    let node_starts = v.node_starts;
+    let node_counts = v.node_counts;
+    let f = nodes::all::check_nodes(
+        b,
+        &t,
+        p,
+        special,
+        &attribute_starts,
+        &node_starts,
+        &value_starts,
+        &value_buckets,
+    );
+    if let Verdict::Refused(num, place) = f {
+        return Verdict::Refused(num, place);
+    }
+    let nodes = p.nodes;
+    tree::check_tree(b, nodes, &node_starts, &node_counts, p.used_nodes, ws)
+}
+
+// Accepts a file, or refuses it.
+pub fn accept(b: &[u8], ws: &mut [u8]) -> Acceptance
+    ensures answer { λ r. ⌜ Judged (now (b .entry)) (now (ws .entry)) r ⌝ }
+    ensures workspace { λ _. ⌜ now (ws .exit) ≡ workspaceAfter (now (b .entry)) (now (ws .entry)) (verdictOf (now (b .entry)) (length (now (ws .entry)))) ⌝ }
+{
+    let c = layout::whole::check_layout(b);
+    let laid = c.answer;
+    let view = c.view;
+    if let Verdict::Refused(_, _) = laid {
+        return Acceptance { answer: laid, view };
+    }
+    Acceptance {
+        answer: judge(b, view, ws),
+        view,
+    }
+}
