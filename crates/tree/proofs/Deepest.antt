@@ -13,7 +13,7 @@ use Rattle.tree.specs.declared.depth.Found.the-variants.{At, Nothing}
 use Rattle.tree.specs.Chain.{LiveIn, ranged, ends}
 use Rattle.tree.specs.File.{nodeOf, treeOf}
 use Rattle.tree.specs.Rules.{FirstDeep}
-use Rattle.tree.specs.Decisions.{firstOr}
+use Rattle.tree.specs.Chain.{firstOr}
 use Rattle.tree.specs.Order.{depthChecks}
 use Rattle.tree.specs.Outcome.{firstPlace}
 use Rattle.tree.proofs.Ranged.{not-cons, ranged-none, ranged-open}

@@ -1,4 +1,4 @@
--- Chains and document order (01, "Nodes and attributes"), over any tree of nodes that are named by numbers. The root is node 0.
+-- Chains and document order (01, "Nodes and attributes"), over any tree whose nodes are numbers. The root is node 0.
 use mathlib.Core.Path.{_≡_}
 use mathlib.Core.Bool.{cond}
 use mathlib.Core.Logic.{_⊎_}
@@ -20,7 +20,7 @@ LiveIn t a = t .name a ≡ 0 → ⊥
 abbrev pub child : Tree → ℕ → ℕ → ℕ
 child t a j = t .first a + j
 
--- The child places ps lead from node a to node e: each is a place in the child range of the node before, and the element there is live.
+-- The child places ps lead from node a to node e (a chain, where a is the root, which is live by 16): each is a place in the child range of the node before, and the element there is live.
 unfoldable pub Chain : Tree → List ℕ → ℕ → ℕ → Type 0
 Chain t [] a e = e ≡ a
 Chain t (j ∷ ps) a e = (j < t .count a) × (LiveIn t (child t a j) × Chain t ps (child t a j) e)
@@ -46,3 +46,8 @@ ends t (suc n) a = ranged (λ c. cond (eqb (t .name c) 0) [] (ends t n c)) (t .f
 unfoldable pub Pairs : (ℕ → ℕ → Type 0) → List ℕ → Type 0
 Pairs R [] = Unit
 Pairs R (a ∷ l) = ((b : ℕ) → List·Memᴰ b l → R a b) × Pairs R l
+
+-- The first of a list, or another.
+unfoldable pub firstOr : ℕ → List ℕ → ℕ
+firstOr d [] = d
+firstOr d (a ∷ l) = a

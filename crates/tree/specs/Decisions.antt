@@ -23,11 +23,6 @@ rangeRule? b a =
     (allBelow? a (λ c. implies? (used? b c) (allBelow? (treeOf b .count a) (λ j. allBelow? (treeOf b .count c) (λ k.
     Dec·not (ℕ-discrete (child (treeOf b) a j) (child (treeOf b) c k))))))))
 
--- The first of a list, or another.
-unfoldable pub firstOr : ℕ → List ℕ → ℕ
-firstOr d [] = d
-firstOr d (a ∷ l) = a
-
 unfoldable pub deep? : (t : Tree) (n a : ℕ) → Dec (Deep t n a)
 unfolding Chain
 deep? t zero a = yes ([], a, refl, refl)

@@ -5,10 +5,10 @@ use Rattle.verdict.specs.Checks.{Check, check, atMost, each}
 use Rattle.region.specs.Region.{countOf, usedOf}
 use Rattle.layout.specs.Layout.{nodeSize, nodesAt}
 use Rattle.nodes.specs.Node.{nodeAt}
-use Rattle.tree.specs.Chain.{ends}
+use Rattle.tree.specs.Chain.{ends, firstOr}
 use Rattle.tree.specs.File.{address, nodeOf, treeOf, usedNodes}
 use Rattle.tree.specs.Rules.{RangeRule, DepthRule}
-use Rattle.tree.specs.Decisions.{rangeRule?, depthRule?, firstOr}
+use Rattle.tree.specs.Decisions.{rangeRule?, depthRule?}
 
 -- 20: the workspace has a byte for each used node; the place is the number needed.
 unfoldable pub roomChecks : List ℕ → ℕ → List Check

@@ -25,7 +25,8 @@ use Rattle.tree.specs.declared.depth.Found.the-variants.{At, Nothing}
 unfoldable pub treeChecks : List ℕ → ℕ → List Check
 treeChecks b room = roomChecks b room ++ (allRangeChecks b ++ depthChecks b)
 
--- Refusals 1 to 20 and 23 leave the workspace untouched; 21 and 22 leave its first U bytes 0; acceptance leaves the marks.
+-- What acceptance's own verdict leaves: refusals 1 to 20 and 23 leave the workspace untouched; 21 and 22 leave its first U bytes 0;
+-- acceptance leaves the marks. (A 24, 25 or 26 follows an acceptance and is none of these verdicts.)
 unfoldable pub workspaceAfter : List ℕ → List ℕ → Verdict → List ℕ
 workspaceAfter b ws Accepted = marked b ws
 workspaceAfter b ws (Refused n p) = cond (eqb n 21 || eqb n 22) (cleared b ws) ws
@@ -54,7 +55,7 @@ unfoldable pub firstPlace : List ℕ → List ℕ → Found
 firstPlace b [] = Nothing
 firstPlace b (a ∷ l) = At (nodeOf b a)
 
--- A file that passed 1 to 19 and 23, and the region of its nodes.
+-- A file that is laid out and passed 16 to 19 and 23, and the region of its nodes.
 pub record TreeReady (b : List ℕ) (r : Region) (starts : List ℕ) : Type 0 where
   pub laid : LaidOut b
   pub nodes : Mapped nodeSize b (nodesAt b) r

@@ -1,11 +1,9 @@
 -- Every value that document 01 states ("To be proved of the definitions, as a single table"), proved of the definitions that the
 -- contracts cite. Assumes nothing.
-use Prim.Native.Nat.{ℕ, _+_, _*_, _/_, _%_, _<_}
+use Prim.Native.Nat.{ℕ}
 use mathlib.Core.Path.{_≡_, refl}
 use mathlib.Core.List.{List, [], _∷_}
-use lib.ListN.{getD}
-use lib.Bits.{bitXor}
-use Rattle.verdict.specs.Checks.{firstFault, each}
+use Rattle.verdict.specs.Checks.{firstFault}
 use Rattle.verdict.specs.declared.Verdict.the-variants.{Refused}
 use native.Mathlib.Decide.{decLe, ℕ-discrete}
 use Rattle.le.specs.Le.{u32At}
@@ -14,6 +12,8 @@ use Rattle.hash.specs.Table.{T, entryOf}
 use Rattle.hash.specs.Hash.{hashByte, hashChar, hashOn, hashText, bucketOf}
 use Rattle.hash.specs.Fold.{loses, folded, foldText, valueHashOf, valueHash}
 use Rattle.layout.specs.Header.{headerChecks}
+use Rattle.accept.specs.Verdict.{acceptChecks, verdictOf}
+use Rattle.verdict.proofs.Laws.{fault-keep}
 use Rattle.layout.specs.Layout.{sizeChecks, frontChecks, layoutChecks}
 
 hash-none : hashText [] ≡ 0
@@ -80,6 +80,10 @@ type-word-0005-extended : extendedOf 0x0005 ≡ 1
 unfolding extendedOf
 type-word-0005-extended = refl
 
-version-cut : firstFault (layoutChecks (0x05 ∷ 0x00 ∷ 0x00 ∷ 0x00 ∷ [])) ≡ Refused 3 0
+layout-cut : firstFault (layoutChecks (0x05 ∷ 0x00 ∷ 0x00 ∷ 0x00 ∷ [])) ≡ Refused 3 0
 unfolding layoutChecks frontChecks sizeChecks headerChecks firstFault decLe ℕ-discrete u32At
-version-cut = refl
+layout-cut = refl
+
+version-cut : (room : ℕ) → verdictOf (0x05 ∷ 0x00 ∷ 0x00 ∷ 0x00 ∷ []) room ≡ Refused 3 0
+unfolding verdictOf acceptChecks
+version-cut room = fault-keep (layoutChecks (0x05 ∷ 0x00 ∷ 0x00 ∷ 0x00 ∷ [])) _ layout-cut
