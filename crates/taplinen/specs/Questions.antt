@@ -1,0 +1,41 @@
+-- The exported questions (01, "Questions"): each takes the file and a workspace and accepts first.
+use Prim.Native.Nat.{ℕ}
+use mathlib.Core.List.{List, _++_}
+use lib.ListN.{length}
+use Rattle.verdict.specs.Checks.{firstFault}
+use Rattle.verdict.specs.declared.Verdict.{Verdict}
+use Rattle.layout.specs.Header.{headerOf}
+use Rattle.layout.specs.Layout.{values, names}
+use Rattle.lookup.specs.Lookup.{textFrom, indexOfText, addressOfText}
+use Rattle.lookup.specs.Asked.{textChecks}
+use Rattle.tree.specs.File.{usedNodes}
+use Rattle.tree.specs.Outcome.{workspaceAfter}
+use Rattle.accept.specs.Verdict.{acceptChecks, verdictOf}
+use Rattle.taplinen.specs.Answers.{answered, kindOf, numberOf, reported}
+use Rattle.taplinen.specs.declared.answer.Answer.{Answer}
+use Rattle.taplinen.specs.declared.header.HeaderReport.{HeaderReport}
+
+-- The workspace after any question is as acceptance leaves it: a 24, 25 or 26 follows an acceptance.
+unfoldable pub workspaceLeft : List ℕ → List ℕ → List ℕ
+workspaceLeft b ws = workspaceAfter b ws (verdictOf b (length ws))
+
+-- Accept: the used nodes.
+unfoldable pub acceptAnswer : List ℕ → ℕ → Answer
+acceptAnswer b room = answered (verdictOf b room) 0 (usedNodes b)
+
+-- The header report.
+unfoldable pub headerAnswer : List ℕ → ℕ → HeaderReport
+headerAnswer b room = reported (verdictOf b room) (headerOf b)
+
+-- Acceptance's refusals, then 24 of a text.
+unfoldable pub textVerdict : List ℕ → ℕ → List ℕ → Verdict
+textVerdict b room q = firstFault (acceptChecks b room ++ textChecks q)
+
+-- Name by text: its index, or absent.
+unfoldable pub nameAnswer : List ℕ → ℕ → List ℕ → Answer
+nameAnswer b room q = answered (textVerdict b room q) (kindOf (indexOfText (names b) (textFrom q))) (numberOf (indexOfText (names b) (textFrom q)))
+
+-- Value by text: its address, or absent.
+unfoldable pub valueAnswer : List ℕ → ℕ → List ℕ → Answer
+valueAnswer b room q =
+    answered (textVerdict b room q) (kindOf (addressOfText (values b) (textFrom q))) (numberOf (addressOfText (values b) (textFrom q)))

@@ -1,0 +1,82 @@
+// Accept, name by text, value by text and path listing.
+ghost use mathlib.Core.Path.{_≡_};
+ghost use lib.ListN.{length};
+ghost use Rattle.taplinen.specs.Questions.{acceptAnswer, nameAnswer, valueAnswer, workspaceLeft};
+use crate::answer;
+use crate::answer::Answer;
+use strings::Strings;
+use verdict::Verdict;
+
+// Accepts a file: the number of used nodes, which is the workspace that every question needs.
+#[no_mangle]
+pub extern "C" fn taplinen_accept(file: &[u8], ws: &mut [u8]) -> Answer
+    ensures answer { λ r. ⌜ r ≡ acceptAnswer (now (file .entry)) (length (now (ws .entry))) ⌝ }
+    ensures workspace { λ _. ⌜ now (ws .exit) ≡ workspaceLeft (now (file .entry)) (now (ws .entry)) ⌝ }
+{
+    let a = accept::accept(file, ws);
+    let v = a.answer;
+    match v {
+        Verdict::Refused(num, place) => answer::refused(num, place),
+        Verdict::Accepted => {
+            let view = a.view;
+            let p = view.places;
+            answer::number(p.used_nodes)
+        }
+    }
+}
+
+// The index of a name.
+#[no_mangle]
+pub extern "C" fn taplinen_name(file: &[u8], ws: &mut [u8], text: &[u8]) -> Answer
+    ensures answer { λ r. ⌜ r ≡ nameAnswer (now (file .entry)) (length (now (ws .entry))) (now (text .entry)) ⌝ }
+    ensures workspace { λ _. ⌜ now (ws .exit) ≡ workspaceLeft (now (file .entry)) (now (ws .entry)) ⌝ }
+{
+    let a = accept::accept(file, ws);
+    let v = a.answer;
+    if let Verdict::Refused(num, place) = v {
+        return answer::refused(num, place);
+    }
+    let n = text.len();
+    if n % 2 != 0 {
+        return answer::refused(24, n);
+    }
+    let view = a.view;
+    let p = view.places;
+    let samples = view.name_starts;
+    let buckets = view.name_buckets;
+    let chars = p.name_chars;
+    let s = Strings {
+        chars,
+        list: p.name_list,
+    };
+    let t = hash::tables();
+    answer::told(lookup::find_name(file, &t, s, &samples, &buckets, text, 0, n / 2))
+}
+
+// The address of a value.
+#[no_mangle]
+pub extern "C" fn taplinen_value(file: &[u8], ws: &mut [u8], text: &[u8]) -> Answer
+    ensures answer { λ r. ⌜ r ≡ valueAnswer (now (file .entry)) (length (now (ws .entry))) (now (text .entry)) ⌝ }
+    ensures workspace { λ _. ⌜ now (ws .exit) ≡ workspaceLeft (now (file .entry)) (now (ws .entry)) ⌝ }
+{
+    let a = accept::accept(file, ws);
+    let v = a.answer;
+    if let Verdict::Refused(num, place) = v {
+        return answer::refused(num, place);
+    }
+    let n = text.len();
+    if n % 2 != 0 {
+        return answer::refused(24, n);
+    }
+    let view = a.view;
+    let p = view.places;
+    let samples = view.value_starts;
+    let buckets = view.value_buckets;
+    let chars = p.value_chars;
+    let s = Strings {
+        chars,
+        list: p.value_list,
+    };
+    let t = hash::tables();
+    answer::told(lookup::find_value(file, &t, s, &samples, &buckets, text, 0, n / 2))
+}
