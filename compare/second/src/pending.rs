@@ -111,10 +111,13 @@ impl<'a, R: Reading, I: Index> Pending<'a, R, I> {
     fn finish_one(&mut self) -> Result<(), Refusal> {
         let slot = self.slots[self.finished % SLOTS];
         self.finished += 1;
-        match self.index.finish(self.reading, self.file, slot.address, slot.work) {
-            Some(hash) if hash == slot.extended => Ok(()),
-            Some(_) if self.reading.wrong(Mutant::ValueHashAs18) => refuse(18, slot.at),
-            _ => refuse(19, slot.at),
-        }
+        let number = match self.index.finish(self.reading, self.file, slot.address, slot.work) {
+            Some(hash) if hash == slot.extended => return Ok(()),
+            Some(_) if self.reading.wrong(Mutant::ValueHashAs18) => 18,
+            _ => 19,
+        };
+        // The first fault is the answer: those that came later are dropped.
+        self.finished = self.taken;
+        refuse(number, slot.at)
     }
 }

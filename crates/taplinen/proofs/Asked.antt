@@ -12,10 +12,13 @@ use Rattle.strings.specs.Held.{heldTable}
 use Rattle.strings.specs.Order.{stringChecks}
 use Rattle.strings.proofs.Accepted.{strings-iff}
 use Rattle.nodes.specs.Held.{valueStrings}
+use Rattle.nodes.proofs.Accepted.{nodes-iff}
+use Rattle.tree.specs.Outcome.{TreeReady}
 use Rattle.accept.specs.Verdict.{verdictOf}
+use Rattle.accept.specs.Rules.{FileRules}
 use Rattle.accept.specs.Held.{nameStrings}
 use Rattle.accept.proofs.Accepted.{accepted-iff}
-use Rattle.accept.proofs.Held.{values-table, names-table}
+use Rattle.accept.proofs.Held.{values-table, names-table, tree-ready}
 
 module _ (b : List ℕ) (room : ℕ) (v : View) (f : Fits b v) (e : verdictOf b room ≡ Accepted) where
   pub names-clean : firstFault (stringChecks (heldTable b (nameStrings (v .places)) (v .«name_buckets»))) ≡ Accepted
@@ -25,3 +28,10 @@ module _ (b : List ℕ) (room : ℕ) (v : View) (f : Fits b v) (e : verdictOf b 
   pub values-clean : firstFault (stringChecks (heldTable b (valueStrings (v .places)) (v .«value_buckets»))) ≡ Accepted
   values-clean =
       ap (λ (t : Table). firstFault (stringChecks t)) (values-table b v f) ∙ strings-iff (values b) .1 (accepted-iff b room .0 e .0 .value-table)
+
+  -- and to a listing: every rule of the file, and its nodes
+  pub file-rules : FileRules b
+  file-rules = accepted-iff b room .0 e .0
+
+  pub nodes-held : TreeReady b (v .places .nodes) (v .«node_starts»)
+  nodes-held = tree-ready b v f (nodes-iff b .1 (file-rules .nodes))

@@ -30,7 +30,7 @@ unfolding kindOf numberOf
 told-absent l e = rw e
 
 -- a refusal's answer has neither kind nor value
-same-refused : (n p k m : ℕ) → answered (Refused n p) 0 0 ≡ answered (Refused n p) k m
+pub same-refused : (n p k m : ℕ) → answered (Refused n p) 0 0 ≡ answered (Refused n p) k m
 unfolding answered
 same-refused n p k m = refl
 

@@ -8,6 +8,8 @@ use Rattle.layout.specs.Header.{headerOf}
 use Rattle.layout.specs.Layout.{values, names}
 use Rattle.lookup.specs.Lookup.{textFrom, indexOfText, addressOfText}
 use Rattle.lookup.specs.Asked.{textChecks}
+use Rattle.path.specs.Names.{pathChecks}
+use Rattle.path.specs.Listing.{pathMatches, listingChecks, listingAfter}
 use Rattle.tree.specs.File.{usedNodes}
 use Rattle.tree.specs.Outcome.{workspaceAfter}
 use Rattle.accept.specs.Verdict.{acceptChecks, verdictOf}
@@ -39,3 +41,15 @@ nameAnswer b room q = answered (textVerdict b room q) (kindOf (indexOfText (name
 unfoldable pub valueAnswer : List ℕ → ℕ → List ℕ → Answer
 valueAnswer b room q =
     answered (textVerdict b room q) (kindOf (addressOfText (values b) (textFrom q))) (numberOf (addressOfText (values b) (textFrom q)))
+
+-- Acceptance's refusals, then 24 of a path, then 25.
+unfoldable pub pathVerdict : List ℕ → ℕ → List ℕ → ℕ → Verdict
+pathVerdict b room path list = firstFault (acceptChecks b room ++ (pathChecks path ++ listingChecks b path list))
+
+-- Path listing: the number of matches.
+unfoldable pub pathAnswer : List ℕ → ℕ → List ℕ → ℕ → Answer
+pathAnswer b room path list = answered (pathVerdict b room path list) 0 (length (pathMatches b path))
+
+-- What it leaves in the listing.
+unfoldable pub pathListing : List ℕ → ℕ → List ℕ → List ℕ → List ℕ
+pathListing b room path list = listingAfter b path list (pathVerdict b room path (length list))

@@ -1,7 +1,7 @@
 // Accept, name by text, value by text and path listing.
 ghost use mathlib.Core.Path.{_≡_};
 ghost use lib.ListN.{length};
-ghost use Rattle.taplinen.specs.Questions.{acceptAnswer, nameAnswer, valueAnswer, workspaceLeft};
+ghost use Rattle.taplinen.specs.Questions.{acceptAnswer, nameAnswer, valueAnswer, pathAnswer, pathListing, workspaceLeft};
 use crate::answer;
 use crate::answer::Answer;
 use strings::Strings;
@@ -79,4 +79,45 @@ pub extern "C" fn taplinen_value(file: &[u8], ws: &mut [u8], text: &[u8]) -> Ans
     };
     let t = hash::tables();
     answer::told(lookup::find_value(file, &t, s, &samples, &buckets, text, 0, n / 2))
+}
+
+// The matches of a path.
+#[no_mangle]
+pub extern "C" fn taplinen_path(file: &[u8], ws: &mut [u8], path: &[u8], list: &mut [u8]) -> Answer
+    ensures answer { λ r. ⌜ r ≡ pathAnswer (now (file .entry)) (length (now (ws .entry))) (now (path .entry)) (length (now (list .entry))) ⌝ }
+    ensures workspace { λ _. ⌜ now (ws .exit) ≡ workspaceLeft (now (file .entry)) (now (ws .entry)) ⌝ }
+    ensures listing { λ _. ⌜ now (list .exit) ≡ pathListing (now (file .entry)) (length (now (ws .entry))) (now (path .entry)) (now (list .entry)) ⌝ }
+{
+    let a = accept::accept(file, ws);
+    let v = a.answer;
+    if let Verdict::Refused(num, place) = v {
+        return answer::refused(num, place);
+    }
+    let view = a.view;
+    let p = view.places;
+    let samples = view.name_starts;
+    let buckets = view.name_buckets;
+    let starts = view.node_starts;
+    let chars = p.name_chars;
+    let s = Strings {
+        chars,
+        list: p.name_list,
+    };
+    let t = hash::tables();
+    let r = path::listing::list_path(
+        file,
+        &t,
+        s,
+        &samples,
+        &buckets,
+        p.nodes,
+        &starts,
+        path,
+        list,
+    );
+    let w = r.answer;
+    match w {
+        Verdict::Refused(num, place) => answer::refused(num, place),
+        Verdict::Accepted => answer::number(r.matches),
+    }
 }

@@ -1,0 +1,23 @@
+# The few commands people need. `make check CRATE=name` proves one crate and what it stands on.
+ask: library
+	gcc -std=c11 -D_DEFAULT_SOURCE -Wall -Wextra -O2 -Iinclude examples/ask.c target/staticlib/libtaplinen.a -o target/ask
+	target/ask samples/shop.dc name LegendarySword name '@b`naiosyRyopk' name Item value 'Iron sword' value Iron path Item
+
+library:
+	rt staticlib taplinen
+
+check:
+	rt check $(CRATE)
+
+gate:
+	.ci/run
+
+compare: library
+	cd compare && TAPLINEN_LIB=$(CURDIR)/target/staticlib cargo build --quiet --release --offline -p compare --features rattle
+	compare/target/release/compare --full --seconds 600
+
+bench: library
+	cd compare && TAPLINEN_LIB=$(CURDIR)/target/staticlib cargo build --quiet --release --offline -p bench --features rattle
+	compare/target/release/bench
+
+.PHONY: ask library check gate compare bench

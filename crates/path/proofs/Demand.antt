@@ -1,0 +1,92 @@
+-- Demand 3, of the definitions that the contract of `list_path` cites: what a listing holds place by place, and when it is refused.
+-- That the matches are the right nodes, each once and in document order, is `listed`. Assumes nothing.
+use mathlib.Core.Path.{_≡_, refl, sym, ap, _∙_}
+use mathlib.Core.Logic.{_↔_, by-cases}
+use mathlib.Core.List.{List, [], _∷_, _++_, List·Memᴰ, List·Memᴰ·head, List·Memᴰ·tail}
+use Prim.Native.Nat.{ℕ, zero, suc, _+_, _-_, _*_, _/_, _%_, _^_, _≤_, _<_}
+use native.Mathlib.Nat.{not-suc-le-zero, div-div-eq-div-mul, mod-eq-of-lt}
+use native.Mathlib.Decide.{decLe}
+use native.Mathlib.Omega.{arith}
+use lib.ListN.{length, getD, drop}
+use lib.Seq.{getD-append-add, getD-drop}
+use Rattle.le.specs.Le.{u32At}
+use Rattle.verdict.specs.Checks.{firstFault}
+use Rattle.verdict.specs.declared.Verdict.the-variants.{Accepted, Refused}
+use Rattle.verdict.proofs.Laws.{Clean, never, pass, stop, fault-none, fault-append}
+use Rattle.accept.specs.Rules.{FileRules}
+use Rattle.path.specs.Names.{pathChecks}
+use Rattle.path.specs.Listing.{pathMatches, le4, encode, listingChecks, listingAfter}
+use Rattle.path.proofs.Few.{match-low}
+use Rattle.path.proofs.Written.{length-encode}
+
+-- a number below 2 ^ 32 is the sum of its four bytes
+four-bytes : (a : ℕ) → a < 2 ^ 32 → a % 256 + a / 256 % 256 * 256 + a / 65536 % 256 * 65536 + a / 16777216 % 256 * 16777216 ≡ a
+four-bytes a h =
+    let p : a / 256 / 256 ≡ a / 65536 = div-div-eq-div-mul a 256 256 in
+    let q : a / 65536 / 256 ≡ a / 16777216 = div-div-eq-div-mul a 65536 256 in
+    let m : a / 16777216 % 256 ≡ a / 16777216 = mod-eq-of-lt {m = 256} (omega arith) in
+    omega arith
+
+le4-front : (a : ℕ) (t : List ℕ) → a < 2 ^ 32 → u32At (le4 a ++ t) 0 ≡ a
+unfolding u32At le4
+le4-front a t h = four-bytes a h
+
+shifted : (s t : List ℕ) (j : ℕ) → u32At (s ++ t) (length s + j) ≡ u32At t j
+unfolding u32At
+shifted s t j =
+    let e1 : length s + j + 1 ≡ length s + (j + 1) = omega arith in
+    let e2 : length s + j + 2 ≡ length s + (j + 2) = omega arith in
+    let e3 : length s + j + 3 ≡ length s + (j + 3) = omega arith in
+    rw (e1, e2, e3, getD-append-add s t j 0, getD-append-add s t (j + 1) 0, getD-append-add s t (j + 2) 0, getD-append-add s t (j + 3) 0)
+
+-- place i of encoded nodes holds node i
+encoded-at : (l t : List ℕ) → ((e : ℕ) → List·Memᴰ e l → e < 2 ^ 32) → (i : ℕ) → i < length l → u32At (encode l ++ t) (4 * i) ≡ getD l i 0
+unfolding encode le4
+encoded-at [] t f i h = absurd (not-suc-le-zero h)
+encoded-at (a ∷ l) t f zero h = le4-front a (encode l ++ t) (f a (List·Memᴰ·head refl))
+encoded-at (a ∷ l) t f (suc i) h =
+    let e : 4 * suc i ≡ 4 + 4 * i = omega arith in
+    ap (u32At (le4 a ++ (encode l ++ t))) e
+    ∙ shifted (le4 a) (encode l ++ t) (4 * i)
+    ∙ encoded-at l t (λ x m. f x (List·Memᴰ·tail m)) i (omega arith)
+
+module _ (b path list : List ℕ) where
+  -- the first places hold the matches, in order
+  pub place-holds : FileRules b → (i : ℕ) → i < length (pathMatches b path) → u32At (listingAfter b path list Accepted) (4 * i) ≡ getD (pathMatches b path) i 0
+  unfolding listingAfter
+  place-holds r i h = encoded-at (pathMatches b path) _ (match-low b r path) i h
+
+  -- every byte after them stays
+  pub later-stay : (j : ℕ) → 4 * length (pathMatches b path) ≤ j → getD (listingAfter b path list Accepted) j 0 ≡ getD list j 0
+  unfolding listingAfter
+  later-stay j h =
+      let n : ℕ = length (encode (pathMatches b path)) in
+      let e : n + (j - n) ≡ j = omega (arith, length-encode (pathMatches b path)) in
+      ap (λ (k : ℕ). getD (encode (pathMatches b path) ++ drop n list) k 0) (sym e)
+      ∙ getD-append-add (encode (pathMatches b path)) (drop n list) (j - n) 0
+      ∙ getD-drop n list (j - n) 0
+      ∙ ap (λ (k : ℕ). getD list k 0) e
+
+  -- where it is refused, every byte
+  pub refused-stay : (n p : ℕ) → listingAfter b path list (Refused n p) ≡ list
+  unfolding listingAfter
+  refused-stay n p = refl
+
+-- a well-formed path is refused exactly when the matches outnumber the places, with 25 and their number
+module _ (b path : List ℕ) (room : ℕ) (ok : Clean (pathChecks path)) where
+  pub room-fits : length (pathMatches b path) ≤ room / 4 → Clean (pathChecks path ++ listingChecks b path room)
+  unfolding listingChecks
+  room-fits h = fault-append _ _ ok ∙ pass _ _ _ _ _ h ∙ fault-none
+
+  pub room-over : room / 4 < length (pathMatches b path) → firstFault (pathChecks path ++ listingChecks b path room) ≡ Refused 25 (length (pathMatches b path))
+  unfolding listingChecks
+  room-over h = fault-append _ _ ok ∙ stop _ _ _ _ _ (λ l. omega arith)
+
+  pub room-iff : (n p : ℕ) → (firstFault (pathChecks path ++ listingChecks b path room) ≡ Refused n p)
+      ↔ ((room / 4 < length (pathMatches b path)) × (n ≡ 25) × (p ≡ length (pathMatches b path)))
+  room-iff n p = (
+    λ e. by-cases (decLe (length (pathMatches b path)) (room / 4))
+        (λ l. absurd (never e (room-fits l)))
+        (λ f. let g = room-over (omega arith) in (omega arith, (cc), (cc))),
+    λ w. let g = room-over (w .0) in let x = w .1 in let y = w .2 in cc,
+  )

@@ -1,0 +1,12 @@
+pub mod Found
+pub mod Listed
+pub mod Few
+pub mod Written
+pub mod Demand
+pub mod Formed
+pub mod Split
+pub mod Bearers
+pub mod Indices
+pub mod Lookups
+pub mod Turns
+pub mod Answers

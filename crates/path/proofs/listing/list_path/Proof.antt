@@ -1,0 +1,93 @@
+use native.Mathlib.Omega.{arith}
+use borrow.Author.Needs.{needs}
+use mathlib.Core.Path.{_≡_, sym, ap, _∙_}
+use borrow.Author.Tests.{not-true, not-false}
+use lib.ListN.{length}
+use Rattle.verdict.proofs.Laws.{Clean}
+use Rattle.strings.proofs.Accepted.{strings-iff}
+use Rattle.tree.specs.File.{treeOf}
+use Rattle.path.specs.Names.{pathChecks}
+use Rattle.path.specs.Listing.{pathMatches}
+use Rattle.path.specs.Indices.{matchesAt, indicesFrom}
+use Rattle.path.proofs.Few.{few}
+use Rattle.path.proofs.Answers.{path-refused, too-many, all-listed, none-match, matches-unknown, matches-known, root-place}
+use Rattle.path.proofs.listing.list_path.Statement.{statement}
+use Rattle.path.proofs.listing.list_path.Tie as tie
+
+-- the path is well formed
+formed : (c : tie.After-enum-told) → Clean (pathChecks (c .before .before .before .before .before .before .before .args .path .now))
+formed c = sym (c .before .before .check-path .ensures) ∙ c .enum-told .given .1
+
+-- the code's matches are the path's
+found : (c : tie.Else1)
+    → let a = c .before .before .before .before .before .before .before .before .before .before .args in
+    let w = c .before .before .find-names .result in
+    matchesAt (treeOf (a .b .now)) (indicesFrom (w .indices) (w .count) 0) 0 ≡ pathMatches (a .b .now) (a .path .now)
+found c = matches-known _ _ (c .before .before .before .before .before .before .before .before .before .before .pre .4) _ (c .before .before .find-names .ensures) (not-false _ (c .if1 .left))
+
+check-path-requires : tie.Need-check-path-requires
+check-path-requires c κs = search needs
+
+enum-known-c : tie.Need-enum-known-c
+enum-known-c c = search needs
+
+returns : tie.Need-returns
+returns c = path-refused _ _ _ (sym (c .before .before .before .check-path .ensures) ∙ c .before .c .given .1)
+
+enum-told : tie.Need-enum-told
+enum-told c = search needs
+
+find-names-requires : tie.Need-find-names-requires
+find-names-requires c κs = let s = c .before .before .before .before .before .before .before in (s .pre .0, s .pre .1, s .pre .2, strings-iff _ .1 (s .pre .4 .name-table), formed c)
+
+returns-2 : tie.Need-returns-2
+returns-2 c = none-match _ _ _ (formed (c .before .before .before)) (matches-unknown _ _ (c .before .before .before .before .before .before .before .before .before .before .pre .4) _ (c .before .before .find-names .ensures) (not-true _ (c .if1 .taken)))
+
+add-root : tie.Need-add-root
+add-root c =
+    let g = c .before .before .before .before .before .before .before .before .before .before .before .before .pre .3 in
+    record { fits = omega (arith, g .nodes .short, g .nodes .at-is, g .laid .nodes .head) }
+
+count-below-requires : tie.Need-count-below-requires
+count-below-requires c κs =
+    let s = c .before .before .before .before .before .before .before .before .before .before .before .before .before in
+    let w = c .before .before .before .before .before .find-names .ensures in (
+      (s .pre .3, s .pre .4 .nodes .root, root-place (s .pre .3)),
+      (w .long, omega arith, w .few, omega (arith, ap length (found (c .before .before .before)), few _ (s .pre .4) (s .args .path .now))),
+    )
+
+returns-3 : tie.Need-returns-3
+returns-3 c = too-many _ _ _ (formed (c .before .before .before .before .before .before .before .before)) _ (c .before .count-below .ensures ∙ ap length (found (c .before .before .before .before .before))) (c .if2 .taken)
+
+write-below-requires : tie.Need-write-below-requires
+write-below-requires c κs =
+    let s = c .before .before .before .before .before .before .before .before .before .before .before .before .before .before .before .before .before in
+    let w = c .before .before .before .before .before .before .before .before .before .find-names .ensures in (
+      (s .pre .3, s .pre .4 .nodes .root, root-place (s .pre .3)),
+      (w .long, omega arith, w .few, omega (arith, c .before .before .if2 .left, c .before .before .before .count-below .ensures)),
+    )
+
+same-length : tie.Need-same-length
+same-length c = search needs
+
+returns-4 : tie.Need-returns-4
+returns-4 c =
+    let w = c .before .before .write-below .ensures in
+    all-listed _ _ _ (formed (c .before .before .before .before .before .before .before .before .before .before .before .before .before)) _ _ _ (found (c .before .before .before .before .before .before .before .before .before .before)) (omega (arith, c .before .before .before .before .before .if2 .left, c .before .before .before .before .before .before .count-below .ensures)) (w .0) (w .1)
+
+pub list-path-spec : {M : Type 1} → statement M
+list-path-spec =
+    tie.close
+    (tie.spec
+    check-path-requires
+    enum-known-c
+    returns
+    enum-told
+    find-names-requires
+    returns-2
+    add-root
+    count-below-requires
+    returns-3
+    write-below-requires
+    same-length
+    returns-4)

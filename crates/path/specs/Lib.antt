@@ -1,0 +1,5 @@
+pub mod Names
+pub mod Matches
+pub mod Listing
+pub mod Indices
+pub mod Answer

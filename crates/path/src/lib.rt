@@ -1,0 +1,4 @@
+// Path listing in an accepted file (01, "Questions").
+pub mod below;
+pub mod listing;
+pub mod names;

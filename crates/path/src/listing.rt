@@ -1,0 +1,69 @@
+// The listing of a path's matches.
+ghost use mathlib.Core.Path.{_≡_};
+ghost use lib.ListN.{length};
+ghost use Rattle.hash.specs.Table.{Tables};
+ghost use Rattle.layout.specs.Layout.{names};
+ghost use Rattle.strings.specs.Held.{Held, heldTable};
+ghost use Rattle.tree.specs.Outcome.{TreeReady};
+ghost use Rattle.accept.specs.Rules.{FileRules};
+ghost use Rattle.path.specs.Listing.{listingAfter};
+ghost use Rattle.path.specs.Answer.{PathListed};
+use crate::below;
+use crate::names;
+use region::Region;
+use strings::Strings;
+use verdict::Verdict;
+
+// Refusal 24 or 25, or the number of matches.
+pub struct Listing {
+    pub answer: Verdict,
+    pub matches: usize,
+}
+
+// Lists the matches of a path in a file that is accepted; both passes go down the same nodes, so nothing is written unless all fit.
+pub fn list_path(
+    b: &[u8],
+    t: &[u32; 512],
+    s: Strings,
+    samples: &[u32; 256],
+    buckets: &[u32],
+    nodes: Region,
+    starts: &[u32; 256],
+    path: &[u8],
+    list: &mut [u8],
+) -> Listing
+    requires { ⌜ Tables (now t) × Held (now b) s (now samples) (now buckets) × (heldTable (now b) s (now buckets) ≡ names (now b))
+        × TreeReady (now b) nodes (now starts) × FileRules (now b) ⌝ }
+    ensures answer { λ r. ⌜ PathListed (now (b .entry)) (now (path .entry)) (length (now (list .entry))) r ⌝ }
+    ensures listing { λ r. ⌜ now (list .exit) ≡ listingAfter (now (b .entry)) (now (path .entry)) (now (list .entry)) (r .answer) ⌝ }
+{
+    let c = names::check_path(path);
+    if let Verdict::Refused(num, place) = c {
+        return Listing {
+            answer: Verdict::Refused(num, place),
+            matches: 0,
+        };
+    }
+    let w = names::find_names(b, t, s, samples, buckets, path);
+    if !w.known {
+        return Listing {
+            answer: Verdict::Accepted,
+            matches: 0,
+        };
+    }
+    let n = w.count;
+    let indices = w.indices;
+    let root = nodes.at + 12;
+    let k = below::count_below(b, nodes, starts, &indices, n, 0, 0, root);
+    if list.len() / 4 < k {
+        return Listing {
+            answer: Verdict::Refused(25, k),
+            matches: 0,
+        };
+    }
+    let m = below::write_below(b, nodes, starts, &indices, n, 0, 0, root, list, 0);
+    Listing {
+        answer: Verdict::Accepted,
+        matches: m,
+    }
+}

@@ -1,0 +1,92 @@
+// The names of a path, looked up once.
+ghost use mathlib.Core.Path.{_≡_};
+ghost use Prim.Native.Nat.{_%_, _<_};
+ghost use lib.ListN.{length};
+ghost use Rattle.verdict.specs.Checks.{firstFault};
+ghost use Rattle.verdict.specs.declared.Verdict.the-variants.{Accepted};
+ghost use Rattle.hash.specs.Table.{Tables};
+ghost use Rattle.layout.specs.Layout.{names};
+ghost use Rattle.strings.specs.Order.{stringChecks};
+ghost use Rattle.strings.specs.Held.{Held, heldTable};
+ghost use Rattle.path.specs.Names.{pathChecks};
+ghost use Rattle.path.specs.Indices.{NameEnd, WantedIs};
+use lookup::Lookup;
+use strings::Strings;
+use verdict::Verdict;
+
+// The indices of the first `count` names; known is false where no node can bear the names.
+pub struct Wanted {
+    pub known: bool,
+    pub count: usize,
+    pub indices: [u32; 64],
+}
+
+// Refusal 24 of a path.
+pub fn check_path(path: &[u8]) -> Verdict
+    ensures { λ r. ⌜ r ≡ firstFault (pathChecks (now (path .entry))) ⌝ }
+{
+    let n = path.len();
+    if n % 2 != 0 {
+        return Verdict::Refused(24, n);
+    }
+    if n != 0 {
+        if le::u16_at(path, n - 2) != 0 {
+            return Verdict::Refused(24, n);
+        }
+    }
+    Verdict::Accepted
+}
+
+// Where the name that starts at an offset ends: the offset of its 0.
+fn name_end(path: &[u8], at: usize) -> usize
+    requires { ⌜ (firstFault (pathChecks (now path)) ≡ Accepted) × (at % 2 ≡ 0) × (at < length (now path)) ⌝ }
+    ensures { λ r. ⌜ NameEnd (now (path .entry)) at r ⌝ }
+{
+    let mut e = at;
+    while le::u16_at(path, e) != 0 {
+        e += 2;
+    }
+    e
+}
+
+// The indices of a path's names.
+pub fn find_names(
+    b: &[u8],
+    t: &[u32; 512],
+    s: Strings,
+    samples: &[u32; 256],
+    starts: &[u32],
+    path: &[u8],
+) -> Wanted
+    requires { ⌜ Tables (now t) × Held (now b) s (now samples) (now starts) × (heldTable (now b) s (now starts) ≡ names (now b))
+        × (firstFault (stringChecks (names (now b))) ≡ Accepted) × (firstFault (pathChecks (now path)) ≡ Accepted) ⌝ }
+    ensures { λ r. ⌜ WantedIs (now (b .entry)) (now (path .entry)) r ⌝ }
+{
+    let mut indices = [0u32; 64];
+    let mut known = true;
+    let mut n = 0usize;
+    let mut at = 0;
+    while at < path.len() {
+        if n == 63 {
+            known = false;
+            break;
+        }
+        let e = name_end(path, at);
+        match lookup::find_name(b, t, s, samples, starts, path, at, (e - at) / 2) {
+            Lookup::Found(i) => {
+                indices[n] = i as u32;
+            }
+            Lookup::Absent => {
+                known = false;
+                break;
+            }
+        }
+        n += 1;
+        at = e + 2;
+    }
+    Wanted {
+        known,
+        count: n,
+        indices,
+    }
+}
