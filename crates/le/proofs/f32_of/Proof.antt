@@ -1,21 +1,15 @@
 use lib.Ieee.{div, ofBits, binary32}
 use Rattle.le.proofs.Nan.{no-nan, a-nan}
-use native.Mathlib.Omega.{arith}
 use borrow.Author.Needs.{needs}
 use Rattle.le.proofs.f32_of.Statement.{statement}
 use Rattle.le.proofs.f32_of.Tie as tie
-use Rattle.le.proofs.f32_of.Reads as reads
-use Rattle.le.proofs.f32_of.Lts as lts
 
--- src/lib.rt:51:9
 float-from-bits-result : tie.Need-float-from-bits-result
 float-from-bits-result c = no-nan binary32 (c .before .args .bits) (c .if1 .taken)
 
--- src/lib.rt:47:1
 returns : tie.Need-returns
 returns c = search needs
 
--- src/lib.rt:47:1
 returns-2 : tie.Need-returns-2
 unfolding div ofBits
 returns-2 c = a-nan binary32 (c .before .args .bits) (c .if1 .left)

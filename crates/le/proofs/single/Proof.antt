@@ -1,4 +1,3 @@
-use mathlib.Core.Path.{_≡_}
 use Rattle.le.specs.Floats.{singleOf}
 use borrow.Author.Needs.{needs}
 use Rattle.le.proofs.single.Statement.{statement}
