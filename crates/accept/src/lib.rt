@@ -58,7 +58,7 @@ fn judge(b: &[u8], v: View, ws: &mut [u8]) -> Verdict
     let attribute_starts = v.attribute_starts;
     let node_starts = v.node_starts;
     let node_counts = v.node_counts;
-    let f = nodes::all::check_nodes(
+    let f = prefetch::all::check_nodes(
         b,
         &t,
         p,

@@ -26,6 +26,9 @@ module _ (size : ℕ) (b : List ℕ) (r seg el n m : ℕ) (c : n ≡ m) (p : Pla
     found : Ranges size b r seg el n × (q ≡ placeOf size b r seg el)
     found = range-at-in size b r seg el n (sym f ∙ e)
 
+    pub sought-range : Ranges size b r seg el n
+    sought-range = found .0
+
     pub sought-in : Reaches size b r seg el m
     sought-in = inr (subst (Ranges size b r seg el) c (found .0))
 

@@ -8,6 +8,10 @@ use Rattle.layout.specs.Layout.{nodeSize}
 use Rattle.layout.specs.Table.{Table, entries, hashOf, segmentOf, elementOf}
 use Rattle.nodes.specs.Node.{nodeName, Live}
 
+-- Where r is true, P holds; where it is not, nothing is told.
+abbrev pub Sure : Type 0 → Bool → Type 0
+Sure P r = r ≡ true → P
+
 -- An entry of bucket k has the address seg:el; or none with hash h does.
 pub record AddressIn (t : Table) (k h seg el : ℕ) (r : Bool) : Type 0 where
   pub so : r ≡ true → SomeBelow (entries t k) (λ j. (segmentOf t k j ≡ seg) × (elementOf t k j ≡ el))

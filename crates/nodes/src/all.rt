@@ -2,6 +2,8 @@
 ghost use mathlib.Core.Path.{_≡_};
 ghost use Rattle.verdict.specs.Checks.{firstFault};
 ghost use Rattle.hash.specs.Table.{Tables};
+ghost use Rattle.nodes.specs.Rules.{TextsRight};
+ghost use Rattle.nodes.specs.Search.{Sure};
 ghost use Rattle.nodes.specs.Order.{allNodeChecks};
 ghost use Rattle.nodes.specs.Held.{Ready};
 use crate::node;
@@ -9,7 +11,7 @@ use keys::Names;
 use layout::Places;
 use verdict::Verdict;
 
-// Refusals 16 to 19 and 23 of every used node, up to the first fault.
+// Refusals 16 to 19 and 23 of every used node, up to the first fault; 19 may be known not to be due to any.
 pub fn check_nodes(
     b: &[u8],
     t: &[u32; 512],
@@ -19,8 +21,9 @@ pub fn check_nodes(
     node_starts: &[u32; 256],
     value_starts: &[u32; 256],
     value_buckets: &[u32],
+    known: bool,
 ) -> Verdict
-    requires { ⌜ Tables (now t) × Ready (now b) p names (now «attribute_starts») (now «node_starts») (now «value_starts») (now «value_buckets») ⌝ }
+    requires { ⌜ Tables (now t) × Ready (now b) p names (now «attribute_starts») (now «node_starts») (now «value_starts») (now «value_buckets») × Sure (TextsRight (now b)) known ⌝ }
     ensures { λ r. ⌜ r ≡ firstFault (allNodeChecks (now (b .entry))) ⌝ }
 {
     let nodes = p.nodes;
@@ -50,6 +53,7 @@ pub fn check_nodes(
                 seg,
                 el,
                 x,
+                known,
             ) {
                 Verdict::Accepted => {}
                 Verdict::Refused(num, place) => {

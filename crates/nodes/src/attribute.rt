@@ -11,9 +11,9 @@ ghost use Rattle.strings.specs.Held.{Held, heldTable};
 ghost use Rattle.keys.specs.Known.{Known};
 ghost use Rattle.nodes.specs.Node.{attributeCount, attributeAt};
 ghost use Rattle.nodes.specs.Attribute.{Typed};
-ghost use Rattle.nodes.specs.Rules.{AttributeRule, TextRight};
+ghost use Rattle.nodes.specs.Rules.{AttributeRule, TextRight, TextsOf};
 ghost use Rattle.nodes.specs.Order.{nodeAttributeChecks};
-ghost use Rattle.nodes.specs.Search.{AddressIn};
+ghost use Rattle.nodes.specs.Search.{Sure, AddressIn};
 use keys::Names;
 use strings::Strings;
 use strings::entry;
@@ -75,7 +75,7 @@ fn attribute_right(b: &[u8], names: Names, p: usize, i: usize, q: usize) -> bool
 }
 
 // Whether an entry of bucket k with hash h has the address seg:el.
-fn address_in(
+pub fn address_in(
     b: &[u8],
     s: Strings,
     samples: &[u32; 256],
@@ -137,7 +137,27 @@ fn text_right(
     address_in(b, s, samples, starts, k, h.hash, seg, el)
 }
 
-// Refusals 18 and 19 of the attributes of the node at p, the first of which stands at a.
+// The same where it may be known of the attribute already.
+fn text_passes(
+    b: &[u8],
+    t: &[u32; 512],
+    s: Strings,
+    samples: &[u32; 256],
+    starts: &[u32],
+    q: usize,
+    known: bool,
+) -> bool
+    requires { ⌜ Tables (now t) × Held (now b) s (now samples) (now starts) × (heldTable (now b) s (now starts) ≡ values (now b))
+        × (firstFault (stringChecks (values (now b))) ≡ Accepted) × (q + 12 ≤ length (now b)) × Sure (TextRight (now b) q) known ⌝ }
+    ensures { λ r. ⌜ Tells (TextRight (now (b .entry)) q) r ⌝ }
+{
+    if known {
+        return true;
+    }
+    text_right(b, t, s, samples, starts, q)
+}
+
+// Refusals 18 and 19 of the attributes of the node at p, the first of which stands at a; 19 may be known not to be due.
 pub fn check_attributes(
     b: &[u8],
     t: &[u32; 512],
@@ -148,10 +168,11 @@ pub fn check_attributes(
     p: usize,
     a: usize,
     n: usize,
+    known: bool,
 ) -> Verdict
     requires { ⌜ Tables (now t) × Known (now b) names × Held (now b) s (now samples) (now starts)
         × (heldTable (now b) s (now starts) ≡ values (now b)) × (firstFault (stringChecks (values (now b))) ≡ Accepted) ⌝ }
-    requires { ⌜ (n ≡ attributeCount (now b) p) × (a ≡ attributeAt (now b) p 0) × (a + n * 12 ≤ length (now b)) ⌝ }
+    requires { ⌜ (n ≡ attributeCount (now b) p) × (a ≡ attributeAt (now b) p 0) × (a + n * 12 ≤ length (now b)) × Sure (TextsOf (now b) p n) known ⌝ }
     ensures { λ r. ⌜ r ≡ firstFault (nodeAttributeChecks (now (b .entry)) p) ⌝ }
 {
     let mut i = 0;
@@ -160,7 +181,7 @@ pub fn check_attributes(
         if !attribute_right(b, names, p, i, q) {
             return Verdict::Refused(18, q);
         }
-        if !text_right(b, t, s, samples, starts, q) {
+        if !text_passes(b, t, s, samples, starts, q, known) {
             return Verdict::Refused(19, q);
         }
         i += 1;

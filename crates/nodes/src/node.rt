@@ -10,8 +10,8 @@ ghost use Rattle.layout.specs.Header.{keyCount};
 ghost use Rattle.layout.specs.Layout.{nodeSize, nodesAt};
 ghost use Rattle.keys.specs.Known.{Known};
 ghost use Rattle.nodes.specs.Node.{nodeAt, childAt, childCount, nodeName, Live};
-ghost use Rattle.nodes.specs.Rules.{NodeRule, ChildRule};
-ghost use Rattle.nodes.specs.Search.{Rising};
+ghost use Rattle.nodes.specs.Rules.{NodeRule, TextsRight, ChildRule};
+ghost use Rattle.nodes.specs.Search.{Sure, Rising};
 ghost use Rattle.nodes.specs.Order.{nodeChecks};
 ghost use Rattle.nodes.specs.Held.{Ready};
 use crate::attribute;
@@ -94,7 +94,7 @@ fn children_right(b: &[u8], nodes: Region, starts: &[u32; 256], p: usize) -> boo
     }
 }
 
-// Refusals 16 to 19 and 23 of node seg:el, which stands at x.
+// Refusals 16 to 19 and 23 of node seg:el, which stands at x; 19 may be known not to be due.
 pub fn check_node(
     b: &[u8],
     t: &[u32; 512],
@@ -107,9 +107,10 @@ pub fn check_node(
     seg: usize,
     el: usize,
     x: usize,
+    known: bool,
 ) -> Verdict
     requires { ⌜ Tables (now t) × Ready (now b) p names (now «attribute_starts») (now «node_starts») (now «value_starts») (now «value_buckets»)
-        × Resolves nodeSize (now b) (nodesAt (now b)) seg el × (x ≡ nodeAt (now b) seg el) ⌝ }
+        × Resolves nodeSize (now b) (nodesAt (now b)) seg el × (x ≡ nodeAt (now b) seg el) × Sure (TextsRight (now b)) known ⌝ }
     ensures { λ r. ⌜ r ≡ firstFault (nodeChecks (now (b .entry)) seg el) ⌝ }
 {
     if !node_right(b, names, p.keys, seg, el, x) {
@@ -137,7 +138,18 @@ pub fn check_node(
             chars,
             list: p.value_list,
         };
-        let v = attribute::check_attributes(b, t, names, s, value_starts, value_buckets, x, a, n);
+        let v = attribute::check_attributes(
+            b,
+            t,
+            names,
+            s,
+            value_starts,
+            value_buckets,
+            x,
+            a,
+            n,
+            known,
+        );
         if let Verdict::Refused(num, place) = v {
             return Verdict::Refused(num, place);
         }

@@ -13,7 +13,7 @@ use Rattle.nodes.specs.Node.{attributeSegment, attributeElement, attribu
 use Rattle.nodes.specs.Rules.{NodeRule, AttributesReach}
 use Rattle.nodes.specs.Order.{nodeAttributeChecks}
 use Rattle.nodes.proofs.Sought.{lent}
-use Rattle.nodes.proofs.Ways.{node-fits, live-node, attribute-count, attributes-sought, attributes-none, attributes-nowhere, attributes-reach, attributes-fit, attributes-start, refused-16, refused-17, refused-attribute, refused-23, node-passes, nameless-passes}
+use Rattle.nodes.proofs.Ways.{node-fits, live-node, attribute-count, attributes-sought, attributes-none, attributes-nowhere, attributes-reach, attributes-fit, attributes-start, attributes-known, refused-16, refused-17, refused-attribute, refused-23, node-passes, nameless-passes}
 use Rattle.nodes.proofs.node.check_node.Statement.{statement}
 use Rattle.nodes.proofs.node.check_node.Tie as tie
 
@@ -95,7 +95,7 @@ check-attributes-requires c κs = let s = c .before .before .before .before .bef
     let n = count (c .before .before .before .before .before .before .before .before) in
     let f = range (c .before .before .before .before) in
     let e = c .before .before .r .given .1 in
-    ((s .pre .0, y .known, y .strings, y .table, y .accepted), (n, attributes-start _ _ _ n _ f _ e, attributes-fit _ _ _ n _ f _ e (y .laid .attributes)))
+    ((s .pre .0, y .known, y .strings, y .table, y .accepted), (n, attributes-start _ _ _ n _ f _ e, attributes-fit _ _ _ n _ f _ e (y .laid .attributes), λ z. attributes-known _ _ _ n _ f _ e (s .pre .4 z)))
 
 enum-known-v : tie.Need-enum-known-v
 enum-known-v c = search needs

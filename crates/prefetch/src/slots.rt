@@ -1,0 +1,31 @@
+// The text attributes of a batch.
+ghost use mathlib.Core.Path.{_≡_};
+ghost use Prim.Native.Nat.{_+_, _*_, _≤_, _<_, _^_};
+ghost use lib.ListN.{length};
+ghost use Rattle.prefetch.specs.Slots.{TakenFrom};
+
+// How many slots are taken, and the element to go on with.
+pub struct Taken {
+    pub count: usize,
+    pub next: usize,
+}
+
+// Takes the texts among the attributes of a row from element el on, until the slots are full or the row ends. A slot is written before it
+// is known whether it is kept: texts come and go too irregularly for a branch.
+pub fn take(b: &[u8], first: usize, el: usize, used: usize, slots: &mut [u32; 64]) -> Taken
+    requires { ⌜ (first + used * 12 ≤ length (now b)) × (length (now b) < 2 ^ 32) × (el ≤ used) × (length (now slots) ≡ 64) ⌝ }
+    ensures { λ r. ⌜ TakenFrom (now (b .entry)) first el used r (now (slots .exit)) ⌝ }
+{
+    let mut n = 0;
+    let mut e = el;
+    while e < used {
+        if n == 64 {
+            return Taken { count: n, next: e };
+        }
+        let q = first + e * 12;
+        slots[n] = q as u32;
+        n += words::kind(le::u16_at(b, q + 2)) / 3;
+        e += 1;
+    }
+    Taken { count: n, next: e }
+}
