@@ -1,3 +1,4 @@
 pub mod Laws
 pub mod Asked
 pub mod Listed
+pub mod Outlined

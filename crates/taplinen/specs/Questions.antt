@@ -13,6 +13,8 @@ use Rattle.path.specs.Listing.{pathMatches, listingChecks, listingAfter}
 use Rattle.tree.specs.File.{usedNodes}
 use Rattle.tree.specs.Outcome.{workspaceAfter}
 use Rattle.accept.specs.Verdict.{acceptChecks, verdictOf}
+use Rattle.outline.specs.Outline.{outlineOf}
+use Rattle.outline.specs.Outlined.{outlineChecks, outlineAfter}
 use Rattle.taplinen.specs.Answers.{answered, kindOf, numberOf, reported}
 use Rattle.taplinen.specs.declared.answer.Answer.{Answer}
 use Rattle.taplinen.specs.declared.header.HeaderReport.{HeaderReport}
@@ -53,3 +55,15 @@ pathAnswer b room path list = answered (pathVerdict b room path list) 0 (length 
 -- What it leaves in the listing.
 unfoldable pub pathListing : List ℕ → ℕ → List ℕ → List ℕ → List ℕ
 pathListing b room path list = listingAfter b path list (pathVerdict b room path (length list))
+
+-- Acceptance's refusals, then 26.
+unfoldable pub outlineVerdict : List ℕ → ℕ → ℕ → Verdict
+outlineVerdict b room out = firstFault (acceptChecks b room ++ outlineChecks b out)
+
+-- Outline: its length.
+unfoldable pub outlineAnswer : List ℕ → ℕ → ℕ → Answer
+outlineAnswer b room out = answered (outlineVerdict b room out) 0 (length (outlineOf b))
+
+-- What it leaves in the buffer.
+unfoldable pub outlineBuffer : List ℕ → ℕ → List ℕ → List ℕ
+outlineBuffer b room out = outlineAfter b out (outlineVerdict b room (length out))

@@ -1,4 +1,5 @@
 // The exported library: questions on a lent file, a workspace and lent buffers, for C. Callers check nothing first.
 pub mod answer;
 pub mod header;
+pub mod outlines;
 pub mod questions;

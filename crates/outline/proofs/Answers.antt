@@ -1,0 +1,76 @@
+-- The root, and writing the outline by its ways out. Assumes nothing.
+use Prim.Native.Nat.{ℕ, _+_, _≤_, _<_}
+use native.Mathlib.Omega.{arith}
+use mathlib.Core.Path.{_≡_, refl, ap, sym, _∙_}
+use mathlib.Core.List.{List, _++_}
+use lib.ListN.{length, drop}
+use Rattle.verdict.specs.declared.Verdict.the-variants.{Accepted, Refused}
+use Rattle.verdict.proofs.Laws.{never, pass, stop, fault-none}
+use Rattle.region.specs.Region.{placeOf, startOf}
+use Rattle.layout.specs.declared.Places.{Places}
+use Rattle.nodes.specs.Node.{Live, nodeName, nodeAt}
+use Rattle.tree.specs.File.{nodeOf, Used}
+use Rattle.accept.specs.Rules.{FileRules}
+use Rattle.print.specs.Put.{Put}
+use Rattle.print.proofs.Puts.{put-length, put-front}
+use Rattle.outline.specs.Outline.{block, outlineOf}
+use Rattle.outline.specs.Outlined.{outlineChecks, outlineAfter}
+use Rattle.outline.specs.Answer.{OutlineWritten}
+use Rattle.outline.specs.Ready.{OutlineReady}
+use Rattle.outline.specs.declared.Outlined.{Outlined}
+use Rattle.outline.proofs.Fits.{outline-fits}
+
+-- ---- the root: where it stands, and that it is live
+
+module _ {b : List ℕ} {p : Places} {xs ns vs ms : List ℕ} (r : OutlineReady b p xs ns vs ms) where
+  pub root-place : p .nodes .at + 12 ≡ nodeOf b 0
+  unfolding nodeOf nodeAt placeOf startOf
+  root-place = omega (arith, r .line .placed .nodes .at-is)
+
+  pub root-used : Used b 0
+  root-used = r .line .rules .nodes .root
+
+  pub root-live : Live b (p .nodes .at + 12)
+  unfolding nodeOf
+  root-live z =
+      let k = r .line .rules .nodes .each 0 0 (r .line .rules .nodes .root) .node .root refl refl .named .low in
+      omega (arith, ap (nodeName b) root-place)
+
+-- ---- the ways out
+
+-- the answer, and what is left in the buffer
+abbrev pub Answered : List ℕ → List ℕ → Outlined → List ℕ → Type 0
+Answered b out r out′ = OutlineWritten b (length out) r × (out′ ≡ outlineAfter b out (r .answer))
+
+module _ {b : List ℕ} (g : FileRules b) where
+  pub length-told : {d d′ : List ℕ} {n : ℕ} → Put d 0 (block b 63 0 0) n d′ → n ≡ length (outlineOf b)
+  unfolding outlineOf
+  length-told w = put-length w (omega (arith, outline-fits b g))
+
+  module _ (out : List ℕ) where
+    whole : {k : ℕ} {d : List ℕ} → Put out 0 (block b 63 0 0) k d → length (outlineOf b) ≤ length out → d ≡ outlineOf b ++ drop (length (outlineOf b)) out
+    unfolding outlineOf
+    whole v l = put-front v l
+
+    pub too-long : {n : ℕ} → n ≡ length (outlineOf b) → length out < n → Answered b out (record { answer = Refused 26 n; length = 0 }) out
+    unfolding outlineAfter outlineChecks
+    too-long {n} e h = (
+      record {
+        answer = ap (Refused 26) e ∙ sym (stop _ _ _ _ _ (λ z. omega arith));
+        long = λ z. absurd (never refl z);
+        none = λ m q z. refl;
+      },
+      refl,
+    )
+
+    pub all-written : {n m : ℕ} {out′ : List ℕ} → n ≡ length (outlineOf b) → n ≤ length out → Put out 0 (block b 63 0 0) m out′
+        → Answered b out (record { answer = Accepted; length = m }) out′
+    unfolding outlineAfter outlineChecks
+    all-written {n} e h w = (
+      record {
+        answer = sym (pass _ _ _ _ _ (omega arith) ∙ fault-none);
+        long = λ z. length-told w;
+        none = λ k q z. absurd (never z refl);
+      },
+      whole w (omega arith),
+    )

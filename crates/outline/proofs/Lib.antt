@@ -1,0 +1,11 @@
+pub mod Chains
+pub mod Listed
+pub mod Levels
+pub mod Widths
+pub mod Fits
+pub mod Rules
+pub mod Kin
+pub mod Addressed
+pub mod Written
+pub mod Parts
+pub mod Answers

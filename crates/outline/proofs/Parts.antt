@@ -1,0 +1,113 @@
+-- Attributes and children, as the code goes along them, and a block by its parts. Assumes nothing.
+use Prim.Native.Nat.{ℕ, zero, suc, _+_, _-_, _*_, _<_}
+use native.Mathlib.Nat.{zero-add}
+use native.Mathlib.Numerals.{sub-one}
+use native.Mathlib.Omega.{arith}
+use mathlib.Core.Path.{_≡_, refl, ap, sym, _∙_}
+use mathlib.Core.List.{List, [], _++_}
+use borrow.Author.Tests.{eq-eqb, ne-eqb}
+use Rattle.le.specs.Le.{u16At}
+use Rattle.region.specs.Region.{rangeAt}
+use Rattle.region.specs.Samples.{Mapped, Starts}
+use Rattle.region.specs.declared.Place.{Place}
+use Rattle.region.specs.declared.Place.the-variants.{At, Nowhere}
+use Rattle.region.proofs.Laws.{place-row}
+use Rattle.layout.specs.Layout.{attributeSize, attributesAt}
+use Rattle.layout.specs.declared.Places.{Places}
+use Rattle.nodes.specs.Node.{nodeName, attributeSegment, attributeElement, attributeCount, attributeAt}
+use Rattle.nodes.proofs.Sought.{lent}
+use Rattle.nodes.proofs.Ways.{attribute-count, attributes-sought, attributes-nowhere, attributes-start}
+use Rattle.tree.specs.Chain.{ranged}
+use Rattle.tree.specs.File.{nodeOf, treeOf}
+use Rattle.print.proofs.Puts.{Left}
+use Rattle.outline.specs.Outline.{attributeText, line, shown, block}
+use Rattle.outline.specs.Ready.{AttributeReady, NodeReady, LineReady, Row, ChildrenOf}
+use Rattle.outline.specs.declared.blocks.Children.{Children}
+
+-- what is left of a run, with the place and the buffer by other names
+pub left-same : {d d′ d″ : List ℕ} {i p q : ℕ} {s t : List ℕ} → Left d i s p t d′ → q ≡ p → d″ ≡ d′ → Left d i s q t d″
+left-same l e f = rw (e, f) l
+
+-- ---- attributes
+
+-- the attributes of the node at x: how many, and where each stands
+pub record Attributes (b : List ℕ) (x n q : ℕ) : Type 0 where
+  pub count : n ≡ attributeCount b x
+  pub place : (i : ℕ) → q + i * 12 ≡ attributeAt b x i
+
+attribute-row : (b : List ℕ) (x i : ℕ) → attributeAt b x 0 + i * 12 ≡ attributeAt b x i
+unfolding attributeAt attributeSize
+attribute-row b x i =
+    let e = place-row 12 b (attributesAt b) (attributeSegment b x) (attributeElement b x) 0 in
+    let f = place-row 12 b (attributesAt b) (attributeSegment b x) (attributeElement b x) i in
+    omega arith
+
+pub regions : {b : List ℕ} {p : Places} {xs vs ns : List ℕ} → LineReady b p xs vs ns
+    → Mapped 12 b (p .attributes .at) (p .attributes) × Starts 12 b (p .attributes .at) (p .attributes .shift) xs
+unfolding attributeSize
+regions g = lent (g .placed .attributes) (g .attributes)
+
+module _ {b : List ℕ} {p : Places} {xs vs ns : List ℕ} (g : LineReady b p xs vs ns) {x : ℕ} (k : NodeReady b x) where
+  pub attributes-count : {n : ℕ} → n ≡ u16At b (x + 4) → n ≡ attributeCount b x
+  attributes-count {n} e = attribute-count b x (k .live) n e
+
+  module _ {n seg el : ℕ} (c : n ≡ u16At b (x + 4)) (s : seg ≡ u16At b (x + 8)) (l : el ≡ u16At b (x + 10)) {r : Place} (f : r ≡ rangeAt 12 b (p .attributes .at) seg el n) where
+    sought : r ≡ rangeAt attributeSize b (attributesAt b) (attributeSegment b x) (attributeElement b x) n
+    sought = attributes-sought b x n (p .attributes) (g .placed .attributes) seg el s l r f
+
+    pub attributes-lost : (n ≡ 0 → ⊥) → r ≡ Nowhere → ⊥
+    attributes-lost z e = attributes-nowhere b x n (attributes-count c) r sought (omega arith) e (k .attributes)
+
+    pub attributes-at : {q : ℕ} → r ≡ At q → Attributes b x n q
+    attributes-at {q} e = record {
+      count = attributes-count c;
+      place = λ i. ap (λ (y : ℕ). y + i * 12) (attributes-start b x n (attributes-count c) r sought q e) ∙ attribute-row b x i;
+    }
+
+-- one of them
+module _ {b : List ℕ} {x n q : ℕ} (t : Attributes b x n q) (i : ℕ) (h : i < n) where
+  pub attribute-ready : NodeReady b x → AttributeReady b (q + i * 12)
+  attribute-ready k = rw (t .place i) (k .attribute i (omega (arith, t .count)))
+
+pub attribute-text : {b : List ℕ} {x n q : ℕ} → Attributes b x n q → (i : ℕ) → attributeText b (q + i * 12) ≡ attributeText b (attributeAt b x (0 + i))
+attribute-text {b} {x} {n} {q} t i = ap (attributeText b) (t .place i ∙ ap (attributeAt b x) (sym (zero-add i)))
+
+-- ---- children
+
+module _ (b : List ℕ) (f : ℕ → List ℕ) (c : ℕ) where
+  pub shown-live : (treeOf b .name c ≡ 0 → ⊥) → f c ≡ shown b f c
+  unfolding shown
+  shown-live h = rw (ne-eqb (treeOf b .name c) 0 h)
+
+  pub shown-not : treeOf b .name c ≡ 0 → [] ≡ shown b f c
+  unfolding shown
+  shown-not h = rw (eq-eqb (treeOf b .name c) 0 h)
+
+-- the name of a child, as it is read
+pub name-read : {b : List ℕ} {first q n : ℕ} → Row b first q n → (j : ℕ) → j < n → {c : ℕ} → c ≡ u16At b (q + j * 24) → c ≡ treeOf b .name (first + j)
+unfolding treeOf nodeName
+name-read {b} w j h e = e ∙ ap (u16At b) (w .node j h .1)
+
+-- ---- a block
+
+module _ (b : List ℕ) (left level a x : ℕ) (q : x ≡ nodeOf b a) where
+  pub block-leaf : left ≡ 0 → line b level x ≡ block b left level a
+  unfolding block
+  block-leaf z = rw (z, q)
+
+-- the children by number
+of-tree : (b : List ℕ) (a : ℕ) (r : Children) → ChildrenOf b (nodeOf b a) r → (r .first ≡ treeOf b .first a) × (r .count ≡ treeOf b .count a)
+unfolding treeOf
+of-tree b a r k = (k .first, k .count)
+
+block-below : (b : List ℕ) (left level a : ℕ) → (left ≡ 0 → ⊥) → {first count : ℕ} → first ≡ treeOf b .first a → count ≡ treeOf b .count a
+    → line b level (nodeOf b a) ++ ranged (shown b (block b (left - 1) (level + 1))) first count ≡ block b left level a
+unfolding block
+block-below b zero level a z e f = absurd (z refl)
+block-below b (suc left) level a z e f = rw (sub-one, e, f)
+
+pub block-more : (b : List ℕ) (left level a x : ℕ) → x ≡ nodeOf b a → (left ≡ 0 → ⊥) → (r : Children) → ChildrenOf b x r
+    → line b level x ++ ranged (shown b (block b (left - 1) (level + 1))) (r .first) (r .count) ≡ block b left level a
+block-more b left level a x q z r k =
+    let t = of-tree b a r (rw q at k) in
+    rw q (block-below b left level a z (t .0) (t .1))

@@ -1,0 +1,82 @@
+-- What an accepted file gives to the writers: the tree's own record, and the rules of a live node. Assumes nothing.
+use Prim.Native.Nat.{ℕ, _+_, _/_, _%_, _≤_, _<_}
+use native.Mathlib.Omega.{arith}
+use mathlib.Core.Path.{_≡_}
+use mathlib.Core.Logic.{⊎-elim}
+use mathlib.Core.List.{List}
+use lib.ListN.{length}
+use Rattle.verdict.specs.declared.Verdict.the-variants.{Accepted}
+use Rattle.region.proofs.Laws.{range-each, place-fits}
+use Rattle.layout.specs.Layout.{attributeSize, attributesAt, nodeSize, nodesAt}
+use Rattle.layout.specs.View.{Fits}
+use Rattle.layout.specs.declared.View.{View}
+use Rattle.layout.specs.declared.Places.{Places}
+use Rattle.nodes.specs.Node.{Live, attributeCount, nodeAt, attributeAt}
+use Rattle.nodes.specs.Rules.{NodeRules, AttributesReach}
+use Rattle.nodes.proofs.Accepted.{nodes-iff}
+use Rattle.tree.specs.File.{nodeOf, Used}
+use Rattle.tree.specs.Outcome.{TreeReady, Reached}
+use Rattle.accept.specs.Rules.{FileRules}
+use Rattle.accept.specs.Verdict.{verdictOf}
+use Rattle.accept.proofs.Accepted.{accepted-iff}
+use Rattle.outline.specs.Ready.{NodeReady, OutlineReady}
+
+-- a view that fits an accepted file
+pub outline-ready : (b : List ℕ) (room : ℕ) (v : View) → Fits b v → verdictOf b room ≡ Accepted
+    → OutlineReady b (v .places) (v .«attribute_starts») (v .«node_starts») (v .«value_starts») (v .«name_starts»)
+outline-ready b room v f e = record {
+  line = record {
+    rules = accepted-iff b room .0 e .0;
+    placed = f .places;
+    attributes = f .«attribute_starts»;
+    values = f .«value_starts»;
+    names = f .«name_starts»;
+  };
+  nodes = f .«node_starts»;
+}
+
+pub tree-held : {b : List ℕ} {p : Places} {xs ns vs ms : List ℕ} → OutlineReady b p xs ns vs ms → TreeReady b (p .nodes) ns
+tree-held {b} r = record {
+  laid = r .line .rules .laid;
+  nodes = r .line .placed .nodes;
+  sampled = r .nodes;
+  accepted = nodes-iff b .1 (r .line .rules .nodes);
+}
+
+module _ (b : List ℕ) (r : FileRules b) where
+  -- an attribute of a range that resolves lies in the file
+  attribute-fits : (x i : ℕ) → AttributesReach b x → i < attributeCount b x → attributeAt b x i + 12 ≤ length b
+  unfolding attributeAt attributeSize
+  attribute-fits x i h l =
+      ⊎-elim (λ z. absurd (omega arith))
+      (λ w. omega (arith, place-fits 12 b (attributesAt b) (r .laid .attributes) _ _ (range-each 12 b (attributesAt b) _ _ _ i w l)))
+      h
+
+  rules-ready : (seg el : ℕ) → NodeRules b seg el → nodeAt b seg el + 24 ≤ length b → Live b (nodeAt b seg el) → NodeReady b (nodeAt b seg el)
+  rules-ready seg el n f l = record {
+    fits = f;
+    live = l;
+    name = n .node .name;
+    attributes = n .attributes;
+    attribute = λ i h. record {
+      fits = attribute-fits _ i (n .attributes) h;
+      low = n .attribute i h .low;
+      high = n .attribute i h .high;
+      typed = n .attribute i h .typed;
+      text = n .text i h;
+    };
+  }
+
+  -- a live node, wherever it stands
+  module _ (a x : ℕ) (u : Used b a) (q : x ≡ nodeOf b a) where
+    pub node-in : x + 24 ≤ length b
+    unfolding nodeOf nodeAt nodeSize
+    node-in = omega (arith, place-fits 24 b (nodesAt b) (r .laid .nodes) _ _ u)
+
+    pub node-ready : Live b x → NodeReady b x
+    unfolding nodeOf
+    node-ready l = rw q (rules-ready (a / 65536) (a % 65536) (r .nodes .each _ _ u) (rw q at node-in) (rw q at l))
+
+    pub node-reached : Reached b x
+    unfolding nodeOf
+    node-reached = rw q (r .nodes .each (a / 65536) (a % 65536) u .children .reach)

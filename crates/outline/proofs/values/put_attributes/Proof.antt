@@ -1,0 +1,129 @@
+use Prim.Native.Nat.{_+_, _-_, _*_, _≤_}
+use native.Mathlib.Omega.{arith}
+use mathlib.Core.Path.{sym, ap, _∙_}
+use borrow.Author.Needs.{needs}
+use lib.ListN.{length}
+use Rattle.nodes.specs.Node.{attributeCount, attributeAt}
+use Rattle.tree.specs.Chain.{ranged}
+use Rattle.tree.proofs.Ranged.{ranged-none}
+use Rattle.print.proofs.Puts.{top, Left, left-start, left-more, left-end, put-none, put-same}
+use Rattle.outline.specs.Outline.{attributeText}
+use Rattle.outline.proofs.Written.{rangedFrom, ranged-start, ranged-next, ranged-past}
+use Rattle.outline.proofs.Parts.{Attributes, regions, attributes-count, attributes-lost, attributes-at, attribute-ready, attribute-text}
+use Rattle.outline.proofs.values.put_attributes.Statement.{statement}
+use Rattle.outline.proofs.values.put_attributes.Tie as tie
+
+abbrev Inv-loop : tie.InvT-loop
+Inv-loop b p attribute-starts value-starts name-starts x out₀ at n seg el q e₀ i₀ out e i =
+    Attributes b x n q × ((i ≤ n) × Left out₀ at (ranged (λ k. attributeText b (attributeAt b x k)) 0 (attributeCount b x)) e (rangedFrom (λ k. attributeText b (attributeAt b x k)) 0 n i) out)
+
+abbrev μ-loop : tie.MeasureT-loop
+μ-loop b p attribute-starts value-starts name-starts x out₀ at n seg el q e₀ i₀ out e i = n - i
+
+-- a buffer's length is a number of 64 bits
+room : (s : tie.Start Inv-loop μ-loop) → length (s .args .out .now) ≤ top
+room s = omega arith
+
+-- the attribute lies in the file
+there : (c : tie.In-loop Inv-loop μ-loop) → c .before .before .before .q .given .0 .0 + c .before .loop .i * 12 + 12 ≤ 1073741824
+there c =
+    let p = c .before .before .before .before .before .before .before .before .before .before .before .before .pre in
+    let l = c .before .loop in
+    omega (arith, attribute-ready (l .inv .0) (l .i) (omega arith) (p .1) .fits, p .0 .rules .laid .small)
+
+add-u16-at : tie.Need-add-u16-at Inv-loop μ-loop
+add-u16-at c = search needs
+
+u16-at-requires : tie.Need-u16-at-requires Inv-loop μ-loop
+u16-at-requires c κs = search needs
+
+returns : tie.Need-returns Inv-loop μ-loop
+returns c =
+    let p = c .before .before .before .before .pre in
+    put-same (sym (ranged-none _ 0 _ (sym (attributes-count (p .0) (p .1) (c .before .u16-at .ensures .0)) ∙ c .if1 .taken))) (put-none _ _ (omega arith))
+
+add-u16-at-2 : tie.Need-add-u16-at-2 Inv-loop μ-loop
+add-u16-at-2 c = search needs
+
+u16-at-requires-2 : tie.Need-u16-at-requires-2 Inv-loop μ-loop
+u16-at-requires-2 c κs = search needs
+
+add-u16-at-3 : tie.Need-add-u16-at-3 Inv-loop μ-loop
+add-u16-at-3 c = search needs
+
+u16-at-requires-3 : tie.Need-u16-at-requires-3 Inv-loop μ-loop
+u16-at-requires-3 c κs = search needs
+
+range-at-requires : tie.Need-range-at-requires Inv-loop μ-loop
+range-at-requires c κs = let p = c .before .before .before .before .before .before .pre in (regions (p .0), (c .u16-at3 .ensures .1, c .before .before .before .u16-at .ensures .1))
+
+enum-known-q : tie.Need-enum-known-q Inv-loop μ-loop
+enum-known-q c = search needs
+
+enum-told : tie.Need-enum-told Inv-loop μ-loop
+enum-told c = search needs
+
+returns-2 : tie.Need-returns-2 Inv-loop μ-loop
+returns-2 c = let p = c .before .before .before .before .before .before .before .before .before .pre in absurd (attributes-lost (p .0) (p .1) (c .before .before .before .before .before .before .u16-at .ensures .0) (c .before .before .before .before .u16-at2 .ensures .0) (c .before .before .before .u16-at3 .ensures .0) (c .before .before .range-at .ensures) (c .before .before .before .before .before .if1 .left) (c .enum-told .given .1))
+
+loop-holds : tie.Need-loop-holds Inv-loop μ-loop
+loop-holds c =
+    let p = c .before .before .before .before .before .before .before .before .before .before .pre in
+    let t = attributes-at (p .0) (p .1) (c .before .before .before .before .before .before .before .u16-at .ensures .0) (c .before .before .before .before .before .u16-at2 .ensures .0) (c .before .before .before .before .u16-at3 .ensures .0) (c .before .before .before .range-at .ensures) (c .before .q .given .1) in
+    (t, (omega arith, left-start (room (c .before .before .before .before .before .before .before .before .before .before)) (omega arith) (ranged-start _ 0 _ ∙ ap (ranged _ 0) (t .count))))
+
+mul-put-attribute : tie.Need-mul-put-attribute Inv-loop μ-loop
+mul-put-attribute c = omega (arith, there c)
+
+add-put-attribute : tie.Need-add-put-attribute Inv-loop μ-loop
+add-put-attribute c = omega (arith, there c)
+
+put-attribute-requires : tie.Need-put-attribute-requires Inv-loop μ-loop
+put-attribute-requires c κs =
+    let p = c .before .before .before .before .before .before .before .before .before .before .before .before .before .pre in
+    let l = c .before .before .loop in
+    (p .0 .rules, p .0 .placed, p .0 .values, p .0 .names, attribute-ready (l .inv .0) (l .i) (omega arith) (p .1))
+
+add-i : tie.Need-add-i Inv-loop μ-loop
+add-i c = search needs
+
+loop-less : tie.Need-loop-less Inv-loop μ-loop
+loop-less c = search needs
+
+loop-again : tie.Need-loop-again Inv-loop μ-loop
+loop-again c =
+    let l = c .before .before .before .before .before .loop in
+    (l .inv .0, (omega arith, left-more (l .inv .1 .1) (put-same (attribute-text (l .inv .0) (l .i)) (c .before .before .put-attribute .ensures)) (ranged-next _ 0 _ (l .i) (omega arith))))
+
+same-length : tie.Need-same-length Inv-loop μ-loop
+same-length c = c .before .loop .inv .1 .1 .size
+
+returns-3 : tie.Need-returns-3 Inv-loop μ-loop
+returns-3 c = left-end (c .before .loop .inv .1 .1) (ranged-past _ 0 _ (c .before .loop .i) (omega arith))
+
+pub put-attributes-spec : {M : Type 1} → statement M
+put-attributes-spec =
+    tie.close
+    (tie.spec
+    Inv-loop
+    μ-loop
+    add-u16-at
+    u16-at-requires
+    returns
+    add-u16-at-2
+    u16-at-requires-2
+    add-u16-at-3
+    u16-at-requires-3
+    range-at-requires
+    enum-known-q
+    enum-told
+    returns-2
+    loop-holds
+    mul-put-attribute
+    add-put-attribute
+    put-attribute-requires
+    add-i
+    loop-less
+    loop-again
+    same-length
+    returns-3)

@@ -1,0 +1,4 @@
+pub mod Outline
+pub mod Outlined
+pub mod Answer
+pub mod Ready

@@ -1,0 +1,72 @@
+-- What the code holds when it writes the outline of an accepted file: the places, and the lent samples of segment starts.
+use Prim.Native.Nat.{ℕ, _+_, _*_, _≤_, _<_}
+use mathlib.Core.Path.{_≡_}
+use mathlib.Core.List.{List}
+use lib.ListN.{length}
+use Rattle.region.specs.Region.{Resolves}
+use Rattle.region.specs.Samples.{Mapped, Starts}
+use Rattle.region.specs.declared.Region.{Region}
+use Rattle.layout.specs.Layout.{attributeSize, nodeSize, attributesAt, nodesAt, values, names}
+use Rattle.layout.specs.View.{Placed}
+use Rattle.layout.specs.declared.Places.{Places}
+use Rattle.keys.specs.Names.{nameCount}
+use Rattle.nodes.specs.Node.{Live, nodeName, childSegment, childElement, attributeCount, childCount, attributeAt}
+use Rattle.nodes.specs.Attribute.{attributeName, Typed}
+use Rattle.nodes.specs.Rules.{AttributesReach, TextRight}
+use Rattle.tree.specs.File.{address, nodeOf, Used}
+use Rattle.accept.specs.Rules.{FileRules}
+use Rattle.outline.specs.declared.blocks.Children.{Children}
+
+-- Samples of the values' characters, and of the names'.
+abbrev pub ValueStarts : List ℕ → Places → List ℕ → Type 0
+ValueStarts b p xs = Starts 2 b (values b .at) (p .«value_chars» .shift) xs
+
+abbrev pub NameStarts : List ℕ → Places → List ℕ → Type 0
+NameStarts b p xs = Starts 2 b (names b .at) (p .«name_chars» .shift) xs
+
+-- The attribute at q lies in the file and passed 18 and 19.
+pub record AttributeReady (b : List ℕ) (q : ℕ) : Type 0 where
+  pub fits : q + 12 ≤ length b
+  pub low : 1 ≤ attributeName b q
+  pub high : attributeName b q ≤ nameCount b
+  pub typed : Typed b q
+  pub text : TextRight b q
+
+-- The node at x lies in the file, is live, and passed 16 to 19.
+pub record NodeReady (b : List ℕ) (x : ℕ) : Type 0 where
+  pub fits : x + 24 ≤ length b
+  pub live : Live b x
+  pub name : nodeName b x ≤ nameCount b
+  pub attributes : AttributesReach b x
+  pub attribute : (i : ℕ) → i < attributeCount b x → AttributeReady b (attributeAt b x i)
+
+-- What a line is written from: every rule holds of the file, the places are its own, and so are the samples.
+pub record LineReady (b : List ℕ) (p : Places) (attributeStarts valueStarts nameStarts : List ℕ) : Type 0 where
+  pub rules : FileRules b
+  pub placed : Placed b p
+  pub attributes : Starts attributeSize b (attributesAt b) (p .attributes .shift) attributeStarts
+  pub values : ValueStarts b p valueStarts
+  pub names : NameStarts b p nameStarts
+
+-- What a block is written from: samples of the nodes too.
+pub record OutlineReady (b : List ℕ) (p : Places) (attributeStarts nodeStarts valueStarts nameStarts : List ℕ) : Type 0 where
+  pub line : LineReady b p attributeStarts valueStarts nameStarts
+  pub nodes : Starts nodeSize b (nodesAt b) (p .nodes .shift) nodeStarts
+
+-- Used nodes, `count` of them by number from `first` on, stand in a row at q.
+pub record Row (b : List ℕ) (first q count : ℕ) : Type 0 where
+  pub low : first < 4294967296
+  pub few : count < 65536
+  pub node : (j : ℕ) → j < count → Used b (first + j) × (q + j * 24 ≡ nodeOf b (first + j))
+
+-- The children of the live node at x, as the code finds them.
+pub record ChildrenOf (b : List ℕ) (x : ℕ) (r : Children) : Type 0 where
+  pub first : r .first ≡ address (childSegment b x) (childElement b x)
+  pub count : r .count ≡ childCount b x
+  pub row : Row b (r .first) (r .place) (r .count)
+
+-- The address seg:el of the characters r resolves, and xs are their samples.
+pub record TextHeld (b : List ℕ) (r : Region) (xs : List ℕ) (seg el : ℕ) : Type 0 where
+  pub mapped : Mapped 2 b (r .at) r
+  pub sampled : Starts 2 b (r .at) (r .shift) xs
+  pub resolved : Resolves 2 b (r .at) seg el

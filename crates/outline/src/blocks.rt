@@ -1,0 +1,162 @@
+// Lines and blocks. The node writer and the child-range writer call each other: a level deeper at each turn, never along the children.
+ghost use mathlib.Core.Path.{_≡_};
+ghost use Prim.Native.Nat.{_+_, _≤_};
+ghost use lib.ListN.{length};
+ghost use Rattle.nodes.specs.Node.{Live};
+ghost use Rattle.tree.specs.Chain.{ranged};
+ghost use Rattle.tree.specs.File.{Used, nodeOf};
+ghost use Rattle.tree.specs.Outcome.{TreeReady, Reached};
+ghost use Rattle.print.specs.Put.{Put};
+ghost use Rattle.outline.specs.Outline.{line, shown, block};
+ghost use Rattle.outline.specs.Ready.{NodeReady, LineReady, OutlineReady, Row, ChildrenOf};
+use crate::texts;
+use crate::values;
+use layout::Places;
+use region::Place;
+use region::Region;
+
+// A node's children: the number of the first, where it stands, and how many they are.
+pub struct Children {
+    pub first: usize,
+    pub place: usize,
+    pub count: usize,
+}
+
+// The children of the live node at x.
+fn children_of(b: &[u8], nodes: Region, starts: &[u32; 256], x: usize) -> Children
+    requires { ⌜ TreeReady (now b) nodes (now starts) × Reached (now b) x × Live (now b) x × (x + 24 ≤ length (now b)) ⌝ }
+    ensures { λ r. ⌜ ChildrenOf (now (b .entry)) x r ⌝ }
+{
+    let count = le::u16_at(b, x + 6);
+    let seg = le::u16_at(b, x + 16);
+    let el = le::u16_at(b, x + 18);
+    let first = seg * 65536 + el;
+    let mut place = 0;
+    if count > 0 {
+        if let Place::At(q) = region::range_at(b, nodes, 24, starts, seg, el, count) {
+            place = q;
+        }
+    }
+    Children {
+        first,
+        place,
+        count,
+    }
+}
+
+// The line of the live node at x.
+fn put_line(
+    b: &[u8],
+    p: Places,
+    attribute_starts: &[u32; 256],
+    value_starts: &[u32; 256],
+    name_starts: &[u32; 256],
+    level: usize,
+    x: usize,
+    out: &mut [u8],
+    at: usize,
+) -> usize
+    requires { ⌜ LineReady (now b) p (now «attribute_starts») (now «value_starts») (now «name_starts») × NodeReady (now b) x × (level ≤ 63) ⌝ }
+    ensures { λ r. ⌜ Put (now (out .entry)) at (line (now (b .entry)) level x) r (now (out .exit)) ⌝ }
+{
+    let c = print::put_spaces(out, at, 2 * level);
+    let d = texts::put_name(b, p, name_starts, le::u16_at(b, x), out, c);
+    let e = values::put_attributes(b, p, attribute_starts, value_starts, name_starts, x, out, d);
+    print::put(out, e, b'\n')
+}
+
+// The block of the live node a, which stands at x: its line and, while `left` levels may follow, the blocks of its children.
+pub fn write_node(
+    b: &[u8],
+    p: Places,
+    attribute_starts: &[u32; 256],
+    node_starts: &[u32; 256],
+    value_starts: &[u32; 256],
+    name_starts: &[u32; 256],
+    a: usize,
+    x: usize,
+    level: usize,
+    left: usize,
+    out: &mut [u8],
+    at: usize,
+) -> usize
+    requires { ⌜ OutlineReady (now b) p (now «attribute_starts») (now «node_starts») (now «value_starts») (now «name_starts») ⌝ }
+    requires { ⌜ Used (now b) a × (x ≡ nodeOf (now b) a) × Live (now b) x × (level + left ≤ 63) ⌝ }
+    ensures { λ r. ⌜ Put (now (out .entry)) at (block (now (b .entry)) left level a) r (now (out .exit)) ⌝ }
+{
+    let e = put_line(
+        b,
+        p,
+        attribute_starts,
+        value_starts,
+        name_starts,
+        level,
+        x,
+        out,
+        at,
+    );
+    if left == 0 {
+        return e;
+    }
+    let c = children_of(b, p.nodes, node_starts, x);
+    write_range(
+        b,
+        p,
+        attribute_starts,
+        node_starts,
+        value_starts,
+        name_starts,
+        c.first,
+        c.place,
+        c.count,
+        level + 1,
+        left - 1,
+        out,
+        e,
+    )
+}
+
+// The blocks of the live ones among `count` nodes from number `first` on, which stand in a row at q.
+fn write_range(
+    b: &[u8],
+    p: Places,
+    attribute_starts: &[u32; 256],
+    node_starts: &[u32; 256],
+    value_starts: &[u32; 256],
+    name_starts: &[u32; 256],
+    first: usize,
+    q: usize,
+    count: usize,
+    level: usize,
+    left: usize,
+    out: &mut [u8],
+    at: usize,
+) -> usize
+    requires { ⌜ OutlineReady (now b) p (now «attribute_starts») (now «node_starts») (now «value_starts») (now «name_starts») ⌝ }
+    requires { ⌜ Row (now b) first q count × (level + left ≤ 63) ⌝ }
+    ensures { λ r. ⌜ Put (now (out .entry)) at (ranged (shown (now (b .entry)) (block (now (b .entry)) left level)) first count) r (now (out .exit)) ⌝ }
+{
+    let mut e = at;
+    let mut j = 0;
+    while j < count {
+        let x = q + j * 24;
+        if le::u16_at(b, x) != 0 {
+            e = write_node(
+                b,
+                p,
+                attribute_starts,
+                node_starts,
+                value_starts,
+                name_starts,
+                first + j,
+                x,
+                level,
+                left,
+                out,
+                e,
+            );
+        }
+        j += 1;
+    }
+    e
+}

@@ -1,0 +1,76 @@
+// The outline of an accepted file (01, "Questions").
+ghost use mathlib.Core.Path.{_≡_};
+ghost use lib.ListN.{length};
+ghost use Rattle.outline.specs.Ready.{OutlineReady};
+ghost use Rattle.outline.specs.Outlined.{outlineAfter};
+ghost use Rattle.outline.specs.Answer.{OutlineWritten};
+
+pub mod blocks;
+pub mod texts;
+pub mod values;
+
+use layout::Places;
+use verdict::Verdict;
+
+// Refusal 26, or the outline's length in bytes.
+pub struct Outlined {
+    pub answer: Verdict,
+    pub length: usize,
+}
+
+// Writes the root's block; the first pass, with an empty buffer, tells its length, so nothing is written unless all of it fits.
+pub fn write_outline(
+    b: &[u8],
+    p: Places,
+    attribute_starts: &[u32; 256],
+    node_starts: &[u32; 256],
+    value_starts: &[u32; 256],
+    name_starts: &[u32; 256],
+    out: &mut [u8],
+) -> Outlined
+    requires { ⌜ OutlineReady (now b) p (now «attribute_starts») (now «node_starts») (now «value_starts») (now «name_starts») ⌝ }
+    ensures answer { λ r. ⌜ OutlineWritten (now (b .entry)) (length (now (out .entry))) r ⌝ }
+    ensures buffer { λ r. ⌜ now (out .exit) ≡ outlineAfter (now (b .entry)) (now (out .entry)) (r .answer) ⌝ }
+{
+    let nodes = p.nodes;
+    let root = nodes.at + 12;
+    let mut none = [0u8; 0];
+    let n = blocks::write_node(
+        b,
+        p,
+        attribute_starts,
+        node_starts,
+        value_starts,
+        name_starts,
+        0,
+        root,
+        0,
+        63,
+        &mut none,
+        0,
+    );
+    if out.len() < n {
+        return Outlined {
+            answer: Verdict::Refused(26, n),
+            length: 0,
+        };
+    }
+    let m = blocks::write_node(
+        b,
+        p,
+        attribute_starts,
+        node_starts,
+        value_starts,
+        name_starts,
+        0,
+        root,
+        0,
+        63,
+        out,
+        0,
+    );
+    Outlined {
+        answer: Verdict::Accepted,
+        length: m,
+    }
+}

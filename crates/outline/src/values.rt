@@ -1,0 +1,107 @@
+// Attributes and their values.
+ghost use mathlib.Core.Path.{_≡_};
+ghost use Rattle.layout.specs.View.{Placed};
+ghost use Rattle.nodes.specs.Node.{attributeCount, attributeAt};
+ghost use Rattle.nodes.specs.Attribute.{valueOf};
+ghost use Rattle.tree.specs.Chain.{ranged};
+ghost use Rattle.accept.specs.Rules.{FileRules};
+ghost use Rattle.print.specs.Put.{Put};
+ghost use Rattle.outline.specs.Outline.{truthText, valueText, attributeText};
+ghost use Rattle.outline.specs.Ready.{ValueStarts, NameStarts, AttributeReady, NodeReady, LineReady};
+use crate::texts;
+use layout::Places;
+use nodes::value;
+use nodes::value::Value;
+use region::Place;
+
+// A truth.
+fn put_truth(t: bool, out: &mut [u8], at: usize) -> usize
+    ensures { λ r. ⌜ Put (now (out .entry)) at (truthText t) r (now (out .exit)) ⌝ }
+{
+    if t {
+        return print::put_bytes(out, at, b"b:true");
+    }
+    print::put_bytes(out, at, b"b:false")
+}
+
+// The value of the attribute at q.
+fn put_value(
+    b: &[u8],
+    p: Places,
+    samples: &[u32; 256],
+    q: usize,
+    out: &mut [u8],
+    at: usize,
+) -> usize
+    requires { ⌜ FileRules (now b) × Placed (now b) p × ValueStarts (now b) p (now samples) × AttributeReady (now b) q ⌝ }
+    ensures { λ r. ⌜ Put (now (out .entry)) at (valueText (now (b .entry)) (valueOf (now (b .entry)) q)) r (now (out .exit)) ⌝ }
+{
+    let v = value::value_at(b, q);
+    match v {
+        Value::Whole(z) => {
+            let e = print::put_bytes(out, at, b"i:");
+            print::put_whole(out, e, z)
+        }
+        Value::Truth(t) => put_truth(t, out, at),
+        Value::Float(f) => {
+            let e = print::put_bytes(out, at, b"f:");
+            print::put_hex(out, e, f.bits as usize, 8)
+        }
+        Value::Text(seg, el) => {
+            let e = print::put_bytes(out, at, b"s:");
+            texts::put_text(b, p.value_chars, samples, seg, el, out, e)
+        }
+    }
+}
+
+// The attribute at q.
+fn put_attribute(
+    b: &[u8],
+    p: Places,
+    value_starts: &[u32; 256],
+    name_starts: &[u32; 256],
+    q: usize,
+    out: &mut [u8],
+    at: usize,
+) -> usize
+    requires { ⌜ FileRules (now b) × Placed (now b) p × ValueStarts (now b) p (now «value_starts») × NameStarts (now b) p (now «name_starts»)
+        × AttributeReady (now b) q ⌝ }
+    ensures { λ r. ⌜ Put (now (out .entry)) at (attributeText (now (b .entry)) q) r (now (out .exit)) ⌝ }
+{
+    let c = print::put(out, at, b' ');
+    let d = texts::put_name(b, p, name_starts, le::u16_at(b, q), out, c);
+    let e = print::put(out, d, b'=');
+    put_value(b, p, value_starts, q, out, e)
+}
+
+// The attributes of the live node at x.
+pub fn put_attributes(
+    b: &[u8],
+    p: Places,
+    attribute_starts: &[u32; 256],
+    value_starts: &[u32; 256],
+    name_starts: &[u32; 256],
+    x: usize,
+    out: &mut [u8],
+    at: usize,
+) -> usize
+    requires { ⌜ LineReady (now b) p (now «attribute_starts») (now «value_starts») (now «name_starts») × NodeReady (now b) x ⌝ }
+    ensures { λ r. ⌜ Put (now (out .entry)) at (ranged (λ i. attributeText (now (b .entry)) (attributeAt (now (b .entry)) x i)) 0 (attributeCount (now (b .entry)) x)) r (now (out .exit)) ⌝ }
+{
+    let n = le::u16_at(b, x + 4);
+    if n == 0 {
+        return at;
+    }
+    let seg = le::u16_at(b, x + 8);
+    let el = le::u16_at(b, x + 10);
+    let Place::At(q) = region::range_at(b, p.attributes, 12, attribute_starts, seg, el, n) else {
+        return at;
+    };
+    let mut e = at;
+    let mut i = 0;
+    while i < n {
+        e = put_attribute(b, p, value_starts, name_starts, q + i * 12, out, e);
+        i += 1;
+    }
+    e
+}

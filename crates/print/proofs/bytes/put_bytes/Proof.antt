@@ -1,0 +1,56 @@
+use mathlib.Core.Path.{refl}
+use Prim.Native.Nat.{_-_, _≤_}
+use native.Mathlib.Omega.{arith}
+use borrow.Author.Needs.{needs}
+use lib.ListN.{length, drop}
+use Rattle.print.proofs.Puts.{Left, left-start, left-more, left-end}
+use Rattle.print.proofs.Texts.{byte-more, byte-none}
+use Rattle.print.proofs.bytes.put_bytes.Statement.{statement}
+use Rattle.print.proofs.bytes.put_bytes.Tie as tie
+
+abbrev Inv-loop : tie.InvT-loop
+Inv-loop out₀ at s p₀ i₀ out p i = (i ≤ length s) × Left out₀ at s p (drop i s) out
+
+abbrev μ-loop : tie.MeasureT-loop
+μ-loop out₀ at s p₀ i₀ out p i = length s - i
+
+loop-holds : tie.Need-loop-holds Inv-loop μ-loop
+loop-holds c = (search needs, left-start (search needs) (search needs) refl)
+
+shared-slice-read-put : tie.Need-shared-slice-read-put Inv-loop μ-loop
+shared-slice-read-put c = search needs
+
+put-requires : tie.Need-put-requires Inv-loop μ-loop
+put-requires c κs = search needs
+
+add-i : tie.Need-add-i Inv-loop μ-loop
+add-i c = search needs
+
+loop-less : tie.Need-loop-less Inv-loop μ-loop
+loop-less c = search needs
+
+loop-again : tie.Need-loop-again Inv-loop μ-loop
+loop-again c =
+    let l = c .before .before .before .before .before .before .loop in
+    (search needs, left-more (l .inv .1) (c .before .before .put .ensures) (byte-more _ (l .i) (omega arith)))
+
+same-length : tie.Need-same-length Inv-loop μ-loop
+same-length c = c .before .loop .inv .1 .size
+
+returns : tie.Need-returns Inv-loop μ-loop
+returns c = left-end (c .before .loop .inv .1) (byte-none _ _ (c .loop-test .left))
+
+pub put-bytes-spec : {M : Type 1} → statement M
+put-bytes-spec =
+    tie.close
+    (tie.spec
+    Inv-loop
+    μ-loop
+    loop-holds
+    shared-slice-read-put
+    put-requires
+    add-i
+    loop-less
+    loop-again
+    same-length
+    returns)

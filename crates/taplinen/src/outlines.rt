@@ -1,0 +1,41 @@
+// The outline.
+ghost use mathlib.Core.Path.{_≡_};
+ghost use lib.ListN.{length};
+ghost use Rattle.taplinen.specs.Questions.{outlineAnswer, outlineBuffer, workspaceLeft};
+use crate::answer;
+use crate::answer::Answer;
+use verdict::Verdict;
+
+// The outline of a file, written to a buffer: its length in bytes, or the bytes needed.
+#[no_mangle]
+pub extern "C" fn taplinen_outline(file: &[u8], ws: &mut [u8], out: &mut [u8]) -> Answer
+    ensures answer { λ r. ⌜ r ≡ outlineAnswer (now (file .entry)) (length (now (ws .entry))) (length (now (out .entry))) ⌝ }
+    ensures workspace { λ _. ⌜ now (ws .exit) ≡ workspaceLeft (now (file .entry)) (now (ws .entry)) ⌝ }
+    ensures outline { λ _. ⌜ now (out .exit) ≡ outlineBuffer (now (file .entry)) (length (now (ws .entry))) (now (out .entry)) ⌝ }
+{
+    let a = accept::accept(file, ws);
+    let v = a.answer;
+    if let Verdict::Refused(num, place) = v {
+        return answer::refused(num, place);
+    }
+    let view = a.view;
+    let p = view.places;
+    let attribute_starts = view.attribute_starts;
+    let node_starts = view.node_starts;
+    let value_starts = view.value_starts;
+    let name_starts = view.name_starts;
+    let r = outline::write_outline(
+        file,
+        p,
+        &attribute_starts,
+        &node_starts,
+        &value_starts,
+        &name_starts,
+        out,
+    );
+    let w = r.answer;
+    match w {
+        Verdict::Refused(num, place) => answer::refused(num, place),
+        Verdict::Accepted => answer::number(r.length),
+    }
+}
