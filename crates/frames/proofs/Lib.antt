@@ -7,4 +7,5 @@ pub mod Framed
 pub mod Answers
 pub mod Written
 pub mod Steps
+pub mod Cut
 pub mod Examples

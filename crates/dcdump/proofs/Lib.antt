@@ -1,0 +1,4 @@
+pub mod Counts
+pub mod Cut
+pub mod Lengths
+pub mod Written
