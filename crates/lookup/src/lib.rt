@@ -5,11 +5,13 @@ ghost use lib.ListN.{length};
 ghost use Rattle.verdict.specs.Checks.{Tells, firstFault};
 ghost use Rattle.verdict.specs.declared.Verdict.the-variants.{Accepted};
 ghost use Rattle.hash.specs.Table.{Tables};
+ghost use Rattle.hash.specs.Hash.{hashText};
 ghost use Rattle.text.specs.Text.{chars};
 ghost use Rattle.strings.specs.Texts.{textOf};
 ghost use Rattle.strings.specs.Order.{stringChecks};
 ghost use Rattle.strings.specs.Held.{Held, heldTable, Here};
 ghost use Rattle.lookup.specs.Lookup.{entryOfText, indexOfText, addressOfText};
+ghost use Rattle.lookup.specs.Kinds.{toldIn};
 use strings::Strings;
 use strings::entry;
 use strings::search;
@@ -20,6 +22,12 @@ use strings::spot::Spot;
 pub enum Lookup {
     Found(usize),
     Absent,
+}
+
+// What is asked for: a name's index, or a value's address.
+pub enum Kind {
+    Name,
+    Value,
 }
 
 // Whether entry j of bucket k bears the n characters at p of what is asked.
@@ -46,22 +54,21 @@ fn entry_bears(
     text::bears(b, x, m, q, p, n)
 }
 
-// The entry that bears the n characters at p of what is asked. Among equal hashes all are read.
+// The entry that bears the n characters at p of what is asked, whose hash is h. Among equal hashes all are read.
 pub fn find_entry(
     b: &[u8],
-    t: &[u32; 512],
     s: Strings,
     samples: &[u32; 256],
     starts: &[u32],
+    h: usize,
     q: &[u8],
     p: usize,
     n: usize,
 ) -> Lookup
-    requires { ⌜ Tables (now t) × Held (now b) s (now samples) (now starts)
-        × (firstFault (stringChecks (heldTable (now b) s (now starts))) ≡ Accepted) × (p + 2 * n ≤ length (now q)) ⌝ }
+    requires { ⌜ Held (now b) s (now samples) (now starts) × (firstFault (stringChecks (heldTable (now b) s (now starts))) ≡ Accepted) ⌝ }
+    requires { ⌜ (p + 2 * n ≤ length (now q)) × (h ≡ hashText (chars (now q) p n)) ⌝ }
     ensures { λ r. ⌜ r ≡ entryOfText (heldTable (now (b .entry)) s (now (starts .entry))) (chars (now (q .entry)) p n) ⌝ }
 {
-    let h = text::hash_chars(q, t, p, n);
     let k = hash::bucket(h, starts.len());
     let m = entry::entry_count(b, s, samples, starts, k);
     let mut j = search::lower(b, s, samples, starts, k, h);
@@ -76,6 +83,31 @@ pub fn find_entry(
         j += 1;
     }
     Lookup::Absent
+}
+
+// What is told of those characters, for a caller that has their hash already.
+pub fn find_hashed(
+    b: &[u8],
+    s: Strings,
+    samples: &[u32; 256],
+    starts: &[u32],
+    kind: Kind,
+    h: usize,
+    q: &[u8],
+    p: usize,
+    n: usize,
+) -> Lookup
+    requires { ⌜ Held (now b) s (now samples) (now starts) × (firstFault (stringChecks (heldTable (now b) s (now starts))) ≡ Accepted) ⌝ }
+    requires { ⌜ (p + 2 * n ≤ length (now q)) × (h ≡ hashText (chars (now q) p n)) ⌝ }
+    ensures { λ r. ⌜ r ≡ toldIn kind (heldTable (now (b .entry)) s (now (starts .entry))) (chars (now (q .entry)) p n) ⌝ }
+{
+    let Lookup::Found(e) = find_entry(b, s, samples, starts, h, q, p, n) else {
+        return Lookup::Absent;
+    };
+    match kind {
+        Kind::Name => Lookup::Found(le::u32_at(b, e + 8)),
+        Kind::Value => Lookup::Found(le::u16_at(b, e + 12) * 65536 + le::u16_at(b, e + 14)),
+    }
 }
 
 // The index of a name.
@@ -93,10 +125,8 @@ pub fn find_name(
         × (firstFault (stringChecks (heldTable (now b) s (now starts))) ≡ Accepted) × (p + 2 * n ≤ length (now q)) ⌝ }
     ensures { λ r. ⌜ r ≡ indexOfText (heldTable (now (b .entry)) s (now (starts .entry))) (chars (now (q .entry)) p n) ⌝ }
 {
-    match find_entry(b, t, s, samples, starts, q, p, n) {
-        Lookup::Found(e) => Lookup::Found(le::u32_at(b, e + 8)),
-        Lookup::Absent => Lookup::Absent,
-    }
+    let h = text::hash_chars(q, t, p, n);
+    find_hashed(b, s, samples, starts, Kind::Name, h, q, p, n)
 }
 
 // The address of a value.
@@ -114,8 +144,6 @@ pub fn find_value(
         × (firstFault (stringChecks (heldTable (now b) s (now starts))) ≡ Accepted) × (p + 2 * n ≤ length (now q)) ⌝ }
     ensures { λ r. ⌜ r ≡ addressOfText (heldTable (now (b .entry)) s (now (starts .entry))) (chars (now (q .entry)) p n) ⌝ }
 {
-    match find_entry(b, t, s, samples, starts, q, p, n) {
-        Lookup::Found(e) => Lookup::Found(le::u16_at(b, e + 12) * 65536 + le::u16_at(b, e + 14)),
-        Lookup::Absent => Lookup::Absent,
-    }
+    let h = text::hash_chars(q, t, p, n);
+    find_hashed(b, s, samples, starts, Kind::Value, h, q, p, n)
 }

@@ -27,11 +27,11 @@ four-bytes a h =
     let m : a / 16777216 % 256 ≡ a / 16777216 = mod-eq-of-lt {m = 256} (omega arith) in
     omega arith
 
-le4-front : (a : ℕ) (t : List ℕ) → a < 2 ^ 32 → u32At (le4 a ++ t) 0 ≡ a
+pub le4-front : (a : ℕ) (t : List ℕ) → a < 2 ^ 32 → u32At (le4 a ++ t) 0 ≡ a
 unfolding u32At le4
 le4-front a t h = four-bytes a h
 
-shifted : (s t : List ℕ) (j : ℕ) → u32At (s ++ t) (length s + j) ≡ u32At t j
+pub shifted : (s t : List ℕ) (j : ℕ) → u32At (s ++ t) (length s + j) ≡ u32At t j
 unfolding u32At
 shifted s t j =
     let e1 : length s + j + 1 ≡ length s + (j + 1) = omega arith in

@@ -18,7 +18,7 @@ use Rattle.path.specs.Names.{addFirst, split, namesOf, pathChecks}
 use Rattle.path.specs.Indices.{NameEnd}
 use Rattle.path.proofs.Formed.{formed-inv}
 
-length-add : (c : ℕ) (xs : List (List ℕ)) → length (addFirst c xs) ≡ length xs
+pub length-add : (c : ℕ) (xs : List (List ℕ)) → length (addFirst c xs) ≡ length xs
 unfolding addFirst
 length-add c [] = refl
 length-add c (x ∷ xs) = refl

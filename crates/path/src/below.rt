@@ -17,7 +17,7 @@ fn wide(x: u32) -> usize
 }
 
 // Writes a number as four bytes, low byte first.
-fn put_u32(list: &mut [u8], at: usize, x: usize)
+pub fn put_u32(list: &mut [u8], at: usize, x: usize)
     requires { ⌜ at + 4 ≤ length (now list) ⌝ }
     ensures { λ _. ⌜ now (list .exit) ≡ splice (now (list .entry)) at (le4 x) ⌝ }
 {

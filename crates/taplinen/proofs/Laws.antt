@@ -13,9 +13,10 @@ use Rattle.layout.specs.declared.Header.{Header}
 use Rattle.lookup.specs.declared.Lookup.{Lookup}
 use Rattle.lookup.specs.declared.Lookup.the-variants.{Found, Absent}
 use Rattle.lookup.specs.Asked.{textChecks}
+use Rattle.lookup.specs.Kinds.{kindOf, numberOf}
 use Rattle.tree.specs.File.{usedNodes}
 use Rattle.accept.specs.Verdict.{acceptChecks, verdictOf}
-use Rattle.taplinen.specs.Answers.{answered, kindOf, numberOf, reported}
+use Rattle.taplinen.specs.Answers.{answered, reported}
 use Rattle.taplinen.specs.Questions.{acceptAnswer, headerAnswer, textVerdict}
 use Rattle.taplinen.specs.declared.answer.Answer.{Answer}
 use Rattle.taplinen.specs.declared.header.HeaderReport.{HeaderReport}

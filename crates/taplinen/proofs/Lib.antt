@@ -1,4 +1,6 @@
 pub mod Laws
+pub mod Tables
 pub mod Asked
-pub mod Listed
-pub mod Outlined
+pub mod Filled
+pub mod Held
+pub mod EachPlace

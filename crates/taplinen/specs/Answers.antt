@@ -3,8 +3,6 @@ use Prim.Native.Nat.{ℕ}
 use lib.Ieee.{ofBits, binary64}
 use Rattle.verdict.specs.declared.Verdict.{Verdict}
 use Rattle.verdict.specs.declared.Verdict.the-variants.{Accepted, Refused}
-use Rattle.lookup.specs.declared.Lookup.{Lookup}
-use Rattle.lookup.specs.declared.Lookup.the-variants.{Found, Absent}
 use Rattle.layout.specs.declared.Header.{Header}
 use Rattle.taplinen.specs.declared.answer.Answer.{Answer}
 use Rattle.taplinen.specs.declared.header.HeaderReport.{HeaderReport}
@@ -13,16 +11,6 @@ use Rattle.taplinen.specs.declared.header.HeaderReport.{HeaderReport}
 unfoldable pub answered : Verdict → ℕ → ℕ → Answer
 answered Accepted kind value = record { refusal = 0; kind = kind; value = value }
 answered (Refused n p) kind value = record { refusal = n; kind = 0; value = p }
-
--- The kind of a lookup: 0 found, 1 absent.
-unfoldable pub kindOf : Lookup → ℕ
-kindOf (Found n) = 0
-kindOf Absent = 1
-
--- Its value: what was found, or 0.
-unfoldable pub numberOf : Lookup → ℕ
-numberOf (Found n) = n
-numberOf Absent = 0
 
 -- The header report of an accepted file, with its revision; a refused file's holds the refusal and its place, and 0 elsewhere.
 unfoldable pub reported : Verdict → Header → HeaderReport

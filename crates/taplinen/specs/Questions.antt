@@ -8,6 +8,8 @@ use Rattle.layout.specs.Header.{headerOf}
 use Rattle.layout.specs.Layout.{values, names}
 use Rattle.lookup.specs.Lookup.{textFrom, indexOfText, addressOfText}
 use Rattle.lookup.specs.Asked.{textChecks}
+use Rattle.lookup.specs.Kinds.{toldIn, tableOf, kindOf, numberOf}
+use Rattle.lookup.specs.declared.Kind.{Kind}
 use Rattle.path.specs.Names.{pathChecks}
 use Rattle.path.specs.Listing.{pathMatches, listingChecks, listingAfter}
 use Rattle.tree.specs.File.{usedNodes}
@@ -15,7 +17,7 @@ use Rattle.tree.specs.Outcome.{workspaceAfter}
 use Rattle.accept.specs.Verdict.{acceptChecks, verdictOf}
 use Rattle.outline.specs.Outline.{outlineOf}
 use Rattle.outline.specs.Outlined.{outlineChecks, outlineAfter}
-use Rattle.taplinen.specs.Answers.{answered, kindOf, numberOf, reported}
+use Rattle.taplinen.specs.Answers.{answered, reported}
 use Rattle.taplinen.specs.declared.answer.Answer.{Answer}
 use Rattle.taplinen.specs.declared.header.HeaderReport.{HeaderReport}
 
@@ -34,6 +36,11 @@ headerAnswer b room = reported (verdictOf b room) (headerOf b)
 -- Acceptance's refusals, then 24 of a text.
 unfoldable pub textVerdict : List ℕ → ℕ → List ℕ → Verdict
 textVerdict b room q = firstFault (acceptChecks b room ++ textChecks q)
+
+-- What a text is told, by the kind of the question. The two exported questions follow; each is this one's (proofs).
+unfoldable pub textAnswer : Kind → List ℕ → ℕ → List ℕ → Answer
+textAnswer k b room q =
+    answered (textVerdict b room q) (kindOf (toldIn k (tableOf k b) (textFrom q))) (numberOf (toldIn k (tableOf k b) (textFrom q)))
 
 -- Name by text: its index, or absent.
 unfoldable pub nameAnswer : List ℕ → ℕ → List ℕ → Answer

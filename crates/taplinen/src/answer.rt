@@ -1,8 +1,8 @@
 // The answer that crosses to C.
 ghost use mathlib.Core.Path.{_≡_};
-ghost use Prim.Native.Nat.{_<_, _^_};
 ghost use Rattle.verdict.specs.declared.Verdict.the-variants.{Accepted, Refused};
-ghost use Rattle.taplinen.specs.Answers.{answered, kindOf, numberOf};
+ghost use Rattle.lookup.specs.Kinds.{kindOf, numberOf};
+ghost use Rattle.taplinen.specs.Answers.{answered};
 use lookup::Lookup;
 
 // refusal 0: answered, value is the answer; otherwise 01's number, value its place. kind, for lookups: 0 found, 1 absent.

@@ -1,9 +1,11 @@
 // Accept, name by text, value by text and path listing.
 ghost use mathlib.Core.Path.{_≡_};
 ghost use lib.ListN.{length};
-ghost use Rattle.taplinen.specs.Questions.{acceptAnswer, nameAnswer, valueAnswer, pathAnswer, pathListing, workspaceLeft};
+ghost use Rattle.taplinen.specs.Questions.{acceptAnswer, textAnswer, nameAnswer, valueAnswer, pathAnswer, pathListing, workspaceLeft};
 use crate::answer;
 use crate::answer::Answer;
+use crate::lookups;
+use lookup::Kind;
 use strings::Strings;
 use verdict::Verdict;
 
@@ -25,10 +27,9 @@ pub extern "C" fn taplinen_accept(file: &[u8], ws: &mut [u8]) -> Answer
     }
 }
 
-// The index of a name.
-#[no_mangle]
-pub extern "C" fn taplinen_name(file: &[u8], ws: &mut [u8], text: &[u8]) -> Answer
-    ensures answer { λ r. ⌜ r ≡ nameAnswer (now (file .entry)) (length (now (ws .entry))) (now (text .entry)) ⌝ }
+// Asks for a text in either table.
+fn ask(file: &[u8], ws: &mut [u8], kind: Kind, text: &[u8]) -> Answer
+    ensures answer { λ r. ⌜ r ≡ textAnswer kind (now (file .entry)) (length (now (ws .entry))) (now (text .entry)) ⌝ }
     ensures workspace { λ _. ⌜ now (ws .exit) ≡ workspaceLeft (now (file .entry)) (now (ws .entry)) ⌝ }
 {
     let a = accept::accept(file, ws);
@@ -41,16 +42,16 @@ pub extern "C" fn taplinen_name(file: &[u8], ws: &mut [u8], text: &[u8]) -> Answ
         return answer::refused(24, n);
     }
     let view = a.view;
-    let p = view.places;
-    let samples = view.name_starts;
-    let buckets = view.name_buckets;
-    let chars = p.name_chars;
-    let s = Strings {
-        chars,
-        list: p.name_list,
-    };
-    let t = hash::tables();
-    answer::told(lookup::find_name(file, &t, s, &samples, &buckets, text, 0, n / 2))
+    answer::told(lookups::find(file, view, kind, text))
+}
+
+// The index of a name.
+#[no_mangle]
+pub extern "C" fn taplinen_name(file: &[u8], ws: &mut [u8], text: &[u8]) -> Answer
+    ensures answer { λ r. ⌜ r ≡ nameAnswer (now (file .entry)) (length (now (ws .entry))) (now (text .entry)) ⌝ }
+    ensures workspace { λ _. ⌜ now (ws .exit) ≡ workspaceLeft (now (file .entry)) (now (ws .entry)) ⌝ }
+{
+    ask(file, ws, Kind::Name, text)
 }
 
 // The address of a value.
@@ -59,26 +60,7 @@ pub extern "C" fn taplinen_value(file: &[u8], ws: &mut [u8], text: &[u8]) -> Ans
     ensures answer { λ r. ⌜ r ≡ valueAnswer (now (file .entry)) (length (now (ws .entry))) (now (text .entry)) ⌝ }
     ensures workspace { λ _. ⌜ now (ws .exit) ≡ workspaceLeft (now (file .entry)) (now (ws .entry)) ⌝ }
 {
-    let a = accept::accept(file, ws);
-    let v = a.answer;
-    if let Verdict::Refused(num, place) = v {
-        return answer::refused(num, place);
-    }
-    let n = text.len();
-    if n % 2 != 0 {
-        return answer::refused(24, n);
-    }
-    let view = a.view;
-    let p = view.places;
-    let samples = view.value_starts;
-    let buckets = view.value_buckets;
-    let chars = p.value_chars;
-    let s = Strings {
-        chars,
-        list: p.value_list,
-    };
-    let t = hash::tables();
-    answer::told(lookup::find_value(file, &t, s, &samples, &buckets, text, 0, n / 2))
+    ask(file, ws, Kind::Value, text)
 }
 
 // The matches of a path.

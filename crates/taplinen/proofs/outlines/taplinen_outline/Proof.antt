@@ -1,8 +1,9 @@
 use borrow.Author.Needs.{needs}
-use mathlib.Core.Path.{sym, _∙_}
+use mathlib.Core.Path.{refl, sym, _∙_}
 use Rattle.outline.proofs.Rules.{outline-ready}
-use Rattle.taplinen.specs.Questions.{workspaceLeft}
-use Rattle.taplinen.proofs.Outlined.{file-refused, outline-refused, outline-told}
+use Rattle.outline.specs.Outlined.{outlineAfter}
+use Rattle.taplinen.specs.Questions.{outlineVerdict, outlineAnswer, outlineBuffer, workspaceLeft}
+use Rattle.taplinen.proofs.Filled.{first-refused, then-refused, then-told}
 use Rattle.taplinen.proofs.outlines.taplinen_outline.Statement.{statement}
 use Rattle.taplinen.proofs.outlines.taplinen_outline.Tie as tie
 
@@ -19,10 +20,10 @@ same-length : tie.Need-same-length
 same-length c = search needs
 
 returns : tie.Need-returns
-unfolding workspaceLeft
+unfolding outlineAnswer outlineBuffer outlineVerdict outlineAfter workspaceLeft
 returns c =
     let k = c .before .before .before .before .before .before .accept .ensures in
-    let l = file-refused _ _ _ (k .0 .answer) (c .before .before .v .given .1) (c .refused .ensures) in
+    let l = first-refused _ _ _ _ (outlineAfter _ _) (k .0 .answer) (c .before .before .v .given .1) (c .refused .ensures) refl in
     (l .0, (k .1, l .1))
 
 enum-told : tie.Need-enum-told
@@ -53,11 +54,11 @@ same-length-3 : tie.Need-same-length-3
 same-length-3 c = search needs
 
 returns-2 : tie.Need-returns-2
-unfolding workspaceLeft
+unfolding outlineAnswer outlineBuffer outlineVerdict workspaceLeft
 returns-2 c =
     let k = c .before .before .before .before .before .before .before .before .before .before .before .before .before .before .before .before .before .before .before .before .before .before .accept .ensures in
     let g = c .before .before .before .before .before .before .write-outline .ensures in
-    let l = outline-refused _ _ _ (k .0 .answer) (c .before .before .before .before .before .before .before .before .before .before .before .before .before .before .before .before .before .before .enum-told .given .1) (g .0 .answer) (c .before .before .w .given .1) (c .refused2 .ensures) (g .1) in
+    let l = then-refused _ _ _ _ (outlineAfter _ _) (k .0 .answer) (c .before .before .before .before .before .before .before .before .before .before .before .before .before .before .before .before .before .before .enum-told .given .1) (g .0 .answer) (c .before .before .w .given .1) (c .refused2 .ensures) (g .1) in
     (l .0, (k .1, l .1))
 
 same-length-4 : tie.Need-same-length-4
@@ -67,12 +68,12 @@ same-length-5 : tie.Need-same-length-5
 same-length-5 c = search needs
 
 returns-3 : tie.Need-returns-3
-unfolding workspaceLeft
+unfolding outlineAnswer outlineBuffer outlineVerdict workspaceLeft
 returns-3 c =
     let k = c .before .before .before .before .before .before .before .before .before .before .before .before .before .before .before .before .before .before .before .before .before .accept .ensures in
     let g = c .before .before .before .before .before .write-outline .ensures in
     let z = c .before .enum-told2 .given .1 in
-    let l = outline-told _ _ _ (k .0 .answer) (c .before .before .before .before .before .before .before .before .before .before .before .before .before .before .before .before .before .enum-told .given .1) (g .0 .answer) z (g .0 .long z) (c .number .ensures) (g .1) in
+    let l = then-told _ _ _ _ (outlineAfter _ _) (k .0 .answer) (c .before .before .before .before .before .before .before .before .before .before .before .before .before .before .before .before .before .enum-told .given .1) (g .0 .answer) z (g .0 .long z) (c .number .ensures) (g .1) in
     (l .0, (k .1, l .1))
 
 pub taplinen-outline-spec : {M : Type 1} → statement M

@@ -1,92 +1,18 @@
-use mathlib.Core.Path.{ap, sym, _∙_}
-use Rattle.verdict.specs.declared.Verdict.the-variants.{Accepted}
-use Rattle.layout.specs.Table.{Table}
-use Rattle.lookup.specs.Lookup.{textFrom, indexOfText}
-use Rattle.lookup.specs.declared.Lookup.{Lookup}
-use Rattle.accept.specs.Held.{nameStrings}
-use Rattle.accept.proofs.Held.{names-table, names-held, names-long}
-use Rattle.taplinen.specs.Answers.{answered, kindOf, numberOf}
-use Rattle.taplinen.specs.Questions.{nameAnswer, workspaceLeft}
-use Rattle.taplinen.proofs.Laws.{asked-refused, asked-odd, asked-told}
-use Rattle.taplinen.proofs.Asked.{names-clean}
-use native.Mathlib.Omega.{arith}
+use Rattle.lookup.specs.Kinds.{toldIn, tableOf}
+use Rattle.taplinen.specs.Questions.{textAnswer, nameAnswer}
 use borrow.Author.Needs.{needs}
 use Rattle.taplinen.proofs.questions.taplinen_name.Statement.{statement}
 use Rattle.taplinen.proofs.questions.taplinen_name.Tie as tie
 
-accept-requires : tie.Need-accept-requires
-accept-requires c κs = search needs
-
-enum-known-v : tie.Need-enum-known-v
-enum-known-v c = search needs
-
-refused-requires : tie.Need-refused-requires
-refused-requires c κs = search needs
+ask-requires : tie.Need-ask-requires
+ask-requires c κs = search needs
 
 same-length : tie.Need-same-length
 same-length c = search needs
 
 returns : tie.Need-returns
-unfolding nameAnswer workspaceLeft
-returns c = let k = c .before .before .before .before .before .before .accept .ensures in (asked-refused _ _ (k .0 .answer) _ _ (c .before .before .v .given .1) (c .refused .ensures), k .1)
-
-enum-told : tie.Need-enum-told
-enum-told c = search needs
-
-refused-requires-2 : tie.Need-refused-requires-2
-refused-requires-2 c κs = search needs
-
-same-length-2 : tie.Need-same-length-2
-same-length-2 c = search needs
-
-returns-2 : tie.Need-returns-2
-unfolding nameAnswer workspaceLeft
-returns-2 c = let k = c .before .before .before .before .before .before .accept .ensures in (asked-odd _ _ (k .0 .answer) _ _ (c .before .before .enum-told .given .1) (c .before .if1 .taken) (c .refused2 .ensures), k .1)
-
-tables-requires : tie.Need-tables-requires
-tables-requires c κs = search needs
-
-slice-aggregate-find-name : tie.Need-slice-aggregate-find-name
-slice-aggregate-find-name c = let k = c .before .before .before .before .before .before .before .before .before .before .before .before .before .before .accept .ensures in names-long _ _ (k .0 .view (c .before .before .before .before .before .before .before .before .before .before .enum-told .given .1))
-
-find-name-requires : tie.Need-find-name-requires
-unfolding nameStrings
-find-name-requires c κs =
-    let k = c .before .before .before .before .before .before .before .before .before .before .before .before .before .before .accept .ensures in
-    let e = c .before .before .before .before .before .before .before .before .before .before .enum-told .given .1 in
-    let f = k .0 .view e in
-    (c .before .before .before .tables .ensures, names-held _ _ f, names-clean _ _ _ f (sym (k .0 .answer) ∙ e), omega arith)
-
-told-requires : tie.Need-told-requires
-told-requires c κs = search needs
-
-same-length-3 : tie.Need-same-length-3
-same-length-3 c = search needs
-
-returns-3 : tie.Need-returns-3
-unfolding nameAnswer workspaceLeft textFrom nameStrings
-returns-3 c =
-    let k = c .before .before .before .before .before .before .before .before .before .before .before .before .before .before .before .before .accept .ensures in
-    let e = c .before .before .before .before .before .before .before .before .before .before .before .before .enum-told .given .1 in
-    let l = c .before .find-name .ensures ∙ ap (λ (t : Table). indexOfText t (textFrom (c .before .before .before .before .before .before .before .before .before .before .before .before .before .before .before .before .before .before .before .before .before .args .text .now))) (names-table _ _ (k .0 .view e)) in
-    (asked-told _ _ (k .0 .answer) _ _ e (c .before .before .before .before .before .before .before .before .before .before .before .if1 .left) (c .told .ensures ∙ ap (λ (x : Lookup). answered Accepted (kindOf x) (numberOf x)) l), k .1)
+unfolding nameAnswer textAnswer toldIn tableOf
+returns c = c .before .before .ask .ensures
 
 pub taplinen-name-spec : {M : Type 1} → statement M
-taplinen-name-spec =
-    tie.close
-    (tie.spec
-    accept-requires
-    enum-known-v
-    refused-requires
-    same-length
-    returns
-    enum-told
-    refused-requires-2
-    same-length-2
-    returns-2
-    tables-requires
-    slice-aggregate-find-name
-    find-name-requires
-    told-requires
-    same-length-3
-    returns-3)
+taplinen-name-spec = tie.close (tie.spec ask-requires same-length returns)

@@ -1,8 +1,10 @@
 use mathlib.Core.Path.{sym, _∙_}
 use Rattle.accept.specs.Held.{nameStrings}
 use Rattle.accept.proofs.Held.{names-table, names-held, names-long}
-use Rattle.taplinen.specs.Questions.{workspaceLeft}
-use Rattle.taplinen.proofs.Listed.{path-refused, listing-refused, listing-told}
+use Rattle.path.specs.Listing.{listingAfter}
+use Rattle.path.proofs.Demand.{refused-stay}
+use Rattle.taplinen.specs.Questions.{pathVerdict, pathAnswer, pathListing, workspaceLeft}
+use Rattle.taplinen.proofs.Filled.{first-refused, then-refused, then-told}
 use Rattle.taplinen.proofs.Asked.{nodes-held, file-rules}
 use borrow.Author.Needs.{needs}
 use Rattle.taplinen.proofs.questions.taplinen_path.Statement.{statement}
@@ -21,10 +23,10 @@ same-length : tie.Need-same-length
 same-length c = search needs
 
 returns : tie.Need-returns
-unfolding workspaceLeft
+unfolding pathAnswer pathListing pathVerdict workspaceLeft
 returns c =
     let k = c .before .before .before .before .before .before .accept .ensures in
-    let l = path-refused _ _ _ _ (k .0 .answer) (c .before .before .v .given .1) (c .refused .ensures) in
+    let l = first-refused _ _ _ _ (listingAfter _ _ _) (k .0 .answer) (c .before .before .v .given .1) (c .refused .ensures) (sym (refused-stay _ _ _ _ _)) in
     (l .0, (k .1, l .1))
 
 enum-told : tie.Need-enum-told
@@ -64,11 +66,11 @@ same-length-3 : tie.Need-same-length-3
 same-length-3 c = search needs
 
 returns-2 : tie.Need-returns-2
-unfolding workspaceLeft
+unfolding pathAnswer pathListing pathVerdict workspaceLeft
 returns-2 c =
     let k = c .before .before .before .before .before .before .before .before .before .before .before .before .before .before .before .before .before .before .before .before .before .before .before .accept .ensures in
     let g = c .before .before .before .before .before .before .list-path .ensures in
-    let l = listing-refused _ _ _ _ (k .0 .answer) (c .before .before .before .before .before .before .before .before .before .before .before .before .before .before .before .before .before .before .before .enum-told .given .1) (g .0 .answer) (c .before .before .w .given .1) (c .refused2 .ensures) (g .1) in
+    let l = then-refused _ _ _ _ (listingAfter _ _ _) (k .0 .answer) (c .before .before .before .before .before .before .before .before .before .before .before .before .before .before .before .before .before .before .before .enum-told .given .1) (g .0 .answer) (c .before .before .w .given .1) (c .refused2 .ensures) (g .1) in
     (l .0, (k .1, l .1))
 
 same-length-4 : tie.Need-same-length-4
@@ -78,12 +80,12 @@ same-length-5 : tie.Need-same-length-5
 same-length-5 c = search needs
 
 returns-3 : tie.Need-returns-3
-unfolding workspaceLeft
+unfolding pathAnswer pathListing pathVerdict workspaceLeft
 returns-3 c =
     let k = c .before .before .before .before .before .before .before .before .before .before .before .before .before .before .before .before .before .before .before .before .before .before .accept .ensures in
     let g = c .before .before .before .before .before .list-path .ensures in
     let z = c .before .enum-told2 .given .1 in
-    let l = listing-told _ _ _ _ (k .0 .answer) (c .before .before .before .before .before .before .before .before .before .before .before .before .before .before .before .before .before .before .enum-told .given .1) (g .0 .answer) z (g .0 .many z) (c .number .ensures) (g .1) in
+    let l = then-told _ _ _ _ (listingAfter _ _ _) (k .0 .answer) (c .before .before .before .before .before .before .before .before .before .before .before .before .before .before .before .before .before .before .enum-told .given .1) (g .0 .answer) z (g .0 .many z) (c .number .ensures) (g .1) in
     (l .0, (k .1, l .1))
 
 pub taplinen-path-spec : {M : Type 1} → statement M

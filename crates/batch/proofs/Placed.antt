@@ -1,0 +1,194 @@
+-- The places of some texts, written one after the other. Assumes nothing.
+use mathlib.Core.Path.{_≡_, refl, sym, ap, _∙_}
+use mathlib.Core.Bool.{cond}
+use mathlib.Core.Logic.{⊎-elim}
+use mathlib.Core.List.{List, [], _∷_, _++_}
+use Prim.Native.Nat.{ℕ, _+_, _-_, _*_, _/_, _%_, _≤_, _<_}
+use native.Mathlib.Omega.{arith}
+use borrow.Author.Tests.{eq-eqb, ne-eqb}
+use lib.Dec.{eqb}
+use lib.ListN.{length, length-append}
+use Rattle.laws.specs.Lists.{splice}
+use Rattle.laws.proofs.Order.{le-or-lt}
+use Rattle.laws.proofs.Splice.{splice-nil, splice-length, splice-append}
+use Rattle.le.specs.Le.{u16At}
+use Rattle.verdict.proofs.Laws.{Clean}
+use Rattle.hash.specs.Hash.{hashText}
+use Rattle.text.specs.Text.{chars, textIn}
+use Rattle.text.specs.Measure.{Measured}
+use Rattle.text.specs.declared.Extent.{Extent}
+use Rattle.text.proofs.Laws.{chars-more, text-chars, text-live, text-end}
+use Rattle.lookup.specs.Kinds.{kindOf, numberOf}
+use Rattle.lookup.specs.declared.Lookup.{Lookup}
+use Rattle.lookup.specs.declared.Lookup.the-variants.{Found, Absent}
+use Rattle.path.specs.Names.{addFirst, split, namesOf, pathChecks}
+use Rattle.path.specs.Listing.{le4}
+use Rattle.path.specs.Indices.{NameEnd}
+use Rattle.path.proofs.Split.{length-add, namesFrom, names-start, names-end, names-more}
+use Rattle.path.proofs.Formed.{formed-inv}
+use Rattle.batch.specs.Places.{place, places}
+
+pub length-place : (l : Lookup) → length (place l) ≡ 8
+unfolding place le4
+length-place l = refl
+
+pub length-places : (f : List ℕ → Lookup) (xs : List (List ℕ)) → length (places f xs) ≡ 8 * length xs
+unfolding places
+length-places f [] = refl
+length-places f (x ∷ xs) = let r = length-places f xs in omega (arith, length-append (place (f x)) (places f xs), length-place (f x))
+
+-- ---- one place
+
+-- a place written as two numbers
+put-two : (d : List ℕ) (at k n : ℕ) {d₁ d₂ : List ℕ} → at + 8 ≤ length d → d₁ ≡ splice d at (le4 k) → d₂ ≡ splice d₁ (at + 4) (le4 n)
+    → d₂ ≡ splice d at (le4 k ++ le4 n)
+unfolding le4
+put-two d at k n h p q = q ∙ ap (λ (x : List ℕ). splice x (at + 4) (le4 n)) p ∙ sym (splice-append d at (le4 k) (le4 n) (omega arith))
+
+module _ (d : List ℕ) (at : ℕ) {l : Lookup} {d₁ d₂ : List ℕ} (h : at + 8 ≤ length d) where
+  pub put-found : (n : ℕ) → l ≡ Found n → d₁ ≡ splice d at (le4 0) → d₂ ≡ splice d₁ (at + 4) (le4 n) → d₂ ≡ splice d at (place l)
+  unfolding place kindOf numberOf
+  put-found n e p q = rw e (put-two d at 0 n h p q)
+
+  pub put-absent : l ≡ Absent → d₁ ≡ splice d at (le4 1) → d₂ ≡ splice d₁ (at + 4) (le4 0) → d₂ ≡ splice d at (place l)
+  unfolding place kindOf numberOf
+  put-absent e p q = rw e (put-two d at 1 0 h p q)
+
+-- ---- the loop that counts
+
+-- a character in front of the others ends a text where it is 0, and otherwise only makes the first longer
+module _ (texts : List ℕ) (at : ℕ) (even : length texts % 2 ≡ 0) (h : at % 2 ≡ 0) (l : at < length texts) where
+  first-char : namesFrom texts at
+      ≡ cond (eqb (u16At texts at) 0) ([] ∷ namesFrom texts (at + 2)) (addFirst (u16At texts at) (namesFrom texts (at + 2)))
+  unfolding namesFrom split
+  first-char = ap split (chars-more texts at _ ((length texts - (at + 2)) / 2) (omega arith))
+
+  names-ended : u16At texts at ≡ 0 → length (namesFrom texts at) ≡ length (namesFrom texts (at + 2)) + 1
+  names-ended z = rw (first-char, eq-eqb (u16At texts at) 0 z) (omega arith)
+
+  names-longer : (u16At texts at ≡ 0 → ⊥) → length (namesFrom texts at) ≡ length (namesFrom texts (at + 2))
+  names-longer f = rw (first-char, ne-eqb (u16At texts at) 0 f) (length-add (u16At texts at) (namesFrom texts (at + 2)))
+
+-- n texts end before offset `at`
+pub record Counted (texts : List ℕ) (n at : ℕ) : Type 0 where
+  pub even : at % 2 ≡ 0
+  pub few : n ≤ at
+  pub left : n + length (namesFrom texts at) ≡ length (namesOf texts)
+
+pub counted-start : (texts : List ℕ) → Counted texts 0 0
+counted-start texts = record { even = refl; few = omega arith; left = omega (arith, ap length (names-start texts)) }
+
+module _ {texts : List ℕ} {n at : ℕ} (w : Counted texts n at) where
+  pub counted-zero : length texts % 2 ≡ 0 → at < length texts → u16At texts at ≡ 0 → Counted texts (n + 1) (at + 2)
+  counted-zero even l z = record {
+    even = omega (arith, w .even);
+    few = omega (arith, w .few);
+    left = omega (arith, w .left, names-ended texts at even (w .even) l z);
+  }
+
+  pub counted-other : length texts % 2 ≡ 0 → at < length texts → (u16At texts at ≡ 0 → ⊥) → Counted texts n (at + 2)
+  counted-other even l f = record {
+    even = omega (arith, w .even);
+    few = omega (arith, w .few);
+    left = omega (arith, w .left, names-longer texts at even (w .even) l f);
+  }
+
+  pub counted-all : length texts ≤ at → n ≡ length (namesOf texts)
+  counted-all h = omega (arith, w .left, ap length (names-end texts at h))
+
+-- ---- the loop that writes
+
+-- the text at an offset has k characters, a 0 stands behind them, and h is its hash
+pub record TextAt (texts : List ℕ) (at k h : ℕ) : Type 0 where
+  pub within : at + (2 * k + 2) ≤ length texts
+  pub hashed : h ≡ hashText (chars texts at k)
+  pub next : namesFrom texts at ≡ chars texts at k ∷ namesFrom texts (at + (2 * k + 2))
+
+-- what measuring it tells
+module _ (texts : List ℕ) (at : ℕ) (ok : Clean (pathChecks texts)) (even : at % 2 ≡ 0) (l : at < length texts) where
+  ended-before : length (textIn texts at ((length texts - at) / 2)) < (length texts - at) / 2
+  ended-before =
+      let w = formed-inv texts ok in
+      let n : ℕ = (length texts - at) / 2 in
+      ⊎-elim
+      (λ z. absurd (omega arith))
+      (λ z. ⊎-elim
+      (λ g.
+      let e : at + 2 * (n - 1) ≡ length texts - 2 = omega (arith, w .0) in
+      absurd (text-live texts at n (n - 1) (omega (arith, w .0)) (ap (u16At texts) e ∙ z)))
+      (λ g. g)
+      (le-or-lt n (length (textIn texts at n))))
+      (w .1)
+
+  text-end-at : (k : ℕ) → k ≡ length (textIn texts at ((length texts - at) / 2)) → NameEnd texts at (at + 2 * k)
+  text-end-at k e =
+      let w = formed-inv texts ok in
+      let n : ℕ = (length texts - at) / 2 in
+      let g = ended-before in
+      record {
+        from = omega arith;
+        within = omega (arith, w .0);
+        even = omega arith;
+        zero-there = ap (λ (m : ℕ). u16At texts (at + 2 * m)) e ∙ text-end texts at n g;
+        live = λ i h z. text-live texts at n i (omega arith) z;
+      }
+
+  pub text-measured : {x : Extent} → Measured texts at ((length texts - at) / 2) x → TextAt texts at (x .length) (x .hash)
+  text-measured {x} m =
+      let w = formed-inv texts ok in
+      let n : ℕ = (length texts - at) / 2 in
+      let e = text-end-at (x .length) (m .long) in
+      let d : (at + 2 * x .length - at) / 2 ≡ x .length = omega arith in
+      let f : at + 2 * x .length + 2 ≡ at + (2 * x .length + 2) = omega arith in
+      record {
+        within = omega (arith, e .within);
+        hashed = m .hashed ∙ ap hashText (text-chars texts at n ∙ ap (chars texts at) (sym (m .long)));
+        next = names-more texts at (at + 2 * x .length) (w .0) even e
+            ∙ ap (λ (k : ℕ). chars texts at k ∷ namesFrom texts (at + 2 * x .length + 2)) d
+            ∙ ap (λ (k : ℕ). chars texts at (x .length) ∷ namesFrom texts k) f;
+      }
+
+-- with the places of the texts from offset `at` on put at i, the answers d′ are d with all places put at 0
+pub record Writing (f : List ℕ → Lookup) (texts d : List ℕ) (i at : ℕ) (d′ : List ℕ) : Type 0 where
+  pub even : at % 2 ≡ 0
+  pub long : length d′ ≡ length d
+  pub room : i + 8 * length (namesFrom texts at) ≤ length d
+  pub whole : splice d′ i (places f (namesFrom texts at)) ≡ splice d 0 (places f (namesOf texts))
+
+module _ (f : List ℕ → Lookup) (texts : List ℕ) where
+  pub writing-start : (d : List ℕ) → 8 * length (namesOf texts) ≤ length d → Writing f texts d 0 0 d
+  writing-start d h = record {
+    even = refl;
+    long = refl;
+    room = omega (arith, ap length (names-start texts));
+    whole = ap (λ (xs : List (List ℕ)). splice d 0 (places f xs)) (names-start texts);
+  }
+
+  module _ {d d′ : List ℕ} {i at : ℕ} (w : Writing f texts d i at d′) where
+    module _ {k h : ℕ} (t : TextAt texts at k h) where
+      -- there is a place for the next text
+      pub place-room : i + 8 ≤ length d′
+      place-room = omega (arith, w .room, w .long, ap length (t .next))
+
+      pub writing-more : {l : Lookup} {d″ : List ℕ} → l ≡ f (chars texts at k) → d″ ≡ splice d′ i (place l) → Writing f texts d (i + 8) (at + (2 * k + 2)) d″
+      unfolding places
+      writing-more {l} p q =
+          let x : List ℕ = chars texts at k in
+          let xs : List (List ℕ) = namesFrom texts (at + (2 * k + 2)) in
+          let g : length (place (f x)) ≡ 8 = length-place (f x) in
+          let s = q ∙ ap (λ (y : Lookup). splice d′ i (place y)) p in
+          record {
+            even = omega (arith, w .even);
+            long = ap length s ∙ splice-length d′ i (place (f x)) (omega (arith, place-room)) ∙ w .long;
+            room = omega (arith, w .room, ap length (t .next));
+            whole =
+                ap (λ (y : List ℕ). splice y (i + 8) (places f xs)) s
+                ∙ ap (λ (n : ℕ). splice (splice d′ i (place (f x))) (i + n) (places f xs)) (sym g)
+                ∙ sym (splice-append d′ i (place (f x)) (places f xs) (omega (arith, place-room)))
+                ∙ ap (λ (y : List (List ℕ)). splice d′ i (places f y)) (sym (t .next))
+                ∙ w .whole;
+          }
+
+    pub writing-all : length texts ≤ at → d′ ≡ splice d 0 (places f (namesOf texts))
+    unfolding places
+    writing-all h = sym (splice-nil d′ i) ∙ ap (λ (xs : List (List ℕ)). splice d′ i (places f xs)) (sym (names-end texts at h)) ∙ w .whole

@@ -1,0 +1,123 @@
+// Many lookups in one acceptance: each text is answered as the question for one text would be.
+ghost use mathlib.Core.Path.{_≡_};
+ghost use Prim.Native.Nat.{_+_, _*_, _%_, _≤_};
+ghost use lib.ListN.{length};
+ghost use Rattle.laws.specs.Lists.{splice};
+ghost use Rattle.verdict.specs.Checks.{firstFault};
+ghost use Rattle.verdict.specs.declared.Verdict.the-variants.{Accepted};
+ghost use Rattle.hash.specs.Table.{Tables};
+ghost use Rattle.strings.specs.Order.{stringChecks};
+ghost use Rattle.strings.specs.Held.{Held, heldTable};
+ghost use Rattle.lookup.specs.Kinds.{toldIn};
+ghost use Rattle.path.specs.Names.{namesOf, pathChecks};
+ghost use Rattle.batch.specs.Places.{place, places, answersAfter};
+ghost use Rattle.batch.specs.Answer.{Answered};
+use lookup::Kind;
+use lookup::Lookup;
+use strings::Strings;
+use verdict::Verdict;
+
+// Refusal 24 or 25, or the number of texts.
+pub struct Batch {
+    pub answer: Verdict,
+    pub texts: usize,
+}
+
+// How many texts there are: each 0 ends one.
+fn count_texts(texts: &[u8]) -> usize
+    requires { ⌜ length (now texts) % 2 ≡ 0 ⌝ }
+    ensures { λ r. ⌜ r ≡ length (namesOf (now (texts .entry))) ⌝ }
+{
+    let mut n = 0usize;
+    let mut at = 0;
+    while at < texts.len() {
+        if le::u16_at(texts, at) == 0 {
+            n += 1;
+        }
+        at += 2;
+    }
+    n
+}
+
+// Writes what a lookup answers: its kind, 0 found or 1 absent, and its value.
+fn put_place(answers: &mut [u8], at: usize, l: Lookup)
+    requires { ⌜ at + 8 ≤ length (now answers) ⌝ }
+    ensures { λ _. ⌜ now (answers .exit) ≡ splice (now (answers .entry)) at (place l) ⌝ }
+{
+    match l {
+        Lookup::Found(n) => {
+            path::below::put_u32(answers, at, 0);
+            path::below::put_u32(answers, at + 4, n);
+        }
+        Lookup::Absent => {
+            path::below::put_u32(answers, at, 1);
+            path::below::put_u32(answers, at + 4, 0);
+        }
+    }
+}
+
+// Writes what each text's lookup answers, one after the other. One pass finds a text's end and its hash.
+fn put_places(
+    b: &[u8],
+    t: &[u32; 512],
+    s: Strings,
+    samples: &[u32; 256],
+    starts: &[u32],
+    kind: Kind,
+    texts: &[u8],
+    answers: &mut [u8],
+)
+    requires { ⌜ Tables (now t) × Held (now b) s (now samples) (now starts)
+        × (firstFault (stringChecks (heldTable (now b) s (now starts))) ≡ Accepted) ⌝ }
+    requires { ⌜ (firstFault (pathChecks (now texts)) ≡ Accepted) × (8 * length (namesOf (now texts)) ≤ length (now answers)) ⌝ }
+    ensures { λ _. ⌜ now (answers .exit)
+        ≡ splice (now (answers .entry)) 0 (places (toldIn kind (heldTable (now (b .entry)) s (now (starts .entry)))) (namesOf (now (texts .entry)))) ⌝ }
+{
+    let mut i = 0usize;
+    let mut at = 0;
+    while at < texts.len() {
+        let x = text::measure(texts, t, at, (texts.len() - at) / 2);
+        let l = lookup::find_hashed(b, s, samples, starts, kind, x.hash, texts, at, x.length);
+        put_place(answers, i, l);
+        i += 8;
+        at += 2 * x.length + 2;
+    }
+}
+
+// Looks up each text in a table that is accepted; nothing is written unless there is a place for each.
+pub fn find_each(
+    b: &[u8],
+    t: &[u32; 512],
+    s: Strings,
+    samples: &[u32; 256],
+    starts: &[u32],
+    kind: Kind,
+    texts: &[u8],
+    answers: &mut [u8],
+) -> Batch
+    requires { ⌜ Tables (now t) × Held (now b) s (now samples) (now starts)
+        × (firstFault (stringChecks (heldTable (now b) s (now starts))) ≡ Accepted) ⌝ }
+    ensures answer { λ r. ⌜ Answered (now (texts .entry)) (length (now (answers .entry))) r ⌝ }
+    ensures answers { λ r. ⌜ now (answers .exit)
+        ≡ answersAfter (toldIn kind (heldTable (now (b .entry)) s (now (starts .entry)))) (now (texts .entry)) (now (answers .entry)) (r .answer) ⌝ }
+{
+    let c = path::names::check_path(texts);
+    if let Verdict::Refused(num, place) = c {
+        return Batch {
+            answer: Verdict::Refused(num, place),
+            texts: 0,
+        };
+    }
+    let n = count_texts(texts);
+    if answers.len() / 8 < n {
+        return Batch {
+            answer: Verdict::Refused(25, n),
+            texts: 0,
+        };
+    }
+    put_places(b, t, s, samples, starts, kind, texts, answers);
+    Batch {
+        answer: Verdict::Accepted,
+        texts: n,
+    }
+}

@@ -1,0 +1,30 @@
+-- The two kinds of lookup (01, "Questions"), and 01's numbers for what one answers.
+use Prim.Native.Nat.{ℕ}
+use mathlib.Core.List.{List}
+use Rattle.layout.specs.Table.{Table}
+use Rattle.layout.specs.Layout.{values, names}
+use Rattle.lookup.specs.Lookup.{indexOfText, addressOfText}
+use Rattle.lookup.specs.declared.Kind.{Kind}
+use Rattle.lookup.specs.declared.Kind.the-variants.{Name, Value}
+use Rattle.lookup.specs.declared.Lookup.{Lookup}
+use Rattle.lookup.specs.declared.Lookup.the-variants.{Found, Absent}
+
+-- What is told of a text in a table: a name's index, or a value's address.
+unfoldable pub toldIn : Kind → Table → List ℕ → Lookup
+toldIn Name t x = indexOfText t x
+toldIn Value t x = addressOfText t x
+
+-- The table that is asked.
+unfoldable pub tableOf : Kind → List ℕ → Table
+tableOf Name b = names b
+tableOf Value b = values b
+
+-- The kind of an answer: 0 found, 1 absent.
+unfoldable pub kindOf : Lookup → ℕ
+kindOf (Found n) = 0
+kindOf Absent = 1
+
+-- Its value: what was found, or 0.
+unfoldable pub numberOf : Lookup → ℕ
+numberOf (Found n) = n
+numberOf Absent = 0

@@ -1,0 +1,89 @@
+-- Code that holds the view of an accepted file and asks without a second check is told what the exported questions answer: the laws tie
+-- what the contracts of the held forms say, on the view's parts, to the exported definitions. Assumes nothing.
+use Prim.Native.Nat.{ℕ, _%_}
+use mathlib.Core.Path.{_≡_, refl, sym, ap, _∙_}
+use mathlib.Core.List.{List}
+use lib.ListN.{length}
+use Rattle.verdict.specs.declared.Verdict.the-variants.{Accepted}
+use Rattle.layout.specs.View.{Fits}
+use Rattle.layout.specs.declared.View.{View}
+use Rattle.layout.specs.Table.{Table}
+use Rattle.strings.specs.Held.{heldTable}
+use Rattle.nodes.specs.Held.{valueStrings}
+use Rattle.lookup.specs.Lookup.{textFrom, indexOfText, addressOfText}
+use Rattle.lookup.specs.Kinds.{toldIn, tableOf, kindOf, numberOf}
+use Rattle.lookup.specs.declared.Kind.{Kind}
+use Rattle.lookup.specs.declared.Kind.the-variants.{Name, Value}
+use Rattle.lookup.specs.declared.Lookup.{Lookup}
+use Rattle.path.specs.Listing.{listingAfter}
+use Rattle.path.specs.Answer.{PathListed}
+use Rattle.path.specs.declared.listing.Listing.{Listing}
+use Rattle.batch.specs.Places.{answersAfter}
+use Rattle.batch.specs.Answer.{Answered}
+use Rattle.batch.specs.declared.Batch.{Batch}
+use Rattle.outline.specs.Outlined.{outlineAfter}
+use Rattle.outline.specs.Answer.{OutlineWritten}
+use Rattle.outline.specs.declared.Outlined.{Outlined}
+use Rattle.accept.specs.Verdict.{verdictOf}
+use Rattle.accept.specs.Held.{nameStrings}
+use Rattle.taplinen.specs.Answers.{answered}
+use Rattle.taplinen.specs.Questions.{textAnswer, nameAnswer, valueAnswer, pathVerdict, pathAnswer, pathListing, outlineVerdict, outlineAnswer, outlineBuffer}
+use Rattle.taplinen.specs.Batches.{batchVerdict, batchAnswer, batchPlaces, namePlaces, valuePlaces}
+use Rattle.taplinen.proofs.Laws.{asked-told}
+use Rattle.taplinen.proofs.Tables.{name-table, value-table}
+use Rattle.taplinen.proofs.Filled.{own-told}
+
+-- an accepted file asked for a text of an even number of bytes
+pub text-told : (k : Kind) (b : List ℕ) (room : ℕ) (q : List ℕ) → verdictOf b room ≡ Accepted → length q % 2 ≡ 0
+    → let l = toldIn k (tableOf k b) (textFrom q) in textAnswer k b room q ≡ answered Accepted (kindOf l) (numberOf l)
+unfolding textAnswer
+text-told k b room q e even = sym (asked-told b room refl q (toldIn k (tableOf k b) (textFrom q)) e even refl)
+
+module _ (b : List ℕ) (room : ℕ) (v : View) (f : Fits b v) (e : verdictOf b room ≡ Accepted) where
+  -- lookup::find_name and lookup::find_value
+  module _ (q : List ℕ) (even : length q % 2 ≡ 0) where
+    told-by : (k : Kind) {t : Table} {l : Lookup} → t ≡ tableOf k b → l ≡ toldIn k t (textFrom q) → textAnswer k b room q ≡ answered Accepted (kindOf l) (numberOf l)
+    told-by k s h =
+        text-told k b room q e even
+        ∙ sym (ap (λ (x : Lookup). answered Accepted (kindOf x) (numberOf x)) (h ∙ ap (λ (y : Table). toldIn k y (textFrom q)) s))
+
+    pub held-name : {l : Lookup} → l ≡ indexOfText (heldTable b (nameStrings (v .places)) (v .«name_buckets»)) (textFrom q)
+        → nameAnswer b room q ≡ answered Accepted (kindOf l) (numberOf l)
+    unfolding nameAnswer textAnswer toldIn tableOf
+    held-name h = told-by Name (name-table b v f refl) h
+
+    pub held-value : {l : Lookup} → l ≡ addressOfText (heldTable b (valueStrings (v .places)) (v .«value_buckets»)) (textFrom q)
+        → valueAnswer b room q ≡ answered Accepted (kindOf l) (numberOf l)
+    unfolding valueAnswer textAnswer toldIn tableOf
+    held-value h = told-by Value (value-table b v f refl) h
+
+  -- path::listing::list_path
+  pub held-path : (path list : List ℕ) {r : Listing} → PathListed b path (length list) r
+      → (pathAnswer b room path (length list) ≡ answered (r .answer) 0 (r .matches)) × (pathListing b room path list ≡ listingAfter b path list (r .answer))
+  unfolding pathAnswer pathListing pathVerdict
+  held-path path list h = own-told b room _ _ (listingAfter b path list) refl e (h .answer) (h .many)
+
+  -- outline::write_outline
+  pub held-outline : (out : List ℕ) {r : Outlined} → OutlineWritten b (length out) r
+      → (outlineAnswer b room (length out) ≡ answered (r .answer) 0 (r .length)) × (outlineBuffer b room out ≡ outlineAfter b out (r .answer))
+  unfolding outlineAnswer outlineBuffer outlineVerdict
+  held-outline out h = own-told b room _ _ (outlineAfter b out) refl e (h .answer) (h .long)
+
+  -- batch::find_each
+  module _ (texts d : List ℕ) {r : Batch} (h : Answered texts (length d) r) where
+    each-by : (k : Kind) {t : Table} → t ≡ tableOf k b
+        → (batchAnswer b room texts (length d) ≡ answered (r .answer) 0 (r .texts)) × (batchPlaces k b room texts d ≡ answersAfter (toldIn k t) texts d (r .answer))
+    unfolding batchAnswer batchPlaces batchVerdict
+    each-by k s =
+        let w = own-told b room _ _ (answersAfter (toldIn k (tableOf k b)) texts d) refl e (h .answer) (h .many) in
+        (w .0, w .1 ∙ sym (ap (λ (y : Table). answersAfter (toldIn k y) texts d (r .answer)) s))
+
+    pub held-names : (batchAnswer b room texts (length d) ≡ answered (r .answer) 0 (r .texts))
+        × (namePlaces b room texts d ≡ answersAfter (toldIn Name (heldTable b (nameStrings (v .places)) (v .«name_buckets»))) texts d (r .answer))
+    unfolding namePlaces batchPlaces toldIn tableOf
+    held-names = each-by Name (name-table b v f refl)
+
+    pub held-values : (batchAnswer b room texts (length d) ≡ answered (r .answer) 0 (r .texts))
+        × (valuePlaces b room texts d ≡ answersAfter (toldIn Value (heldTable b (valueStrings (v .places)) (v .«value_buckets»))) texts d (r .answer))
+    unfolding valuePlaces batchPlaces toldIn tableOf
+    held-values = each-by Value (value-table b v f refl)

@@ -1,0 +1,80 @@
+// Lookups in a file that is accepted and whose view is held: nothing is checked a second time. The view is handed over whole once a
+// question; its arrays are lent from here on.
+ghost use mathlib.Core.Path.{_≡_};
+ghost use lib.ListN.{length};
+ghost use Rattle.layout.specs.View.{Fits};
+ghost use Rattle.lookup.specs.Lookup.{textFrom};
+ghost use Rattle.lookup.specs.Kinds.{toldIn, tableOf};
+ghost use Rattle.batch.specs.Places.{answersAfter};
+ghost use Rattle.batch.specs.Answer.{Answered};
+ghost use Rattle.accept.specs.Rules.{FileRules};
+use batch::Batch;
+use layout::View;
+use lookup::Kind;
+use lookup::Lookup;
+use strings::Strings;
+
+// What one text is told.
+pub fn find(file: &[u8], view: View, kind: Kind, text: &[u8]) -> Lookup
+    requires { ⌜ Fits (now file) view × FileRules (now file) ⌝ }
+    ensures { λ r. ⌜ r ≡ toldIn kind (tableOf kind (now (file .entry))) (textFrom (now (text .entry))) ⌝ }
+{
+    let t = hash::tables();
+    let p = view.places;
+    let n = text.len() / 2;
+    match kind {
+        Kind::Name => {
+            let samples = view.name_starts;
+            let buckets = view.name_buckets;
+            let chars = p.name_chars;
+            let s = Strings {
+                chars,
+                list: p.name_list,
+            };
+            lookup::find_name(file, &t, s, &samples, &buckets, text, 0, n)
+        }
+        Kind::Value => {
+            let samples = view.value_starts;
+            let buckets = view.value_buckets;
+            let chars = p.value_chars;
+            let s = Strings {
+                chars,
+                list: p.value_list,
+            };
+            lookup::find_value(file, &t, s, &samples, &buckets, text, 0, n)
+        }
+    }
+}
+
+// What each of many texts is told.
+pub fn find_each(file: &[u8], view: View, kind: Kind, texts: &[u8], answers: &mut [u8]) -> Batch
+    requires { ⌜ Fits (now file) view × FileRules (now file) ⌝ }
+    ensures answer { λ r. ⌜ Answered (now (texts .entry)) (length (now (answers .entry))) r ⌝ }
+    ensures answers { λ r. ⌜ now (answers .exit)
+        ≡ answersAfter (toldIn kind (tableOf kind (now (file .entry)))) (now (texts .entry)) (now (answers .entry)) (r .answer) ⌝ }
+{
+    let t = hash::tables();
+    let p = view.places;
+    match kind {
+        Kind::Name => {
+            let samples = view.name_starts;
+            let buckets = view.name_buckets;
+            let chars = p.name_chars;
+            let s = Strings {
+                chars,
+                list: p.name_list,
+            };
+            batch::find_each(file, &t, s, &samples, &buckets, kind, texts, answers)
+        }
+        Kind::Value => {
+            let samples = view.value_starts;
+            let buckets = view.value_buckets;
+            let chars = p.value_chars;
+            let s = Strings {
+                chars,
+                list: p.value_list,
+            };
+            batch::find_each(file, &t, s, &samples, &buckets, kind, texts, answers)
+        }
+    }
+}
