@@ -3,9 +3,9 @@
 use std::cell::Cell;
 use std::ptr::{null, null_mut};
 
-use second::{Answer, HeaderReport, Plain, Right, Which};
+use second::{Answer, HeaderReport, Which};
 
-use crate::loader::{Loader, Second};
+use crate::loader::Loader;
 
 type Bytes = *const u8;
 type Room = *mut u8;
@@ -39,17 +39,39 @@ extern "C" {
         list: Room,
         list_len: usize,
     ) -> Answer;
+    fn taplinen_outline(
+        file: Bytes,
+        file_len: usize,
+        ws: Room,
+        ws_len: usize,
+        out: Room,
+        out_len: usize,
+    ) -> Answer;
+    fn taplinen_names(
+        file: Bytes,
+        file_len: usize,
+        ws: Room,
+        ws_len: usize,
+        texts: Bytes,
+        texts_len: usize,
+        answers: Room,
+        answers_len: usize,
+    ) -> Answer;
+    fn taplinen_values(
+        file: Bytes,
+        file_len: usize,
+        ws: Room,
+        ws_len: usize,
+        texts: Bytes,
+        texts_len: usize,
+        answers: Room,
+        answers_len: usize,
+    ) -> Answer;
 }
 
+#[derive(Default)]
 pub struct Rattle {
     null_for_empty: Cell<bool>,
-    rest: Second<Right, Plain>,
-}
-
-impl Default for Rattle {
-    fn default() -> Rattle {
-        Rattle { null_for_empty: Cell::new(false), rest: Second::new("second, plain", Right) }
-    }
 }
 
 impl Rattle {
@@ -112,9 +134,11 @@ impl Loader for Rattle {
         }
     }
 
-    // Not exported yet: asked of the second program, so not compared.
     fn outline(&self, file: &[u8], ws: &mut [u8], out: &mut [u8]) -> Answer {
-        self.rest.outline(file, ws, out)
+        let (file_at, ws_at) = (self.lend(file), self.room(ws));
+        unsafe {
+            taplinen_outline(file_at, file.len(), ws_at, ws.len(), self.room(out), out.len())
+        }
     }
 
     fn batch(
@@ -125,6 +149,23 @@ impl Loader for Rattle {
         texts: &[u8],
         answers: &mut [u8],
     ) -> Answer {
-        self.rest.batch(which, file, ws, texts, answers)
+        let ask = match which {
+            Which::Names => taplinen_names,
+            Which::Values => taplinen_values,
+        };
+        let (file_at, ws_at) = (self.lend(file), self.room(ws));
+        let (texts_at, answers_at) = (self.lend(texts), self.room(answers));
+        unsafe {
+            ask(
+                file_at,
+                file.len(),
+                ws_at,
+                ws.len(),
+                texts_at,
+                texts.len(),
+                answers_at,
+                answers.len(),
+            )
+        }
     }
 }
