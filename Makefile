@@ -3,6 +3,12 @@ ask: library
 	gcc -std=c11 -D_DEFAULT_SOURCE -Wall -Wextra -O2 -Iinclude examples/ask.c target/staticlib/libtaplinen.a -o target/ask
 	target/ask samples/shop.dc name LegendarySword name '@b`naiosyRyopk' name Item value 'Iron sword' value Iron path Item
 
+# The program on a file of at most 32,768 bytes.
+FILE = samples/shop.dc
+dump:
+	rt check dcdump
+	scripts/frames $(FILE) | target/bin/dcdump
+
 library:
 	rt staticlib taplinen
 
@@ -20,4 +26,4 @@ bench: library
 	cd compare && TAPLINEN_LIB=$(CURDIR)/target/staticlib cargo build --quiet --release --offline -p bench --features rattle
 	compare/target/release/bench
 
-.PHONY: ask library check gate compare bench
+.PHONY: ask dump library check gate compare bench

@@ -37,12 +37,12 @@
  *   21  a child range holds the root, or an element of an earlier node's range (the range's node)
  *   22  a chain from the root has 65 nodes (its last node)
  *   23  a node's child range does not resolve, or the names in it fall (the node)
- *   24  a text or path has an odd number of bytes, or a path does not end in a 0 character (its length in bytes)
- *   25  there are more matches than places in the listing (their number)
- *   26  is kept for the outline
+ *   24  a text, path or texts have an odd number of bytes, or a path or texts do not end in a 0 character (the length in bytes)
+ *   25  there are more matches than places in the listing, or more texts than places for answers (their number)
+ *   26  the outline is longer than its buffer (the bytes needed)
  *
- * 16 to 19 and 23 are checked node by node, in the order 16, 17, 18 and 19 of each attribute, 23. A 24 or 25 follows an
- * acceptance and leaves the workspace as acceptance does. A listing keeps every byte on any refusal.
+ * 16 to 19 and 23 are checked node by node, in the order 16, 17, 18 and 19 of each attribute, 23. A 24, 25 or 26 follows
+ * an acceptance and leaves the workspace as acceptance does. A listing, answers or an outline keep every byte on any refusal.
  */
 #ifndef TAPLINEN_H
 #define TAPLINEN_H
@@ -76,6 +76,19 @@ taplinen_answer taplinen_value(const uint8_t *file, size_t file_len, uint8_t *ws
  * segment * 65536 + element; every later byte stays. */
 taplinen_answer taplinen_path(const uint8_t *file, size_t file_len, uint8_t *ws, size_t ws_len,
                               const uint8_t *path, size_t path_len, uint8_t *list, size_t list_len);
+
+/* Many lookups in one acceptance. texts: as a path's bytes, each text followed by a 0 character. answers: 8 bytes a text, low
+ * byte first: kind u32 (0 found, 1 absent), then value u32, as taplinen_name (taplinen_value) answers for that text. value: the
+ * number of texts; every byte of answers after theirs stays. */
+taplinen_answer taplinen_names(const uint8_t *file, size_t file_len, uint8_t *ws, size_t ws_len,
+                               const uint8_t *texts, size_t texts_len, uint8_t *answers, size_t answers_len);
+taplinen_answer taplinen_values(const uint8_t *file, size_t file_len, uint8_t *ws, size_t ws_len,
+                                const uint8_t *texts, size_t texts_len, uint8_t *answers, size_t answers_len);
+
+/* The outline: a line for each node of the tree, two spaces a level, its name and its attributes. value: its length in bytes; every
+ * later byte of out stays. */
+taplinen_answer taplinen_outline(const uint8_t *file, size_t file_len, uint8_t *ws, size_t ws_len,
+                                 uint8_t *out, size_t out_len);
 
 typedef struct {
     uint32_t refusal;
