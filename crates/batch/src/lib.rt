@@ -59,7 +59,7 @@ fn put_place(answers: &mut [u8], at: usize, l: Lookup)
 // Writes what each text's lookup answers, one after the other. One pass finds a text's end and its hash.
 fn put_places(
     b: &[u8],
-    t: &[u32; 512],
+    t: &[u32; 1024],
     s: Strings,
     samples: &[u32; 256],
     starts: &[u32],
@@ -87,7 +87,7 @@ fn put_places(
 // Looks up each text in a table that is accepted; nothing is written unless there is a place for each.
 pub fn find_each(
     b: &[u8],
-    t: &[u32; 512],
+    t: &[u32; 1024],
     s: Strings,
     samples: &[u32; 256],
     starts: &[u32],

@@ -3,3 +3,4 @@ pub mod Linear
 pub mod Ranges
 pub mod Laws
 pub mod Lent
+pub mod Halves

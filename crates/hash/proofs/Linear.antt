@@ -1,16 +1,18 @@
--- T is linear: the entry of an exclusive or is the exclusive or of the entries. So two bytes go in one step. Assumes nothing.
+-- T is linear: the entry of an exclusive or is the exclusive or of the entries. So two characters go in one step. Assumes nothing.
 use Prim.Native.Nat.{ℕ, zero, suc, _*_, _/_, _%_, _^_, _≤_, _<_}
-use native.Mathlib.Nat.{mod-mod, mod-lt, div-div-eq-div-mul, mod-eq-of-lt}
+use native.Mathlib.Nat.{mod-lt, mod-eq-of-lt, div-add-mod'}
 use native.Mathlib.Omega.{arith}
 use mathlib.Core.Path.{_≡_, refl, ap, sym, _∙_}
 use mathlib.Core.Logic.{⊎-elim}
 use mathlib.Core.Bool.{cond}
 use borrow.Author.Tests.{lt-ltb, le-ltb}
-use lib.Bits.{bitXor, xor-mod, xor-shr, xor-lt, xor-zero-r}
+use lib.Bits.{bitXor, xor-mod, xor-shr, xor-lt, xor-comm, xor-zero-l, xor-zero-r, xor-shifted}
+use lib.ListN.{getD}
+use lib.Pow.{pow-pos}
 use lib.Dec.{lit<, ltb}
 use Rattle.laws.proofs.Order.{le-or-lt}
 use Rattle.laws.proofs.Xor.{xor-assoc, xor-four, xor-times}
-use Rattle.hash.specs.Table.{entryOf, double, doubled, ruleOf, secondOf}
+use Rattle.hash.specs.Table.{T, entryOf, double, doubled, ruleOf, zeroOn, zerosOn}
 use Rattle.hash.specs.Hash.{hashByte, hashChar}
 use Rattle.hash.proofs.Rule.{rule}
 
@@ -98,23 +100,78 @@ entry-linear i j hi hj = cc (rule-linear i j hi hj, rule i hi, rule j hj, rule (
 pub entry-lt : (i : ℕ) → i < 256 → entryOf i < 2 ^ 32
 entry-lt i h = rw (rule i h) (rule-lt i h)
 
--- one character in one step
-pub two-bytes : (h c : ℕ) → hashChar h c ≡ bitXor (secondOf (bitXor h c % 256)) (bitXor (entryOf (bitXor h c / 256 % 256)) (h / 65536))
-unfolding hashChar hashByte secondOf
-two-bytes h c =
-    let m : bitXor h (c % 2 ^ 8) % 2 ^ 8 ≡ bitXor h c % 2 ^ 8 =
-    xor-mod h (c % 2 ^ 8) 8 ∙ ap (bitXor (h % 2 ^ 8)) (mod-mod c (2 ^ 8)) ∙ sym (xor-mod h c 8) in
-    let e = entryOf (bitXor h c % 256) in
-    let i : bitXor h c % 256 < 256 = mod-lt (bitXor h c) (lit< tt) in
-    let j : bitXor h c / 256 % 256 < 256 = mod-lt (bitXor h c / 256) (lit< tt) in
-    let a : bitXor (entryOf (bitXor h (c % 256) % 256)) (h / 256) ≡ bitXor e (h / 256) = ap (λ (u : ℕ). bitXor (entryOf u) (h / 256)) m in
-    let lo : bitXor (bitXor e (h / 256)) (c / 256) % 256 ≡ bitXor (e % 256) (bitXor h c / 256 % 256) =
-    ap (λ (u : ℕ). u % 2 ^ 8) (xor-assoc 32 e (h / 256) (c / 256) (entry-lt _ i) ∙ ap (bitXor e) (sym (xor-shr h c 8)))
-    ∙ xor-mod e (bitXor h c / 2 ^ 8) 8 in
-    let hi : bitXor e (h / 256) / 256 ≡ bitXor (e / 256) (h / 65536) = xor-shr e (h / 256) 8 ∙ ap (bitXor (e / 256)) (div-div-eq-div-mul h 256 256) in
-    let k : e % 256 < 256 = mod-lt e (lit< tt) in
-    ap (λ (u : ℕ). bitXor (entryOf (bitXor u (c / 256) % 256)) (u / 256)) a
-    ∙ ap (λ (u : ℕ). bitXor (entryOf u) (bitXor e (h / 256) / 256)) lo
-    ∙ ap (bitXor (entryOf (bitXor (e % 256) (bitXor h c / 256 % 256)))) hi
-    ∙ ap (λ (u : ℕ). bitXor u (bitXor (e / 256) (h / 65536))) (entry-linear (e % 256) (bitXor h c / 256 % 256) k j)
-    ∙ xor-four 32 (entryOf (e % 256)) (entryOf (bitXor h c / 256 % 256)) (e / 256) (h / 65536) (entry-lt _ k) (entry-lt _ j) (omega (arith, entry-lt (bitXor h c % 256) i))
+-- ---- zero bytes
+
+zero-lt : (x : ℕ) → x < 2 ^ 32 → zeroOn x < 2 ^ 32
+unfolding zeroOn
+zero-lt x h = xor-lt 32 (entryOf (x % 256)) (x / 256) (entry-lt _ (mod-lt x (lit< tt))) (omega arith)
+
+zeros-lt : (k x : ℕ) → x < 2 ^ 32 → zerosOn k x < 2 ^ 32
+unfolding zerosOn
+zeros-lt zero x h = h
+zeros-lt (suc k) x h = zero-lt (zerosOn k x) (zeros-lt k x h)
+
+zero-linear : (x y : ℕ) → x < 2 ^ 32 → zeroOn (bitXor x y) ≡ bitXor (zeroOn x) (zeroOn y)
+unfolding zeroOn
+zero-linear x y h =
+    let i : x % 256 < 256 = mod-lt x (lit< tt) in
+    let j : y % 256 < 256 = mod-lt y (lit< tt) in
+    ap (λ (u : ℕ). bitXor (entryOf u) (bitXor x y / 256)) (xor-mod x y 8)
+    ∙ ap (λ (u : ℕ). bitXor u (bitXor x y / 256)) (entry-linear (x % 256) (y % 256) i j)
+    ∙ ap (bitXor (bitXor (entryOf (x % 256)) (entryOf (y % 256)))) (xor-shr x y 8)
+    ∙ xor-four 32 (entryOf (x % 256)) (entryOf (y % 256)) (x / 256) (y / 256) (entry-lt _ i) (entry-lt _ j) (omega arith)
+
+zeros-linear : (k x y : ℕ) → x < 2 ^ 32 → zerosOn k (bitXor x y) ≡ bitXor (zerosOn k x) (zerosOn k y)
+unfolding zerosOn
+zeros-linear zero x y h = refl
+zeros-linear (suc k) x y h = ap zeroOn (zeros-linear k x y h) ∙ zero-linear (zerosOn k x) (zerosOn k y) (zeros-lt k x h)
+
+-- one zero byte more takes the low byte through T, and the rest down
+pub zeros-more : (k x : ℕ) → zerosOn (suc k) x ≡ bitXor (zerosOn k (entryOf (x % 256))) (zerosOn k (x / 256))
+unfolding zerosOn zeroOn
+zeros-more zero x = refl
+zeros-more (suc k) x =
+    ap zeroOn (zeros-more k x)
+    ∙ zero-linear (zerosOn k (entryOf (x % 256))) (zerosOn k (x / 256)) (zeros-lt k (entryOf (x % 256)) (entry-lt _ (mod-lt x (lit< tt))))
+
+-- a byte shifted up comes down unchanged
+shifted : (y : ℕ) → zeroOn (y * 256) ≡ y
+unfolding zeroOn entryOf T
+shifted y =
+    let a : y * 256 % 256 ≡ 0 = omega arith in
+    let b : y * 256 / 256 ≡ y = omega arith in
+    ap (λ (u : ℕ). bitXor (getD T u 0) (y * 256 / 256)) a ∙ ap (bitXor 0) b ∙ xor-zero-l y
+
+-- ---- to take a number in by its halves, and zero bytes after each, is to take it in whole
+
+module _ (k j h w : ℕ) (s : (y : ℕ) → zerosOn k (y * 2 ^ j) ≡ y) (l : h < 2 ^ 32) (m : w % 2 ^ j < 2 ^ 32) where
+  by-halves : zerosOn k (bitXor (zerosOn k (bitXor h (w % 2 ^ j))) (w / 2 ^ j)) ≡ zerosOn k (zerosOn k (bitXor h w))
+  by-halves =
+      let a : bitXor (w % 2 ^ j) (w / 2 ^ j * 2 ^ j) ≡ w =
+      xor-comm (w % 2 ^ j) (w / 2 ^ j * 2 ^ j) ∙ xor-shifted (w / 2 ^ j) j (w % 2 ^ j) (mod-lt w (pow-pos j)) ∙ div-add-mod' w (2 ^ j) in
+      ap (zerosOn k)
+      (ap (bitXor (zerosOn k (bitXor h (w % 2 ^ j)))) (sym (s (w / 2 ^ j)))
+      ∙ sym (zeros-linear k (bitXor h (w % 2 ^ j)) (w / 2 ^ j * 2 ^ j) (xor-lt 32 h (w % 2 ^ j) l m))
+      ∙ ap (zerosOn k) (xor-assoc 32 h (w % 2 ^ j) (w / 2 ^ j * 2 ^ j) l ∙ ap (bitXor h) a))
+
+byte-zero : (h b : ℕ) → b < 256 → hashByte h b ≡ zeroOn (bitXor h b)
+unfolding hashByte zeroOn
+byte-zero h b l =
+    let z : b / 256 ≡ 0 = omega arith in
+    ap (bitXor (entryOf (bitXor h b % 256))) (sym (xor-shr h b 8 ∙ ap (bitXor (h / 256)) z ∙ xor-zero-r (h / 256)))
+
+pub char-zeros : (h c : ℕ) → h < 2 ^ 32 → c < 65536 → hashChar h c ≡ zerosOn 2 (bitXor h c)
+unfolding hashChar zerosOn
+char-zeros h c l m =
+    byte-zero (hashByte h (c % 256)) (c / 256) (omega arith)
+    ∙ ap (λ (x : ℕ). zeroOn (bitXor x (c / 256))) (byte-zero h (c % 256) (omega arith))
+    ∙ by-halves 1 8 h c shifted l (omega arith)
+
+pub pair-zeros : (h w : ℕ) → h < 2 ^ 32 → w < 2 ^ 32 → hashChar (hashChar h (w % 65536)) (w / 65536) ≡ zerosOn 4 (bitXor h w)
+unfolding zerosOn
+pair-zeros h w l m =
+    let e = char-zeros h (w % 65536) l (omega arith) in
+    let u : hashChar h (w % 65536) < 2 ^ 32 = rw e (zeros-lt 2 _ (xor-lt 32 h (w % 65536) l (omega arith))) in
+    char-zeros (hashChar h (w % 65536)) (w / 65536) u (omega arith)
+    ∙ ap (λ (x : ℕ). zerosOn 2 (bitXor x (w / 65536))) e
+    ∙ by-halves 2 16 h w (λ y. let d : y * 65536 ≡ y * 256 * 256 = omega arith in ap (λ (x : ℕ). zeroOn (zeroOn x)) d ∙ ap zeroOn (shifted (y * 256)) ∙ shifted y) l (omega arith)

@@ -1,5 +1,5 @@
 -- The table of the hash (01, "Strings": T has 256 entries, copied from 000), its rule, and the tables that the code lends.
-use Prim.Native.Nat.{ℕ, zero, suc, _+_, _*_, _/_, _%_, _^_, _<_}
+use Prim.Native.Nat.{ℕ, zero, suc, _*_, _/_, _%_, _^_, _<_}
 use mathlib.Core.Path.{_≡_}
 use mathlib.Core.Bool.{cond}
 use mathlib.Core.List.{List, [], _∷_}
@@ -60,12 +60,20 @@ doubled (suc n) x = doubled n (double x)
 unfoldable pub ruleOf : ℕ → ℕ
 ruleOf i = doubled 8 (i * 2 ^ 24)
 
--- Entry i, one zero byte on.
-unfoldable pub secondOf : ℕ → ℕ
-secondOf i = bitXor (entryOf (entryOf i % 256)) (entryOf i / 256)
+-- A hash, one zero byte on.
+unfoldable pub zeroOn : ℕ → ℕ
+zeroOn h = bitXor (entryOf (h % 256)) (h / 256)
 
--- The list holds T, and then T one zero byte on.
+-- So many zero bytes on.
+unfoldable pub zerosOn : ℕ → ℕ → ℕ
+zerosOn zero h = h
+zerosOn (suc k) h = zeroOn (zerosOn k h)
+
+-- What the code lends: T, then T one zero byte on, two, three. Entry k of it.
+unfoldable pub lentOf : ℕ → ℕ
+lentOf k = zerosOn (k / 256) (entryOf (k % 256))
+
+-- The list holds all four.
 pub record Tables (t : List ℕ) : Type 0 where
-  pub long : length t ≡ 512
-  pub first : (k : ℕ) → k < 256 → getD t k 0 ≡ entryOf k
-  pub second : (k : ℕ) → k < 256 → getD t (256 + k) 0 ≡ secondOf k
+  pub long : length t ≡ 1024
+  pub at : (k : ℕ) → k < 1024 → getD t k 0 ≡ lentOf k

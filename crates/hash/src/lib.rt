@@ -1,9 +1,9 @@
 // The string hash and the value hash (01, "Strings").
 ghost use mathlib.Core.Path.{_≡_};
-ghost use Prim.Native.Nat.{_%_, _^_, _<_};
+ghost use Prim.Native.Nat.{_/_, _%_, _^_, _<_};
 ghost use Rattle.hash.specs.Table.{Tables};
 ghost use Rattle.hash.specs.Hash.{hashChar, bucketOf};
-ghost use Rattle.hash.specs.Fold.{folded, valueHashOf};
+ghost use Rattle.hash.specs.Fold.{folded, FoldedPair, valueHashOf};
 
 // T, as document 000 prints it.
 const T: [u32; 256] = [
@@ -277,30 +277,43 @@ fn low(x: usize) -> usize
     x & 255
 }
 
-// T, and after it the same entries one zero byte on, so that a character goes in one step.
+// T, and after it the same entries one, two and three zero bytes on, so that two characters go in one step.
 // A constant is laid on the stack at each use: this is made once, at the top, and lent.
-pub fn tables() -> [u32; 512]
+pub fn tables() -> [u32; 1024]
     ensures { λ r. ⌜ Tables r ⌝ }
 {
     let source = T;
-    let mut t = [0u32; 512];
+    let mut t = [0u32; 1024];
     let mut i = 0;
     while i < 256 {
-        let e = source[i];
-        t[i] = e;
-        t[256 + i] = source[(e & 255) as usize] ^ (e >> 8);
+        t[i] = source[i];
+        i += 1;
+    }
+    while i < 1024 {
+        let e = t[i - 256];
+        t[i] = source[low(wide(e))] ^ (e >> 8);
         i += 1;
     }
     t
 }
 
 // The hash after one character more: its low byte and its high byte in one step.
-pub fn char_on(t: &[u32; 512], h: usize, c: usize) -> usize
+pub fn char_on(t: &[u32; 1024], h: usize, c: usize) -> usize
     requires { ⌜ Tables (now t) × (h < 2 ^ 32) × (c < 65536) ⌝ }
     ensures { λ r. ⌜ (r ≡ hashChar h c) × (r < 2 ^ 32) ⌝ }
 {
     let x = h ^ c;
-    wide(t[256 + low(x)]) ^ (wide(t[low(x >> 8)]) ^ (h >> 16))
+    wide(t[256 + low(x)]) ^ (wide(t[low(x >> 8)]) ^ (x >> 16))
+}
+
+// The hash after two characters more, read as one word: all four bytes in one step.
+pub fn pair_on(t: &[u32; 1024], h: usize, w: usize) -> usize
+    requires { ⌜ Tables (now t) × (h < 2 ^ 32) × (w < 2 ^ 32) ⌝ }
+    ensures { λ r. ⌜ (r ≡ hashChar (hashChar h (w % 65536)) (w / 65536)) × (r < 2 ^ 32) ⌝ }
+{
+    let x = h ^ w;
+    let near = wide(t[256 + low(x >> 16)]) ^ wide(t[low(x >> 24)]);
+    wide(t[768 + low(x)]) ^ (wide(t[512 + low(x >> 8)]) ^ near)
 }
 
 // The bucket of a hash, among n.
@@ -333,8 +346,8 @@ fn loses(c: usize) -> bool
     c != 0xf7
 }
 
-// The character as the value hash takes it.
-pub fn fold(c: usize) -> usize
+// The fold of any character.
+fn fold_any(c: usize) -> usize
     requires { ⌜ c < 65536 ⌝ }
     ensures { λ r. ⌜ (r ≡ folded c) × (r < 65536) ⌝ }
 {
@@ -351,6 +364,37 @@ pub fn fold(c: usize) -> usize
         return c - 0x20;
     }
     c
+}
+
+// Where both halves of a word are below 0080, only letters change: they lose bit 5. A letter is 61 or more and not 7b or more;
+// with 1f and 05 added, bit 7 of each half says so, and no branch has to.
+fn fold_low(w: usize) -> usize
+    requires { ⌜ (w % 65536 < 0x80) × (w / 65536 < 0x80) ⌝ }
+    ensures { λ r. ⌜ FoldedPair w r ⌝ }
+{
+    w ^ ((((w + 0x1f_001f) ^ (w + 0x05_0005)) & 0x80_0080) >> 2)
+}
+
+// The character as the value hash takes it. Most are below 0080.
+pub fn fold(c: usize) -> usize
+    requires { ⌜ c < 65536 ⌝ }
+    ensures { λ r. ⌜ (r ≡ folded c) × (r < 65536) ⌝ }
+{
+    if c < 0x80 {
+        return fold_low(c);
+    }
+    fold_any(c)
+}
+
+// Two characters folded, each in its half of the word.
+pub fn fold_pair(w: usize) -> usize
+    requires { ⌜ w < 2 ^ 32 ⌝ }
+    ensures { λ r. ⌜ FoldedPair w r ⌝ }
+{
+    if w & 0xff80_ff80 == 0 {
+        return fold_low(w);
+    }
+    fold(w & 65535) | (fold(w >> 16) << 16)
 }
 
 // What is kept of the hash of a folded text.

@@ -113,7 +113,7 @@ pub fn find_hashed(
 // The index of a name.
 pub fn find_name(
     b: &[u8],
-    t: &[u32; 512],
+    t: &[u32; 1024],
     s: Strings,
     samples: &[u32; 256],
     starts: &[u32],
@@ -132,7 +132,7 @@ pub fn find_name(
 // The address of a value.
 pub fn find_value(
     b: &[u8],
-    t: &[u32; 512],
+    t: &[u32; 1024],
     s: Strings,
     samples: &[u32; 256],
     starts: &[u32],

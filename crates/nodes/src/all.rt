@@ -14,7 +14,7 @@ use verdict::Verdict;
 // Refusals 16 to 19 and 23 of every used node, up to the first fault; 19 may be known not to be due to any.
 pub fn check_nodes(
     b: &[u8],
-    t: &[u32; 512],
+    t: &[u32; 1024],
     p: Places,
     names: Names,
     attribute_starts: &[u32; 256],

@@ -109,7 +109,7 @@ pub fn address_in(
 // Whether refusal 19 is not due to the attribute at q. An entry with its address would stand in the bucket of the text there.
 fn text_right(
     b: &[u8],
-    t: &[u32; 512],
+    t: &[u32; 1024],
     s: Strings,
     samples: &[u32; 256],
     starts: &[u32],
@@ -140,7 +140,7 @@ fn text_right(
 // The same where it may be known of the attribute already.
 fn text_passes(
     b: &[u8],
-    t: &[u32; 512],
+    t: &[u32; 1024],
     s: Strings,
     samples: &[u32; 256],
     starts: &[u32],
@@ -160,7 +160,7 @@ fn text_passes(
 // Refusals 18 and 19 of the attributes of the node at p, the first of which stands at a; 19 may be known not to be due.
 pub fn check_attributes(
     b: &[u8],
-    t: &[u32; 512],
+    t: &[u32; 1024],
     names: Names,
     s: Strings,
     samples: &[u32; 256],

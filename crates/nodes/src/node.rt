@@ -97,7 +97,7 @@ fn children_right(b: &[u8], nodes: Region, starts: &[u32; 256], p: usize) -> boo
 // Refusals 16 to 19 and 23 of node seg:el, which stands at x; 19 may be known not to be due.
 pub fn check_node(
     b: &[u8],
-    t: &[u32; 512],
+    t: &[u32; 1024],
     p: Places,
     names: Names,
     attribute_starts: &[u32; 256],

@@ -23,7 +23,7 @@ pub struct Listing {
 // Lists the matches of a path in a file that is accepted; both passes go down the same nodes, so nothing is written unless all fit.
 pub fn list_path(
     b: &[u8],
-    t: &[u32; 512],
+    t: &[u32; 1024],
     s: Strings,
     samples: &[u32; 256],
     buckets: &[u32],

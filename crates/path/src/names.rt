@@ -52,7 +52,7 @@ fn name_end(path: &[u8], at: usize) -> usize
 // The indices of a path's names.
 pub fn find_names(
     b: &[u8],
-    t: &[u32; 512],
+    t: &[u32; 1024],
     s: Strings,
     samples: &[u32; 256],
     starts: &[u32],

@@ -50,7 +50,7 @@ fn carries(
 // Whether any entry carries index i: it would stand in the bucket of the text at list position i.
 fn carried(
     b: &[u8],
-    t: &[u32; 512],
+    t: &[u32; 1024],
     s: Strings,
     samples: &[u32; 256],
     starts: &[u32],
@@ -89,7 +89,7 @@ fn entry_total(b: &[u8], s: Strings, samples: &[u32; 256], starts: &[u32]) -> us
 // Refusal 13 of every list position, where the entries passed 7 to 12.
 pub fn check_positions(
     b: &[u8],
-    t: &[u32; 512],
+    t: &[u32; 1024],
     s: Strings,
     samples: &[u32; 256],
     starts: &[u32],
@@ -117,7 +117,7 @@ pub fn check_positions(
 // Refusals 7 to 13 of a table, up to the first fault.
 pub fn check_table(
     b: &[u8],
-    t: &[u32; 512],
+    t: &[u32; 1024],
     s: Strings,
     samples: &[u32; 256],
     starts: &[u32],

@@ -22,7 +22,7 @@ use verdict::Verdict;
 // Whether 19 is known to hold of every used attribute. False tells nothing: an attribute that no node has may be at fault.
 pub fn texts_right(
     b: &[u8],
-    t: &[u32; 512],
+    t: &[u32; 1024],
     attributes: Region,
     s: Strings,
     samples: &[u32; 256],
@@ -54,7 +54,7 @@ pub fn texts_right(
 // Refusals 16 to 19 and 23 of every used node, up to the first fault.
 pub fn check_nodes(
     b: &[u8],
-    t: &[u32; 512],
+    t: &[u32; 1024],
     p: Places,
     names: Names,
     attribute_starts: &[u32; 256],

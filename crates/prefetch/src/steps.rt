@@ -21,6 +21,7 @@ use crate::near;
 use nodes::attribute;
 use region::Region;
 use strings::Strings;
+use strings::ahead;
 use strings::entry;
 use strings::spot;
 use strings::spot::Spot;
@@ -36,19 +37,6 @@ fn wide(x: u32) -> usize
     ensures { λ r. ⌜ (r ≡ x) × (r < 2 ^ 32) ⌝ }
 {
     x as usize
-}
-
-// The first character of a text, and in the high half one that stands a line of memory further on: it is read only so that its line is
-// on the way when the text is.
-fn touch(b: &[u8], p: usize, n: usize) -> usize
-    requires { ⌜ (1 ≤ n) × (p + 2 * n ≤ length (now b)) ⌝ }
-    ensures { λ r. ⌜ (r % 65536 ≡ u16At (now (b .entry)) p) × (r < 2 ^ 32) ⌝ }
-{
-    let c = le::u16_at(b, p);
-    if n <= 31 {
-        return c;
-    }
-    c + le::u16_at(b, p + 62) * 65536
 }
 
 // Where the texts stand, and their first characters.
@@ -75,14 +63,14 @@ fn see(
         };
         at[j] = x as u32;
         left[j] = m as u32;
-        seen[j] = touch(b, x, m) as u32;
+        seen[j] = ahead::touch(b, x, m) as u32;
         j += 1;
     }
     true
 }
 
 // Both hashes of a text whose first character was seen.
-fn both(b: &[u8], t: &[u32; 512], p: usize, n: usize, c: usize) -> Hashes
+fn both(b: &[u8], t: &[u32; 1024], p: usize, n: usize, c: usize) -> Hashes
     requires { ⌜ Tables (now t) × (1 ≤ n) × (p + 2 * n ≤ length (now b)) × (c % 65536 ≡ u16At (now b) p) ⌝ }
     ensures { λ r. ⌜ Hashed (now (b .entry)) p n r ⌝ }
 {
@@ -95,7 +83,7 @@ fn both(b: &[u8], t: &[u32; 512], p: usize, n: usize, c: usize) -> Hashes
 // Whether the extended codes are the value hashes of the texts, whose hashes are kept.
 fn hash_texts(
     b: &[u8],
-    t: &[u32; 512],
+    t: &[u32; 1024],
     chars: Region,
     slots: &[u32; 64],
     n: usize,
@@ -236,7 +224,7 @@ fn find_entries(
 // Whether 19 holds of the attributes in the first n slots. Hashes are looked for twice: from nowhere, and from what was met.
 pub fn batch_right(
     b: &[u8],
-    t: &[u32; 512],
+    t: &[u32; 1024],
     s: Strings,
     samples: &[u32; 256],
     starts: &[u32],

@@ -1,5 +1,6 @@
--- The search of a bucket by halving. Assumes nothing.
-use Prim.Native.Nat.{ℕ, _+_, _≤_, _<_}
+-- The search of a bucket: what is left of it between two probes. Assumes nothing.
+use Prim.Native.Nat.{ℕ, _+_, _*_, _≤_, _<_}
+use native.Mathlib.Nat.{mul-le-mul}
 use native.Mathlib.Omega.{arith}
 use mathlib.Core.Path.{_≡_}
 use borrow.Author.Count.{below-none}
@@ -48,3 +49,7 @@ module _ (t : Table) (k h lo hi : ℕ) (r : Halved t k h lo hi) where
     below = r .below;
     above = λ m a c. r .above m (omega (arith, r .low)) c;
   }
+
+-- a hash times the number of entries: what the guess of a place is made of
+pub hash-product : (h n : ℕ) → h < 4294967296 → n ≤ 1073741824 → h * n ≤ 4611686018427387904
+hash-product h n l m = mul-le-mul {n₁ = h} {m₁ = n} {n₂ = 4294967296} {m₂ = 1073741824} (omega arith) m

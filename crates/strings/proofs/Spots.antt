@@ -15,7 +15,7 @@ use Rattle.region.specs.Samples.{Mapped}
 use Rattle.region.specs.Decisions.{resolves?}
 use Rattle.region.specs.declared.Region.{Region}
 use Rattle.text.specs.Text.{roomAt, textIn, textAt, EndedIn, EndedAt}
-use Rattle.text.proofs.Laws.{room-fits}
+use Rattle.text.proofs.Laws.{room-some, room-fits}
 use Rattle.layout.specs.Table.{Table, entryAt, segmentOf, elementOf}
 use Rattle.strings.specs.Texts.{spotAt, textTo}
 use Rattle.strings.specs.Rules.{Resolved}
@@ -85,6 +85,7 @@ pub record Spotted (t : Table) (seg el p n : ℕ) : Type 0 where
   pub resolved : Resolves 2 (t .bytes) (t .at) seg el
   pub text : textIn (t .bytes) p n ≡ textTo t seg el
   pub ended : EndedIn (t .bytes) p n ↔ EndedAt (t .bytes) (t .at) seg el
+  pub some : 0 < n
   pub fits : p + 2 * n ≤ length (t .bytes)
 
 pub spot-text : (t : Table) (seg el : ℕ) {p n : ℕ} → Laid 2 (t .bytes) (t .at) → spotAt (t .bytes) (t .at) seg el ≡ At p n → Spotted t seg el p n
@@ -99,6 +100,7 @@ spot-text t seg el {p} {n} laid e =
         λ h. subst (EndedIn (t .bytes) _) (w .2) (subst (λ (x : ℕ). EndedIn (t .bytes) x n) (w .1) h),
         λ h. subst (λ (x : ℕ). EndedIn (t .bytes) x n) (sym (w .1)) (subst (EndedIn (t .bytes) _) (sym (w .2)) h),
       );
+      some = omega (arith, room-some (t .bytes) (t .at) _ _ (w .0), w .2);
       fits = omega (arith, w .1, w .2);
     }
 
@@ -113,7 +115,7 @@ same-texts t s e p m u f q n v w g = record {
 -- the spot of an entry, found by the address 12 bytes behind its place
 module _ (t : Table) (k j e : ℕ) {r : Spot} (q : e ≡ entryAt t k j)
     (f : r ≡ spotAt (t .bytes) (t .at) (u16At (t .bytes) (e + 12)) (u16At (t .bytes) (e + 12 + 2))) where
-  found : spotAt (t .bytes) (t .at) (segmentOf t k j) (elementOf t k j) ≡ r
+  pub found : spotAt (t .bytes) (t .at) (segmentOf t k j) (elementOf t k j) ≡ r
   found =
       let z : e + 12 + 2 ≡ e + 14 = omega arith in
       let x = segment-at t k j e _ q refl in

@@ -4,3 +4,4 @@ pub mod Decisions
 pub mod Order
 pub mod Held
 pub mod Search
+pub mod Ahead

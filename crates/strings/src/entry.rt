@@ -1,18 +1,23 @@
 // One entry: its fields, and refusals 7 to 12.
 ghost use mathlib.Core.Path.{_≡_};
-ghost use Prim.Native.Nat.{ℕ, _+_, _≤_, _<_, _^_};
+ghost use Prim.Native.Nat.{ℕ, _+_, _*_, _%_, _≤_, _<_, _^_};
 ghost use lib.ListN.{length};
 ghost use Rattle.verdict.specs.Checks.{Tells, firstFault};
 ghost use Rattle.verdict.specs.declared.Verdict.the-variants.{Accepted};
 ghost use Rattle.hash.specs.Table.{Tables};
+ghost use Rattle.le.specs.Le.{u16At};
+ghost use Rattle.text.specs.Measure.{Measured};
 ghost use Rattle.layout.specs.Table.{entryAt, entries};
 ghost use Rattle.strings.specs.Rules.{Resolved, Placed, Indexed, Twin};
 ghost use Rattle.strings.specs.Order.{entryChecks};
 ghost use Rattle.strings.specs.Held.{Held, heldTable, Here, TextRight, Sorted};
+ghost use Rattle.strings.specs.Ahead.{Glanced};
 ghost use Rattle.strings.specs.Texts.{textOf};
 use crate::Strings;
+use crate::ahead::Glance;
 use crate::spot;
 use crate::spot::Spot;
+use text::Extent;
 use verdict::Verdict;
 
 fn wide(x: u32) -> usize
@@ -61,7 +66,14 @@ fn placed(b: &[u8], s: Strings, samples: &[u32; 256], starts: &[u32], k: usize, 
 }
 
 // Refusal 11 is not due.
-fn indexed(b: &[u8], s: Strings, samples: &[u32; 256], starts: &[u32], k: usize, j: usize) -> bool
+pub fn indexed(
+    b: &[u8],
+    s: Strings,
+    samples: &[u32; 256],
+    starts: &[u32],
+    k: usize,
+    j: usize,
+) -> bool
     requires { ⌜ Held (now b) s (now samples) (now starts) × Here (heldTable (now b) s (now starts)) k j ⌝ }
     ensures { λ r. ⌜ Tells (Indexed (heldTable (now (b .entry)) s (now (starts .entry))) k j) r ⌝ }
 {
@@ -132,7 +144,7 @@ fn twin(b: &[u8], s: Strings, samples: &[u32; 256], starts: &[u32], k: usize, j:
     false
 }
 
-// Refusals 10 to 12 of an entry whose text is right.
+// Refusals 10 to 12 of an entry whose text is right, where 11 was looked for before.
 fn check_order(
     b: &[u8],
     s: Strings,
@@ -140,17 +152,18 @@ fn check_order(
     starts: &[u32],
     k: usize,
     j: usize,
+    listed: bool,
 ) -> Verdict
     requires { ⌜ Held (now b) s (now samples) (now starts) × Here (heldTable (now b) s (now starts)) k j
         × ((i : ℕ) → i < j → firstFault (entryChecks (heldTable (now b) s (now starts)) k i) ≡ Accepted)
-        × TextRight (heldTable (now b) s (now starts)) k j ⌝ }
+        × TextRight (heldTable (now b) s (now starts)) k j × Tells (Indexed (heldTable (now b) s (now starts)) k j) listed ⌝ }
     ensures { λ r. ⌜ r ≡ firstFault (entryChecks (heldTable (now (b .entry)) s (now (starts .entry))) k j) ⌝ }
 {
     let e = entry_at(b, s, samples, starts, k, j);
     if !placed(b, s, samples, starts, k, j) {
         return Verdict::Refused(10, e);
     }
-    if !indexed(b, s, samples, starts, k, j) {
+    if !listed {
         return Verdict::Refused(11, e);
     }
     if twin(b, s, samples, starts, k, j) {
@@ -159,26 +172,42 @@ fn check_order(
     Verdict::Accepted
 }
 
-// Refusals 7 to 12 of an entry, where those before it in the bucket passed.
+// The text at p, of at most n characters, where what was seen of it ends in the first one.
+fn measure_seen(b: &[u8], t: &[u32; 1024], p: usize, n: usize, seen: usize) -> Extent
+    requires { ⌜ Tables (now t) × (0 < n) × (p + 2 * n ≤ length (now b)) × (seen % 65536 ≡ u16At (now b) p) ⌝ }
+    ensures { λ r. ⌜ Measured (now (b .entry)) p n r ⌝ }
+{
+    if seen % 65536 == 0 {
+        return Extent {
+            ended: true,
+            length: 0,
+            hash: 0,
+        };
+    }
+    text::measure(b, t, p, n)
+}
+
+// Refusals 7 to 12 of an entry that was glanced at, where those before it in the bucket passed.
 pub fn check_entry(
     b: &[u8],
-    t: &[u32; 512],
+    t: &[u32; 1024],
     s: Strings,
     samples: &[u32; 256],
     starts: &[u32],
     k: usize,
     j: usize,
+    g: Glance,
 ) -> Verdict
     requires { ⌜ Tables (now t) × Held (now b) s (now samples) (now starts) × Here (heldTable (now b) s (now starts)) k j
-        × ((i : ℕ) → i < j → firstFault (entryChecks (heldTable (now b) s (now starts)) k i) ≡ Accepted) ⌝ }
+        × ((i : ℕ) → i < j → firstFault (entryChecks (heldTable (now b) s (now starts)) k i) ≡ Accepted)
+        × Glanced (heldTable (now b) s (now starts)) k j (g .at) (g .left) (g .seen) (g .listed) ⌝ }
     ensures { λ r. ⌜ r ≡ firstFault (entryChecks (heldTable (now (b .entry)) s (now (starts .entry))) k j) ⌝ }
 {
     let e = entry_at(b, s, samples, starts, k, j);
-    let a = spot::spot_to(b, s.chars, samples, e + 12);
-    let Spot::At(p, n) = a else {
+    if g.left == 0 {
         return Verdict::Refused(7, e);
-    };
-    let m = text::measure(b, t, p, n);
+    }
+    let m = measure_seen(b, t, g.at, g.left, g.seen);
     if !m.ended {
         return Verdict::Refused(8, e);
     }
@@ -188,5 +217,5 @@ pub fn check_entry(
     if le::u32_at(b, e) != m.hash {
         return Verdict::Refused(9, e);
     }
-    check_order(b, s, samples, starts, k, j)
+    check_order(b, s, samples, starts, k, j, g.listed)
 }

@@ -26,3 +26,4 @@ pub record Hashed (b : List ℕ) (p n : ℕ) (r : Hashes) : Type 0 where
 pub record CharOrEnd (b : List ℕ) (p n i r : ℕ) : Type 0 where
   pub within : i < n → r ≡ u16At b (p + 2 * i)
   pub past : n ≤ i → r ≡ 0
+  pub small : r < 65536

@@ -4,7 +4,8 @@ ghost use Prim.Native.Nat.{_+_, _*_, _≤_, _<_, _^_};
 ghost use lib.ListN.{length};
 ghost use Rattle.verdict.specs.Checks.{Tells};
 ghost use Rattle.hash.specs.Table.{Tables};
-ghost use Rattle.hash.specs.Hash.{hashText};
+ghost use Rattle.hash.specs.Hash.{hashChar, hashText};
+ghost use Rattle.hash.specs.Fold.{folded, valueHashOf};
 ghost use Rattle.text.specs.Text.{chars, textIn};
 ghost use Rattle.text.specs.Measure.{Measured, Hashed, CharOrEnd};
 
@@ -21,70 +22,106 @@ pub struct Hashes {
     pub value: usize,
 }
 
-// The text at offset p, of at most n characters.
-pub fn measure(b: &[u8], t: &[u32; 512], p: usize, n: usize) -> Extent
+// The text at offset p, of at most n characters: two in a step, while two are left.
+pub fn measure(b: &[u8], t: &[u32; 1024], p: usize, n: usize) -> Extent
     requires { ⌜ Tables (now t) × (p + 2 * n ≤ length (now b)) ⌝ }
     ensures { λ r. ⌜ Measured (now (b .entry)) p n r ⌝ }
 {
     let mut h = 0;
     let mut i = 0;
-    while i < n {
-        let c = le::u16_at(b, p + 2 * i);
-        if c == 0 {
+    while i + 1 < n {
+        let w = le::u32_at(b, p + 2 * i);
+        if w & 65535 == 0 {
             return Extent {
                 ended: true,
                 length: i,
                 hash: h,
             };
         }
-        h = hash::char_on(t, h, c);
-        i += 1;
+        if w < 65536 {
+            return Extent {
+                ended: true,
+                length: i + 1,
+                hash: hash::char_on(t, h, w),
+            };
+        }
+        h = hash::pair_on(t, h, w);
+        i += 2;
+    }
+    let c = char_or_end(b, p, n, i);
+    if c == 0 {
+        return Extent {
+            ended: i < n,
+            length: i,
+            hash: h,
+        };
     }
     Extent {
         ended: false,
-        length: i,
-        hash: h,
+        length: i + 1,
+        hash: hash::char_on(t, h, c),
     }
 }
 
 // Both hashes of the text at offset p in one pass: an attribute's text is looked up by the one and checked by the other.
-pub fn both_hashes(b: &[u8], t: &[u32; 512], p: usize, n: usize) -> Hashes
+pub fn both_hashes(b: &[u8], t: &[u32; 1024], p: usize, n: usize) -> Hashes
     requires { ⌜ Tables (now t) × (p + 2 * n ≤ length (now b)) ⌝ }
     ensures { λ r. ⌜ Hashed (now (b .entry)) p n r ⌝ }
 {
     let mut h = 0;
     let mut v = 0;
     let mut i = 0;
-    while i < n {
-        let c = le::u16_at(b, p + 2 * i);
-        if c == 0 {
+    while i + 1 < n {
+        let w = le::u32_at(b, p + 2 * i);
+        if w & 65535 == 0 {
             return Hashes {
                 hash: h,
                 value: hash::value_hash(v),
             };
         }
-        h = hash::char_on(t, h, c);
-        v = hash::char_on(t, v, hash::fold(c));
-        i += 1;
+        if w < 65536 {
+            return with_last(t, h, v, w);
+        }
+        h = hash::pair_on(t, h, w);
+        v = hash::pair_on(t, v, hash::fold_pair(w));
+        i += 2;
     }
+    let c = char_or_end(b, p, n, i);
+    if c == 0 {
+        return Hashes {
+            hash: h,
+            value: hash::value_hash(v),
+        };
+    }
+    with_last(t, h, v, c)
+}
+
+// Both hashes with the last character.
+fn with_last(t: &[u32; 1024], h: usize, v: usize, c: usize) -> Hashes
+    requires { ⌜ Tables (now t) × (h < 2 ^ 32) × (v < 2 ^ 32) × (c < 65536) ⌝ }
+    ensures { λ r. ⌜ (r .hash ≡ hashChar h c) × (r .value ≡ valueHashOf (hashChar v (folded c))) ⌝ }
+{
     Hashes {
-        hash: h,
-        value: hash::value_hash(v),
+        hash: hash::char_on(t, h, c),
+        value: hash::value_hash(hash::char_on(t, v, hash::fold(c))),
     }
 }
 
 // The hash of k characters that a caller asks with.
-pub fn hash_chars(s: &[u8], t: &[u32; 512], p: usize, k: usize) -> usize
+pub fn hash_chars(s: &[u8], t: &[u32; 1024], p: usize, k: usize) -> usize
     requires { ⌜ Tables (now t) × (p + 2 * k ≤ length (now s)) ⌝ }
     ensures { λ r. ⌜ (r ≡ hashText (chars (now (s .entry)) p k)) × (r < 2 ^ 32) ⌝ }
 {
     let mut h = 0;
     let mut i = 0;
-    while i < k {
-        h = hash::char_on(t, h, le::u16_at(s, p + 2 * i));
-        i += 1;
+    while i + 1 < k {
+        h = hash::pair_on(t, h, le::u32_at(s, p + 2 * i));
+        i += 2;
     }
-    h
+    if i >= k {
+        return h;
+    }
+    hash::char_on(t, h, le::u16_at(s, p + 2 * i))
 }
 
 // Whether two texts of the file are the same: that at p with m characters left, and that at q with n.

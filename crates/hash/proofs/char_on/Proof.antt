@@ -1,4 +1,6 @@
+use mathlib.Core.Path.{sym, _∙_}
 use borrow.Author.Needs.{needs}
+use Rattle.hash.proofs.Linear.{char-zeros}
 use Rattle.hash.proofs.Lent.{one-step}
 use Rattle.hash.proofs.Laws.{char-lt}
 use Rattle.hash.proofs.char_on.Statement.{statement}
@@ -36,8 +38,8 @@ returns c =
     let d = c .before .before .before in
     let s = d .before .before .before in
     let e =
-    one-step _ (s .args .h) (s .args .c) _ _ _ _ (s .pre .0) (d .before .before .low .ensures .0) (c .before .before .low2 .ensures .0)
-    (d .wide .ensures .0) (c .wide2 .ensures .0) in
+    one-step _ (s .pre .0) _ _ _ _ _ (d .before .before .low .ensures .0) (c .before .before .low2 .ensures .0) (d .wide .ensures .0) (c .wide2 .ensures .0)
+    ∙ sym (char-zeros _ _ (s .pre .1) (s .pre .2)) in
     (e, rw e (char-lt _ _ (s .pre .1)))
 
 pub char-on-spec : {M : Type 1} → statement M

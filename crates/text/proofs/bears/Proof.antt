@@ -3,8 +3,7 @@ use mathlib.Core.Path.{_≡_, refl, sym, _∙_}
 use mathlib.Core.Logic.{_↔_}
 use Rattle.verdict.proofs.Laws.{tells-no}
 use Rattle.text.specs.Text.{chars, textIn}
-use Rattle.text.proofs.Walk.{charsFrom, textFrom, chars-start, chars-next, text-start}
-use Rattle.text.proofs.Walk.{char-end, char-next, char-head, same-start, same-next, none-some, borne-end}
+use Rattle.text.proofs.Walk.{charsFrom, textFrom, chars-start, chars-next, text-start, char-end, char-next, char-head, same-start, same-next, none-some, borne-end}
 use borrow.Author.Needs.{needs}
 use Rattle.text.proofs.bears.Statement.{statement}
 use Rattle.text.proofs.bears.Tie as tie

@@ -1,6 +1,9 @@
 use Prim.Native.Nat.{_-_}
-use Rattle.text.proofs.Walk.{text-over, text-shut, Passed, PassedFolded}
-use Rattle.text.proofs.Walk.{passed-start, passed-next, folded-start, folded-next, both-hashed}
+use mathlib.Core.Path.{refl}
+use lib.Bits.{bitAnd}
+use Rattle.hash.proofs.Laws.{char-lt}
+use Rattle.text.proofs.Walk.{text-over, Passed, PassedFolded, passed-start, passed-next, folded-start, folded-next, both-hashed, Two, two, two-shut, two-only, two-last, passed-pair, folded-pair, char-end, char-in, char-next}
+use native.Mathlib.Omega.{arith}
 use borrow.Author.Needs.{needs}
 use Rattle.text.proofs.both_hashes.Statement.{statement}
 use Rattle.text.proofs.both_hashes.Tie as tie
@@ -11,36 +14,58 @@ Inv-loop b t p n h₀ v₀ i₀ h v i = Passed b p n i h × PassedFolded b p n i
 abbrev μ-loop : tie.MeasureT-loop
 μ-loop b t p n h₀ v₀ i₀ h v i = n - i
 
+word : (c : tie.After-u32-at Inv-loop μ-loop)
+    → Two (c .before .before .before .before .args .b .now) (c .before .before .before .before .args .p) (c .before .before .before .before .args .n) (c .before .before .loop .i)
+    (bitAnd (c .u32-at .result) 65535) (c .u32-at .result)
+word c =
+    two _ _ _ _ _ (λ i. omega (arith, c .before .before .before .shared-slice-known .given i)) (c .before .loop-test .taken) (c .u32-at .ensures .0)
+
 loop-holds : tie.Need-loop-holds Inv-loop μ-loop
 loop-holds c = (passed-start _ _ _, folded-start _ _ _)
 
-mul-u16-at : tie.Need-mul-u16-at Inv-loop μ-loop
-mul-u16-at c = search needs
+add-loop : tie.Need-add-loop Inv-loop μ-loop
+add-loop c = search needs
 
-add-u16-at : tie.Need-add-u16-at Inv-loop μ-loop
-add-u16-at c = search needs
+mul-u32-at : tie.Need-mul-u32-at Inv-loop μ-loop
+mul-u32-at c = search needs
 
-u16-at-requires : tie.Need-u16-at-requires Inv-loop μ-loop
-u16-at-requires c κs = search needs
+add-u32-at : tie.Need-add-u32-at Inv-loop μ-loop
+add-u32-at c = search needs
+
+u32-at-requires : tie.Need-u32-at-requires Inv-loop μ-loop
+u32-at-requires c κs = search needs
 
 value-hash-requires : tie.Need-value-hash-requires Inv-loop μ-loop
 value-hash-requires c κs = search needs
 
 returns : tie.Need-returns Inv-loop μ-loop
 returns c =
-    let i = c .before .before .before .before .loop .inv in
-    let q = c .before .before .u16-at .ensures .0 in
-    both-hashed _ _ _ _ _ _ _ (i .0) (i .1)
-    (text-shut _ _ _ _ _ (c .before .before .before .loop-test .taken) q (c .before .if1 .taken)) (c .value-hash .ensures)
+    let u = c .before .before in
+    let i = u .before .before .loop .inv in
+    both-hashed _ _ _ _ _ _ _ (i .0) (i .1) (two-shut (word u) (c .before .if1 .taken)) (refl, c .value-hash .ensures)
 
-char-on-requires : tie.Need-char-on-requires Inv-loop μ-loop
-char-on-requires c κs = search needs
+with-last-requires : tie.Need-with-last-requires Inv-loop μ-loop
+with-last-requires c κs = search needs
 
-fold-requires : tie.Need-fold-requires Inv-loop μ-loop
-fold-requires c κs = search needs
+returns-2 : tie.Need-returns-2 Inv-loop μ-loop
+returns-2 c =
+    let u = c .before .before .before in
+    let i = u .before .before .loop .inv in
+    let q = word u in
+    let t = two-only q (c .before .before .if1 .left) (c .before .if2 .taken) in
+    both-hashed _ _ _ _ _ _ _
+    (passed-next _ _ _ _ _ _ _ _ (i .0) refl (omega arith) t (refl, char-lt _ _ (i .0 .small)))
+    (folded-next _ _ _ _ _ _ _ _ _ (i .1) t refl (refl, char-lt _ _ (i .1 .small)))
+    (two-last q (c .before .if2 .taken)) (c .with-last .ensures)
 
-char-on-requires-2 : tie.Need-char-on-requires-2 Inv-loop μ-loop
-char-on-requires-2 c κs = search needs
+pair-on-requires : tie.Need-pair-on-requires Inv-loop μ-loop
+pair-on-requires c κs = search needs
+
+fold-pair-requires : tie.Need-fold-pair-requires Inv-loop μ-loop
+fold-pair-requires c κs = search needs
+
+pair-on-requires-2 : tie.Need-pair-on-requires-2 Inv-loop μ-loop
+pair-on-requires-2 c κs = search needs
 
 add-i : tie.Need-add-i Inv-loop μ-loop
 add-i c = search needs
@@ -50,21 +75,42 @@ loop-less c = search needs
 
 loop-again : tie.Need-loop-again Inv-loop μ-loop
 loop-again c =
-    let i = c .before .before .before .before .before .before .loop .inv in
-    let l = c .before .before .before .before .before .loop-test .taken in
-    let q = c .before .before .before .before .u16-at .ensures .0 in
-    let z = c .before .before .before .if1 .left in (
-      passed-next _ _ _ _ _ _ _ (i .0) l q z (c .before .before .char-on .ensures),
-      folded-next _ _ _ _ _ _ _ _ (i .1) l q z (c .before .fold .ensures .0) (c .char-on2 .ensures),
-    )
+    let u = c .before .before .before .before .before in
+    let i = u .before .before .loop .inv in
+    let q = word u in
+    let y = c .before .before .before .before .if1 .left in
+    let z = c .before .before .before .if2 .left in
+    (passed-pair q _ _ (i .0) y z (c .before .before .pair-on .ensures), folded-pair q _ _ _ (i .1) y z (c .before .fold-pair .ensures) (c .pair-on2 .ensures))
+
+char-or-end-requires : tie.Need-char-or-end-requires Inv-loop μ-loop
+char-or-end-requires c κs = search needs
 
 value-hash-requires-2 : tie.Need-value-hash-requires-2 Inv-loop μ-loop
 value-hash-requires-2 c κs = search needs
 
-returns-2 : tie.Need-returns-2 Inv-loop μ-loop
-returns-2 c =
-    let i = c .before .before .loop .inv in
-    both-hashed _ _ _ _ _ _ _ (i .0) (i .1) (text-over _ _ _ _ (c .before .loop-test .left)) (c .value-hash2 .ensures)
+returns-3 : tie.Need-returns-3 Inv-loop μ-loop
+returns-3 c =
+    let a = c .before .before .before in
+    let i = a .before .loop .inv in
+    both-hashed _ _ _ _ _ _ _ (i .0) (i .1) (char-end _ _ _ _ _ (c .before .before .char-or-end .ensures) (c .before .if3 .taken)) (refl, c .value-hash2 .ensures)
+
+with-last-requires-2 : tie.Need-with-last-requires-2 Inv-loop μ-loop
+with-last-requires-2 c κs =
+    let i = c .before .before .before .loop .inv in
+    (c .before .before .before .before .before .pre .0, i .0 .small, i .1 .small, c .before .char-or-end .ensures .small)
+
+returns-4 : tie.Need-returns-4 Inv-loop μ-loop
+returns-4 c =
+    let e = c .before .before in
+    let a = e .before in
+    let i = a .before .loop .inv in
+    let k = e .char-or-end .ensures in
+    let z = c .before .if3 .left in
+    let t = char-next _ _ _ _ _ k z in
+    both-hashed _ _ _ _ _ _ _
+    (passed-next _ _ _ _ _ _ _ _ (i .0) refl (char-in _ _ _ _ _ k z) t (refl, char-lt _ _ (i .0 .small)))
+    (folded-next _ _ _ _ _ _ _ _ _ (i .1) t refl (refl, char-lt _ _ (i .1 .small)))
+    (text-over _ _ _ _ (a .loop-test .left)) (c .with-last2 .ensures)
 
 pub both-hashes-spec : {M : Type 1} → statement M
 both-hashes-spec =
@@ -73,16 +119,22 @@ both-hashes-spec =
     Inv-loop
     μ-loop
     loop-holds
-    mul-u16-at
-    add-u16-at
-    u16-at-requires
+    add-loop
+    mul-u32-at
+    add-u32-at
+    u32-at-requires
     value-hash-requires
     returns
-    char-on-requires
-    fold-requires
-    char-on-requires-2
+    with-last-requires
+    returns-2
+    pair-on-requires
+    fold-pair-requires
+    pair-on-requires-2
     add-i
     loop-less
     loop-again
+    char-or-end-requires
     value-hash-requires-2
-    returns-2)
+    returns-3
+    with-last-requires-2
+    returns-4)

@@ -2,38 +2,27 @@ use native.Mathlib.Omega.{arith}
 use borrow.Author.Needs.{needs}
 use borrow.Author.Tests.{not-true, not-false}
 use Rattle.strings.proofs.Checks.{measured-few, not-ended, not-long, not-hashed, delimited, text-right, refused-7, refused-8, refused-9}
+use Rattle.strings.proofs.Glances.{glanced-spot}
 use Rattle.strings.proofs.Places.{length-at, hash-at}
-use Rattle.strings.proofs.Spots.{spotted, unspotted}
 use Rattle.strings.proofs.entry.check_entry.Statement.{statement}
 use Rattle.strings.proofs.entry.check_entry.Tie as tie
 
 entry-at-requires : tie.Need-entry-at-requires
 entry-at-requires c κs = search needs
 
-add-spot-to : tie.Need-add-spot-to
-add-spot-to c = search needs
-
-spot-to-requires : tie.Need-spot-to-requires
-spot-to-requires c κs = search needs
-
-enum-known-a : tie.Need-enum-known-a
-enum-known-a c = search needs
-
-enum-told : tie.Need-enum-told
-enum-told c = search needs
-
 returns : tie.Need-returns
-returns c = let q = c .before .before .before .entry-at .ensures .0 in refused-7 _ _ _ _ q (unspotted _ _ _ _ q (c .before .before .spot-to .ensures) (c .enum-told .given .1))
+returns c = refused-7 _ _ _ _ (c .before .before .entry-at .ensures .0) (c .before .before .before .before .before .pre .4 .nowhere (c .if1 .taken))
 
-measure-requires : tie.Need-measure-requires
-measure-requires c κs = let q = c .before .before .before .before .entry-at .ensures .0 in
-    let w = spotted _ _ _ _ q (c .before .before .before .spot-to .ensures) (c .before .before .before .before .before .before .before .pre .1 .laid .characters) (c .before .a .given .1) in
-    (c .before .before .before .before .before .before .before .pre .0, w .fits)
+measure-seen-requires : tie.Need-measure-seen-requires
+measure-seen-requires c κs =
+    let w = glanced-spot _ _ _ _ _ _ _ (c .before .before .before .before .before .pre .1 .laid .characters) (c .before .before .before .before .before .pre .4) (omega (arith, c .if1 .left)) in
+    (c .before .before .before .before .before .pre .0, w .some, w .fits, c .before .before .before .before .before .pre .4 .first (w .some))
 
 returns-2 : tie.Need-returns-2
-returns-2 c = let q = c .before .before .before .before .before .before .before .entry-at .ensures .0 in
-    let w = spotted _ _ _ _ q (c .before .before .before .before .before .before .spot-to .ensures) (c .before .before .before .before .before .before .before .before .before .before .pre .1 .laid .characters) (c .before .before .before .before .a .given .1) in
-    refused-8 _ _ _ _ q (w .resolved) (not-ended _ _ _ _ _ _ (c .before .before .measure .ensures) w (not-true _ (c .if1 .taken)))
+returns-2 c =
+    let w = glanced-spot _ _ _ _ _ _ _ (c .before .before .before .before .before .before .before .before .pre .1 .laid .characters) (c .before .before .before .before .before .before .before .before .pre .4) (omega (arith, c .before .before .before .if1 .left)) in
+    refused-8 _ _ _ _ (c .before .before .before .before .before .entry-at .ensures .0) (w .resolved)
+    (not-ended _ _ _ _ _ _ (c .before .before .measure-seen .ensures) w (not-true _ (c .if2 .taken)))
 
 add-u32-at : tie.Need-add-u32-at
 add-u32-at c = search needs
@@ -41,36 +30,39 @@ add-u32-at c = search needs
 u32-at-requires : tie.Need-u32-at-requires
 u32-at-requires c κs = search needs
 
-add-if2 : tie.Need-add-if2
-add-if2 c = let q = c .before .before .before .before .before .before .before .before .before .entry-at .ensures .0 in
-    let w = spotted _ _ _ _ q (c .before .before .before .before .before .before .before .before .spot-to .ensures) (c .before .before .before .before .before .before .before .before .before .before .before .before .pre .1 .laid .characters) (c .before .before .before .before .before .before .a .given .1) in
-    omega (arith, measured-few _ _ _ _ _ _ (c .before .before .before .before .measure .ensures) w)
+add-if3 : tie.Need-add-if3
+add-if3 c =
+    let w = glanced-spot _ _ _ _ _ _ _ (c .before .before .before .before .before .before .before .before .before .before .pre .1 .laid .characters) (c .before .before .before .before .before .before .before .before .before .before .pre .4) (omega (arith, c .before .before .before .before .before .if1 .left)) in
+    omega (arith, measured-few _ _ _ _ _ _ (c .before .before .before .before .measure-seen .ensures) w)
 
 returns-3 : tie.Need-returns-3
-returns-3 c = let q = c .before .before .before .before .before .before .before .before .before .before .entry-at .ensures .0 in
-    let w = spotted _ _ _ _ q (c .before .before .before .before .before .before .before .before .before .spot-to .ensures) (c .before .before .before .before .before .before .before .before .before .before .before .before .before .pre .1 .laid .characters) (c .before .before .before .before .before .before .before .a .given .1) in
+returns-3 c =
+    let w = glanced-spot _ _ _ _ _ _ _ (c .before .before .before .before .before .before .before .before .before .before .before .pre .1 .laid .characters) (c .before .before .before .before .before .before .before .before .before .before .before .pre .4) (omega (arith, c .before .before .before .before .before .before .if1 .left)) in
+    let q = c .before .before .before .before .before .before .before .before .entry-at .ensures .0 in
     refused-8 _ _ _ _ q (w .resolved)
-    (not-long _ _ _ _ _ _ (c .before .before .before .before .before .measure .ensures) w _ (length-at _ _ _ _ _ q (c .before .before .u32-at .ensures .0)) (c .if2 .taken))
+    (not-long _ _ _ _ _ _ (c .before .before .before .before .before .measure-seen .ensures) w _ (length-at _ _ _ _ _ q (c .before .before .u32-at .ensures .0)) (c .if3 .taken))
 
 u32-at-requires-2 : tie.Need-u32-at-requires-2
 u32-at-requires-2 c κs = search needs
 
 returns-4 : tie.Need-returns-4
-returns-4 c = let q = c .before .before .before .before .before .before .before .before .before .before .before .before .before .entry-at .ensures .0 in
-    let w = spotted _ _ _ _ q (c .before .before .before .before .before .before .before .before .before .before .before .before .spot-to .ensures) (c .before .before .before .before .before .before .before .before .before .before .before .before .before .before .before .before .pre .1 .laid .characters) (c .before .before .before .before .before .before .before .before .before .before .a .given .1) in
-    let m = c .before .before .before .before .before .before .before .before .measure .ensures in
+returns-4 c =
+    let w = glanced-spot _ _ _ _ _ _ _ (c .before .before .before .before .before .before .before .before .before .before .before .before .before .before .pre .1 .laid .characters) (c .before .before .before .before .before .before .before .before .before .before .before .before .before .before .pre .4) (omega (arith, c .before .before .before .before .before .before .before .before .before .if1 .left)) in
+    let q = c .before .before .before .before .before .before .before .before .before .before .before .entry-at .ensures .0 in
+    let m = c .before .before .before .before .before .before .before .before .measure-seen .ensures in
     refused-9 _ _ _ _ q (w .resolved)
-    (delimited _ _ _ _ _ _ m w (not-false _ (c .before .before .before .before .before .before .if1 .left)) _ (length-at _ _ _ _ _ q (c .before .before .before .before .before .u32-at .ensures .0)) (c .before .before .before .if2 .left))
-    (not-hashed _ _ _ _ _ _ m w _ (hash-at _ _ _ _ _ q (c .before .before .u32-at2 .ensures .0)) (c .if3 .taken))
+    (delimited _ _ _ _ _ _ m w (not-false _ (c .before .before .before .before .before .before .if2 .left)) _ (length-at _ _ _ _ _ q (c .before .before .before .before .before .u32-at .ensures .0)) (c .before .before .before .if3 .left))
+    (not-hashed _ _ _ _ _ _ m w _ (hash-at _ _ _ _ _ q (c .before .before .u32-at2 .ensures .0)) (c .if4 .taken))
 
 check-order-requires : tie.Need-check-order-requires
-check-order-requires c κs = let q = c .before .before .before .before .before .before .before .before .before .before .before .before .before .entry-at .ensures .0 in
-    let w = spotted _ _ _ _ q (c .before .before .before .before .before .before .before .before .before .before .before .before .spot-to .ensures) (c .before .before .before .before .before .before .before .before .before .before .before .before .before .before .before .before .pre .1 .laid .characters) (c .before .before .before .before .before .before .before .before .before .before .a .given .1) in
-    let p = c .before .before .before .before .before .before .before .before .before .before .before .before .before .before .before .before .pre in
+check-order-requires c κs =
+    let w = glanced-spot _ _ _ _ _ _ _ (c .before .before .before .before .before .before .before .before .before .before .before .before .before .before .pre .1 .laid .characters) (c .before .before .before .before .before .before .before .before .before .before .before .before .before .before .pre .4) (omega (arith, c .before .before .before .before .before .before .before .before .before .if1 .left)) in
+    let q = c .before .before .before .before .before .before .before .before .before .before .before .entry-at .ensures .0 in
+    let p = c .before .before .before .before .before .before .before .before .before .before .before .before .before .before .pre in
     let r =
-    text-right _ _ _ _ _ _ (c .before .before .before .before .before .before .before .before .measure .ensures) w (not-false _ (c .before .before .before .before .before .before .if1 .left)) _
-    (length-at _ _ _ _ _ q (c .before .before .before .before .before .u32-at .ensures .0)) (c .before .before .before .if2 .left) _ (hash-at _ _ _ _ _ q (c .before .before .u32-at2 .ensures .0)) (c .if3 .left) in
-    (p .1, p .2, p .3, r)
+    text-right _ _ _ _ _ _ (c .before .before .before .before .before .before .before .before .measure-seen .ensures) w (not-false _ (c .before .before .before .before .before .before .if2 .left)) _ (length-at _ _ _ _ _ q (c .before .before .before .before .before .u32-at .ensures .0))
+    (c .before .before .before .if3 .left) _ (hash-at _ _ _ _ _ q (c .before .before .u32-at2 .ensures .0)) (c .if4 .left) in
+    (p .1, p .2, p .3, r, p .4 .listed)
 
 returns-5 : tie.Need-returns-5
 returns-5 c = search needs
@@ -80,16 +72,12 @@ check-entry-spec =
     tie.close
     (tie.spec
     entry-at-requires
-    add-spot-to
-    spot-to-requires
-    enum-known-a
-    enum-told
     returns
-    measure-requires
+    measure-seen-requires
     returns-2
     add-u32-at
     u32-at-requires
-    add-if2
+    add-if3
     returns-3
     u32-at-requires-2
     returns-4

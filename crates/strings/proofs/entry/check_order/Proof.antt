@@ -13,23 +13,28 @@ placed-requires c κs = (c .before .before .before .pre .0, c .before .before .b
 returns : tie.Need-returns
 returns c = refused-10 _ _ _ _ (c .before .before .entry-at .ensures .0) (c .before .before .before .before .before .pre .3) (c .before .placed .ensures .not (not-true _ (c .if1 .taken)))
 
-indexed-requires : tie.Need-indexed-requires
-indexed-requires c κs = (c .before .before .before .before .before .pre .0, c .before .before .before .before .before .pre .1)
-
 returns-2 : tie.Need-returns-2
-returns-2 c = refused-11 _ _ _ _ (c .before .before .before .before .entry-at .ensures .0) (c .before .before .before .before .before .before .before .pre .3) (c .before .before .before .placed .ensures .so (not-false _ (c .before .before .if1 .left)))
-    (c .before .indexed .ensures .not (not-true _ (c .if2 .taken)))
+returns-2 c =
+    let p = c .before .before .before .before .before .before .pre in
+    refused-11 _ _ _ _ (c .before .before .before .entry-at .ensures .0) (p .3) (c .before .before .placed .ensures .so (not-false _ (c .before .if1 .left)))
+    (p .4 .not (not-true _ (c .if2 .taken)))
 
 twin-requires : tie.Need-twin-requires
-twin-requires c κs = let p = c .before .before .before .before .before .before .before .pre in (p .0, p .1, sorted _ _ _ (p .2) (p .3) (c .before .before .before .placed .ensures .so (not-false _ (c .before .before .if1 .left))))
+twin-requires c κs =
+    let p = c .before .before .before .before .before .before .pre in
+    (p .0, p .1, sorted _ _ _ (p .2) (p .3) (c .before .before .placed .ensures .so (not-false _ (c .before .if1 .left))))
 
 returns-3 : tie.Need-returns-3
-returns-3 c = refused-12 _ _ _ _ (c .before .before .before .before .before .before .entry-at .ensures .0) (c .before .before .before .before .before .before .before .before .before .pre .3) (c .before .before .before .before .before .placed .ensures .so (not-false _ (c .before .before .before .before .if1 .left)))
-    (c .before .before .before .indexed .ensures .so (not-false _ (c .before .before .if2 .left))) (c .before .twin .ensures .so (c .if3 .taken))
+returns-3 c =
+    let p = c .before .before .before .before .before .before .before .before .pre in
+    refused-12 _ _ _ _ (c .before .before .before .before .before .entry-at .ensures .0) (p .3) (c .before .before .before .before .placed .ensures .so (not-false _ (c .before .before .before .if1 .left)))
+    (p .4 .so (not-false _ (c .before .before .if2 .left))) (c .before .twin .ensures .so (c .if3 .taken))
 
 returns-4 : tie.Need-returns-4
-returns-4 c = entry-passes _ _ _ (c .before .before .before .before .before .before .before .before .before .pre .3) (c .before .before .before .before .before .placed .ensures .so (not-false _ (c .before .before .before .before .if1 .left)))
-    (c .before .before .before .indexed .ensures .so (not-false _ (c .before .before .if2 .left))) (c .before .twin .ensures .not (c .if3 .left))
+returns-4 c =
+    let p = c .before .before .before .before .before .before .before .before .pre in
+    entry-passes _ _ _ (p .3) (c .before .before .before .before .placed .ensures .so (not-false _ (c .before .before .before .if1 .left)))
+    (p .4 .so (not-false _ (c .before .before .if2 .left))) (c .before .twin .ensures .not (c .if3 .left))
 
 pub check-order-spec : {M : Type 1} → statement M
 check-order-spec =
@@ -38,7 +43,6 @@ check-order-spec =
     entry-at-requires
     placed-requires
     returns
-    indexed-requires
     returns-2
     twin-requires
     returns-3

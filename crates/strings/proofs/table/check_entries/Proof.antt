@@ -1,4 +1,4 @@
-use Prim.Native.Nat.{ℕ, _-_, _≤_, _<_}
+use Prim.Native.Nat.{ℕ, _-_, _%_, _≤_, _<_}
 use native.Mathlib.Omega.{arith}
 use mathlib.Core.Path.{_≡_, refl, sym, _∙_}
 use lib.ListN.{length}
@@ -8,19 +8,21 @@ use Rattle.layout.specs.Table.{entries}
 use Rattle.verdict.specs.Checks.{firstFault}
 use Rattle.verdict.specs.declared.Verdict.the-variants.{Accepted}
 use Rattle.strings.specs.Held.{heldTable}
+use Rattle.strings.specs.Ahead.{ReadAhead}
 use Rattle.strings.specs.Order.{entryChecks, allEntryChecks}
 use Rattle.strings.proofs.Left.{bucketsLeft, entriesLeft, left-start, left-open, left-more, left-stop, left-next, left-none}
+use Rattle.strings.proofs.Glances.{near-first, near-next, near-at}
 use Rattle.strings.proofs.Places.{here-in}
 use Rattle.strings.proofs.table.check_entries.Statement.{statement}
 use Rattle.strings.proofs.table.check_entries.Tie as tie
 
 abbrev Inv-loop : tie.InvT-loop
-Inv-loop b t s samples starts fault₀ k n j₀ fault j =
+Inv-loop b t s samples starts fault₀ k n near₀ j₀ fault near j =
     (j ≤ n) × (n ≡ entries (heldTable b s starts) k) × (fault ≡ Accepted) × (firstFault (allEntryChecks (heldTable b s starts)) ≡ entriesLeft (heldTable b s starts) k j)
-    × ((i : ℕ) → i < j → firstFault (entryChecks (heldTable b s starts) k i) ≡ Accepted)
+    × ((i : ℕ) → i < j → firstFault (entryChecks (heldTable b s starts) k i) ≡ Accepted) × ReadAhead (heldTable b s starts) k (j - j % 16) near
 
 abbrev μ-loop : tie.MeasureT-loop
-μ-loop b t s samples starts fault₀ k n j₀ fault j = n - j
+μ-loop b t s samples starts fault₀ k n near₀ j₀ fault near j = n - j
 
 abbrev Inv-buckets : tie.InvT-buckets
 Inv-buckets b t s samples starts fault₀ k₀ fault k = (k ≤ length starts) × (fault ≡ Accepted) × (firstFault (allEntryChecks (heldTable b s starts)) ≡ bucketsLeft (heldTable b s starts) k)
@@ -34,13 +36,41 @@ buckets-holds c = (search needs, refl, left-start _)
 entry-count-requires : tie.Need-entry-count-requires Inv-loop μ-loop Inv-buckets μ-buckets
 entry-count-requires c κs = (c .before .before .before .before .pre .1, c .buckets-test .taken)
 
+read-ahead-requires : tie.Need-read-ahead-requires Inv-loop μ-loop Inv-buckets μ-buckets
+read-ahead-requires c κs = (c .before .before .before .before .before .pre .1, c .before .buckets-test .taken, c .entry-count .ensures, search needs)
+
 loop-holds : tie.Need-loop-holds Inv-loop μ-loop Inv-buckets μ-buckets
-loop-holds c = let b = c .before .before .buckets .inv in (search needs, c .entry-count .ensures, b .1, b .2 ∙ left-open _ _ (c .before .buckets-test .taken), below-none _)
+loop-holds c =
+    let b = c .before .before .before .buckets .inv in
+    (search needs, c .before .entry-count .ensures, b .1, b .2 ∙ left-open _ _ (c .before .before .buckets-test .taken), below-none _, near-first _ _ _ _ refl (c .read-ahead .ensures))
+
+mul-t19 : tie.Need-mul-t19 Inv-loop μ-loop Inv-buckets μ-buckets
+mul-t19 c = search needs
+
+element-copy-out-t22 : tie.Need-element-copy-out-t22 Inv-loop μ-loop Inv-buckets μ-buckets
+element-copy-out-t22 c = search needs
+
+mul-t23 : tie.Need-mul-t23 Inv-loop μ-loop Inv-buckets μ-buckets
+mul-t23 c = search needs
+
+element-copy-out-t26 : tie.Need-element-copy-out-t26 Inv-loop μ-loop Inv-buckets μ-buckets
+element-copy-out-t26 c = search needs
+
+mul-t27 : tie.Need-mul-t27 Inv-loop μ-loop Inv-buckets μ-buckets
+mul-t27 c = search needs
+
+element-copy-out-t30 : tie.Need-element-copy-out-t30 Inv-loop μ-loop Inv-buckets μ-buckets
+element-copy-out-t30 c = search needs
+
+element-copy-out-if1 : tie.Need-element-copy-out-if1 Inv-loop μ-loop Inv-buckets μ-buckets
+element-copy-out-if1 c = search needs
 
 check-entry-requires : tie.Need-check-entry-requires Inv-loop μ-loop Inv-buckets μ-buckets
-check-entry-requires c κs = let p = c .before .before .before .before .before .before .before .pre in
-    let l = c .before .loop .inv in
-    (p .0, p .1, here-in _ _ _ _ (c .before .before .before .buckets-test .taken) (l .1) (c .loop-test .taken), l .4)
+check-entry-requires c κs =
+    let p = c .before .before .before .before .before .before .before .before .before .before .before .before .pre in
+    let l = c .before .before .before .before .before .loop .inv in
+    let h = c .before .before .before .before .loop-test .taken in
+    (p .0, p .1, here-in _ _ _ _ (c .before .before .before .before .before .before .before .before .buckets-test .taken) (l .1) h, l .4, near-at _ _ _ _ (l .5) (omega (arith, l .1, h)))
 
 enum-told : tie.Need-enum-told Inv-loop μ-loop Inv-buckets μ-buckets
 enum-told c = search needs
@@ -51,13 +81,26 @@ enum-known-num c = search needs
 add-j : tie.Need-add-j Inv-loop μ-loop Inv-buckets μ-buckets
 add-j c = search needs
 
+read-ahead-requires-2 : tie.Need-read-ahead-requires-2 Inv-loop μ-loop Inv-buckets μ-buckets
+read-ahead-requires-2 c κs = (c .before .before .before .before .before .before .before .before .before .before .before .before .before .before .before .before .pre .1, c .before .before .before .before .before .before .before .before .before .before .before .before .buckets-test .taken, c .before .before .before .before .before .before .before .before .before .loop .inv .1, omega (arith, c .before .before .before .before .before .before .before .before .loop-test .taken))
+
 loop-less : tie.Need-loop-less Inv-loop μ-loop Inv-buckets μ-buckets
 loop-less c = search needs
 
 loop-again : tie.Need-loop-again Inv-loop μ-loop Inv-buckets μ-buckets
-loop-again c = let l = c .before .before .before .before .loop .inv in
-    let e = sym (c .before .before .check-entry .ensures) ∙ c .enum-told .given .1 in
-    (omega arith, l .1, l .2, l .3 ∙ left-more _ _ _ (omega (arith, l .1)) e, below-more _ _ (l .4) e)
+loop-again c =
+    let l = c .before .before .before .before .before .before .before .before .before .before .loop .inv in
+    let e = sym (c .before .before .before .before .check-entry .ensures) ∙ c .before .before .enum-told .given .1 in
+    (omega arith, l .1, l .2, l .3 ∙ left-more _ _ _ (omega (arith, l .1)) e, below-more _ _ (l .4) e, near-first _ _ _ _ (c .before .if1 .taken) (c .read-ahead2 .ensures))
+
+loop-less-2 : tie.Need-loop-less-2 Inv-loop μ-loop Inv-buckets μ-buckets
+loop-less-2 c = search needs
+
+loop-again-2 : tie.Need-loop-again-2 Inv-loop μ-loop Inv-buckets μ-buckets
+loop-again-2 c =
+    let l = c .before .before .before .before .before .before .before .before .before .loop .inv in
+    let e = sym (c .before .before .before .check-entry .ensures) ∙ c .before .enum-told .given .1 in
+    (omega arith, l .1, l .2, l .3 ∙ left-more _ _ _ (omega (arith, l .1)) e, below-more _ _ (l .4) e, near-next _ _ _ _ (c .if1 .left) (l .5))
 
 add-k : tie.Need-add-k Inv-loop μ-loop Inv-buckets μ-buckets
 add-k c = search needs
@@ -72,7 +115,8 @@ returns : tie.Need-returns Inv-loop μ-loop Inv-buckets μ-buckets
 returns c = let b = c .before .buckets .inv in b .1 ∙ sym (b .2 ∙ left-none _ _ (c .buckets-test .left))
 
 returns-2 : tie.Need-returns-2 Inv-loop μ-loop Inv-buckets μ-buckets
-returns-2 c = let l = c .before .before .before .before .before .loop .inv in
+returns-2 c =
+    let l = c .before .before .before .before .before .before .before .before .before .loop .inv in
     sym (l .3 ∙ left-stop _ _ _ (omega (arith, l .1)) (sym (c .before .before .before .check-entry .ensures) ∙ c .before .num .given .1))
 
 pub check-entries-spec : {M : Type 1} → statement M
@@ -85,13 +129,24 @@ check-entries-spec =
     μ-buckets
     buckets-holds
     entry-count-requires
+    read-ahead-requires
     loop-holds
+    mul-t19
+    element-copy-out-t22
+    mul-t23
+    element-copy-out-t26
+    mul-t27
+    element-copy-out-t30
+    element-copy-out-if1
     check-entry-requires
     enum-told
     enum-known-num
     add-j
+    read-ahead-requires-2
     loop-less
     loop-again
+    loop-less-2
+    loop-again-2
     add-k
     buckets-less
     buckets-again
