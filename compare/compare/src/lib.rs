@@ -4,6 +4,7 @@ pub mod asks;
 pub mod case;
 pub mod guard;
 pub mod inputs;
+pub mod lengths;
 pub mod loader;
 pub mod program;
 pub mod question;

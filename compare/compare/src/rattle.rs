@@ -136,9 +136,7 @@ impl Loader for Rattle {
 
     fn outline(&self, file: &[u8], ws: &mut [u8], out: &mut [u8]) -> Answer {
         let (file_at, ws_at) = (self.lend(file), self.room(ws));
-        unsafe {
-            taplinen_outline(file_at, file.len(), ws_at, ws.len(), self.room(out), out.len())
-        }
+        unsafe { taplinen_outline(file_at, file.len(), ws_at, ws.len(), self.room(out), out.len()) }
     }
 
     fn batch(

@@ -9,6 +9,7 @@ use second::{Plain, Right};
 use crate::asks::asks;
 use crate::case::{random, Case};
 use crate::guard::Edge;
+use crate::lengths;
 use crate::loader::{Loader, Second};
 use crate::question::{Ask, Pages, Question};
 use crate::sparse::Largest;
@@ -52,6 +53,7 @@ impl Run {
         let mut rng = Rng::new(self.plan.seed);
         if self.plan.full {
             self.largest();
+            self.every_length(&mut rng);
             for make in limits() {
                 let case = make(&mut rng);
                 self.case(&mut rng, &case);
@@ -100,6 +102,16 @@ impl Run {
                     report(&self.plan, &other.title(), &words, &case.bytes);
                 }
             }
+        }
+    }
+
+    /// Buffers of every length up to what is needed and a little more.
+    fn every_length(&mut self, rng: &mut Rng) {
+        let case = lengths::shop();
+        self.tally.files += 1;
+        self.pages.put_file(&case.bytes, Edge::End);
+        for question in lengths::questions(rng, &case) {
+            self.question(&case, &question);
         }
     }
 

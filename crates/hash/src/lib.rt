@@ -265,12 +265,6 @@ const T: [u32; 256] = [
     0xb1f740b4,
 ];
 
-fn wide(x: u32) -> usize
-    ensures { λ r. ⌜ (r ≡ x) × (r < 2 ^ 32) ⌝ }
-{
-    x as usize
-}
-
 fn low(x: usize) -> usize
     ensures { λ r. ⌜ (r ≡ x % 256) × (r < 256) ⌝ }
 {
@@ -291,7 +285,7 @@ pub fn tables() -> [u32; 1024]
     }
     while i < 1024 {
         let e = t[i - 256];
-        t[i] = source[low(wide(e))] ^ (e >> 8);
+        t[i] = source[low(le::wide(e))] ^ (e >> 8);
         i += 1;
     }
     t
@@ -303,7 +297,7 @@ pub fn char_on(t: &[u32; 1024], h: usize, c: usize) -> usize
     ensures { λ r. ⌜ (r ≡ hashChar h c) × (r < 2 ^ 32) ⌝ }
 {
     let x = h ^ c;
-    wide(t[256 + low(x)]) ^ (wide(t[low(x >> 8)]) ^ (x >> 16))
+    le::wide(t[256 + low(x)]) ^ (le::wide(t[low(x >> 8)]) ^ (x >> 16))
 }
 
 // The hash after two characters more, read as one word: all four bytes in one step.
@@ -312,8 +306,8 @@ pub fn pair_on(t: &[u32; 1024], h: usize, w: usize) -> usize
     ensures { λ r. ⌜ (r ≡ hashChar (hashChar h (w % 65536)) (w / 65536)) × (r < 2 ^ 32) ⌝ }
 {
     let x = h ^ w;
-    let near = wide(t[256 + low(x >> 16)]) ^ wide(t[low(x >> 24)]);
-    wide(t[768 + low(x)]) ^ (wide(t[512 + low(x >> 8)]) ^ near)
+    let near = le::wide(t[256 + low(x >> 16)]) ^ le::wide(t[low(x >> 24)]);
+    le::wide(t[768 + low(x)]) ^ (le::wide(t[512 + low(x >> 8)]) ^ near)
 }
 
 // The bucket of a hash, among n.

@@ -1,6 +1,6 @@
 -- The header and the keys (01, "Layout").
 use Prim.Native.Nat.{ℕ, _+_, _*_}
-use mathlib.Core.List.{List, [], _∷_, _++_}
+use mathlib.Core.List.{List, [], _∷_}
 use Rattle.verdict.specs.Checks.{Check, atMost, equal, each}
 use Rattle.le.specs.Le.{u32At}
 use Rattle.le.specs.Floats.{doubleAt}

@@ -6,8 +6,15 @@ ghost use lib.Ieee.{ofBits, binary32, binary64};
 ghost use Rattle.le.specs.Le.{u16At, u32At, u64At};
 ghost use Rattle.le.specs.Floats.{singleOf, doubleAt};
 
-fn wide(x: u8) -> usize
+fn byte(x: u8) -> usize
     ensures { λ r. ⌜ (r ≡ x) × (r < 256) ⌝ }
+{
+    x as usize
+}
+
+// A number of 32 bits as the code counts.
+pub fn wide(x: u32) -> usize
+    ensures { λ r. ⌜ (r ≡ x) × (r < 2 ^ 32) ⌝ }
 {
     x as usize
 }
@@ -16,14 +23,14 @@ pub fn u16_at(s: &[u8], at: usize) -> usize
     requires { ⌜ at + 2 ≤ length (now s) ⌝ }
     ensures { λ r. ⌜ (r ≡ u16At (now (s .entry)) at) × (r < 65536) ⌝ }
 {
-    wide(s[at]) + wide(s[at + 1]) * 256
+    byte(s[at]) + byte(s[at + 1]) * 256
 }
 
 pub fn u32_at(s: &[u8], at: usize) -> usize
     requires { ⌜ at + 4 ≤ length (now s) ⌝ }
     ensures { λ r. ⌜ (r ≡ u32At (now (s .entry)) at) × (r < 2 ^ 32) ⌝ }
 {
-    wide(s[at]) + wide(s[at + 1]) * 256 + wide(s[at + 2]) * 65536 + wide(s[at + 3]) * 16777216
+    byte(s[at]) + byte(s[at + 1]) * 256 + byte(s[at + 2]) * 65536 + byte(s[at + 3]) * 16777216
 }
 
 pub fn u64_at(s: &[u8], at: usize) -> u64

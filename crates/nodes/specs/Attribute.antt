@@ -1,5 +1,5 @@
 -- Attributes (01, "Nodes and attributes"): the fields of the attribute at offset q, and the value read out.
-use Prim.Native.Nat.{ℕ, _+_, _-_, _*_, _≤_}
+use Prim.Native.Nat.{ℕ, _+_, _-_, _≤_}
 use mathlib.Core.Path.{_≡_}
 use mathlib.Core.Bool.{cond}
 use mathlib.Core.List.{List}

@@ -1,5 +1,5 @@
 -- How the rules of Rules.antt are decided: nothing to judge here, a decision is right by its type.
-use Prim.Native.Nat.{ℕ, _+_, _-_, _≤_, _<_}
+use Prim.Native.Nat.{ℕ, _-_}
 use native.Mathlib.Decide.{ℕ-discrete, decLe, decLt}
 use mathlib.Core.Logic.{Dec·and, Dec·not}
 use mathlib.Core.List.{List}
@@ -15,7 +15,7 @@ use Rattle.keys.specs.Names.{nameCount, rootName, valueName}
 use Rattle.keys.specs.Decisions.{bears?}
 use Rattle.nodes.specs.Node.{nodeName, keyWord, attributeField, attributeSegment, attributeElement, childSegment, childElement, Live, attributeCount, childCount, nodeAt, attributeAt, childAt}
 use Rattle.nodes.specs.Attribute.{attributeName, typeWord, valueWord, textSegment, textElement, Typed}
-use Rattle.nodes.specs.Rules.{RootUsed, RootRule, NodeRule, AttributesReach, AttributeRule, EntryAddress, TextRule, TextRight, ChildRule}
+use Rattle.nodes.specs.Rules.{RootUsed, RootRule, NodeRule, AttributesReach, AttributeRule, EntryAddress, TextRight, ChildRule}
 
 unfoldable pub rootUsed? : (b : List ℕ) → Dec (RootUsed b)
 rootUsed? b = resolves? nodeSize b (nodesAt b) 0 0

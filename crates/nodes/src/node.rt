@@ -1,6 +1,6 @@
 // Refusals 16, 17 and 23, and all of one node.
 ghost use mathlib.Core.Path.{_≡_};
-ghost use Prim.Native.Nat.{ℕ, _+_, _*_, _≤_, _<_};
+ghost use Prim.Native.Nat.{_+_, _*_, _≤_, _<_};
 ghost use lib.ListN.{length};
 ghost use Rattle.verdict.specs.Checks.{Tells, firstFault};
 ghost use Rattle.hash.specs.Table.{Tables};
@@ -9,7 +9,7 @@ ghost use Rattle.region.specs.Samples.{Mapped, Starts};
 ghost use Rattle.layout.specs.Header.{keyCount};
 ghost use Rattle.layout.specs.Layout.{nodeSize, nodesAt};
 ghost use Rattle.keys.specs.Known.{Known};
-ghost use Rattle.nodes.specs.Node.{nodeAt, childAt, childCount, nodeName, Live};
+ghost use Rattle.nodes.specs.Node.{nodeAt, Live};
 ghost use Rattle.nodes.specs.Rules.{NodeRule, TextsRight, ChildRule};
 ghost use Rattle.nodes.specs.Search.{Sure, Rising};
 ghost use Rattle.nodes.specs.Order.{nodeChecks};

@@ -12,26 +12,17 @@ use lib.ListN.{length}
 use Rattle.verdict.specs.Decide.{SomeBelow}
 use Rattle.tree.specs.Chain.{Tree, LiveIn, child, Chain, Before}
 use Rattle.tree.specs.Rules.{Deep}
+use Rattle.outline.specs.Lined.{leads, Rising}
 
 -- f j ++ f (j + 1) ++ .., n of them
 unfoldable pub row : (ℕ → List (List ℕ)) → ℕ → ℕ → List (List ℕ)
 row f j zero = []
 row f j (suc n) = f j ++ row f (j + 1) n
 
--- the node where the places ps lead from node a
-unfoldable pub leads : Tree → ℕ → List ℕ → ℕ
-leads t a [] = a
-leads t a (j ∷ ps) = leads t (child t a j) ps
-
 -- the chains from node a of at most n places: that of none, then those that begin with each place in order
 unfoldable pub chains : Tree → ℕ → ℕ → List (List ℕ)
 chains t zero a = [] ∷ []
 chains t (suc n) a = [] ∷ row (λ j. cond (eqb (t .name (child t a j)) 0) [] (map (_∷_ j) (chains t n (child t a j)))) 0 (t .count a)
-
--- of any two chains of a list the earlier is before the later in document order
-unfoldable pub Rising : List (List ℕ) → Type 0
-Rising [] = Unit
-Rising (ps ∷ l) = ((qs : List ℕ) → List·Memᴰ qs l → Before ps qs) × Rising l
 
 -- ---- how long a chain is
 

@@ -15,7 +15,8 @@ use Rattle.tree.specs.File.{nodeOf, Used, treeOf, usedNodes}
 use Rattle.tree.proofs.Unique.{OneParent, chain-within, one-chain, one-parent}
 use Rattle.accept.specs.Rules.{FileRules}
 use Rattle.outline.specs.Outline.{line, outlineOf}
-use Rattle.outline.proofs.Chains.{leads, chains, Rising, chains-sound, chains-rising}
+use Rattle.outline.specs.Lined.{leads, Rising}
+use Rattle.outline.proofs.Chains.{chains, chains-sound, chains-rising}
 use Rattle.outline.proofs.Listed.{outline-rows}
 use Rattle.outline.proofs.Widths.{line-short}
 

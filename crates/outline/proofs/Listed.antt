@@ -1,17 +1,18 @@
 -- The outline is one line for each chain from the root, in document order. Assumes nothing.
 use mathlib.Core.Path.{_≡_, refl, sym, ap, _∙_}
 use mathlib.Core.Bool.{Bool, true, false, cond}
-use mathlib.Core.List.{List, [], _∷_, _++_, map, flatMap, append-nil, append-assoc, List·Memᴰ}
+use mathlib.Core.List.{List, [], _∷_, _++_, map, flatMap, append-nil, append-assoc}
 use Prim.Native.Nat.{ℕ, zero, suc, _+_}
 use native.Mathlib.Nat.{add-zero, zero-add}
 use native.Mathlib.Omega.{arith}
 use lib.Dec.{eqb}
 use lib.ListN.{length}
-use Rattle.tree.specs.Chain.{child, Chain, ranged}
+use Rattle.tree.specs.Chain.{child, ranged}
 use Rattle.tree.specs.File.{nodeOf, treeOf}
 use Rattle.accept.specs.Rules.{FileRules}
 use Rattle.outline.specs.Outline.{line, shown, block, outlineOf}
-use Rattle.outline.proofs.Chains.{no-longer, row, leads, chains, Rising, through, chain-leads, chains-sound, chains-complete, chains-rising}
+use Rattle.outline.specs.Lined.{leads, Lined}
+use Rattle.outline.proofs.Chains.{no-longer, row, chains, through, chain-leads, chains-sound, chains-complete, chains-rising}
 
 -- ---- laws of flatMap
 
@@ -70,14 +71,6 @@ module _ (b : List ℕ) where
       let q = flat-row (lineOf level a) (through (treeOf b) n a) (shown b (block b n (level + 1))) (treeOf b .first a) 0 (treeOf b .count a)
       (λ j. flat-through n level a j (lines-block n (level + 1) (child (treeOf b) a j))) in
       rw (q, add-zero level, add-zero (treeOf b .first a))
-
--- l lists the chains from the root, each chain and nothing else, in document order, so each once; and the outline is the line of
--- each, of the node where it leads, at a level for each of its places.
-pub record Lined (b : List ℕ) (l : List (List ℕ)) : Type 0 where
-  pub sound : (ps : List ℕ) → List·Memᴰ ps l → Chain (treeOf b) ps 0 (leads (treeOf b) 0 ps)
-  pub complete : (ps : List ℕ) (e : ℕ) → Chain (treeOf b) ps 0 e → List·Memᴰ ps l × (e ≡ leads (treeOf b) 0 ps)
-  pub ordered : Rising l
-  pub lines : outlineOf b ≡ flatMap (λ ps. line b (length ps) (nodeOf b (leads (treeOf b) 0 ps))) l
 
 module _ (b : List ℕ) where
   pub outline-rows : outlineOf b ≡ flatMap (λ ps. line b (length ps) (nodeOf b (leads (treeOf b) 0 ps))) (chains (treeOf b) 63 0)

@@ -1,4 +1,5 @@
 pub mod Outline
 pub mod Outlined
+pub mod Lined
 pub mod Answer
 pub mod Ready

@@ -1,5 +1,4 @@
 // Attributes and their values.
-ghost use mathlib.Core.Path.{_≡_};
 ghost use Rattle.layout.specs.View.{Placed};
 ghost use Rattle.nodes.specs.Node.{attributeCount, attributeAt};
 ghost use Rattle.nodes.specs.Attribute.{valueOf};

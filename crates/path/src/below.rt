@@ -10,12 +10,6 @@ ghost use Rattle.path.specs.Listing.{le4, encode};
 use region::Place;
 use region::Region;
 
-fn wide(x: u32) -> usize
-    ensures { λ r. ⌜ r ≡ x ⌝ }
-{
-    x as usize
-}
-
 // Writes a number as four bytes, low byte first.
 pub fn put_u32(list: &mut [u8], at: usize, x: usize)
     requires { ⌜ at + 4 ≤ length (now list) ⌝ }
@@ -58,7 +52,7 @@ pub fn count_below(
     let Place::At(q) = region::range_at(b, nodes, 24, starts, seg, el, count) else {
         return 0;
     };
-    let name = wide(wanted[at]);
+    let name = le::wide(wanted[at]);
     let first = seg * 65536 + el;
     let mut k = 0;
     let mut j = 0;
@@ -107,7 +101,7 @@ pub fn write_below(
     let Place::At(q) = region::range_at(b, nodes, 24, starts, seg, el, count) else {
         return k;
     };
-    let name = wide(wanted[at]);
+    let name = le::wide(wanted[at]);
     let first = seg * 65536 + el;
     let mut m = k;
     let mut j = 0;

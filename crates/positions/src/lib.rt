@@ -71,19 +71,13 @@ fn carried(
     carries(b, s, samples, starts, k, h, i)
 }
 
-fn wide(x: u32) -> usize
-    ensures { λ r. ⌜ (r ≡ x) × (r < 2 ^ 32) ⌝ }
-{
-    x as usize
-}
-
 // The number of entries of all buckets, by the bytes that they take: from the first bucket's start up to the address
 // count there are 4 a bucket and 16 an entry.
 fn entry_total(b: &[u8], s: Strings, samples: &[u32; 256], starts: &[u32]) -> usize
     requires { ⌜ Held (now b) s (now samples) (now starts) ⌝ }
     ensures { λ r. ⌜ (r ≡ allEntries (heldTable (now (b .entry)) s (now (starts .entry)))) × (r < 2 ^ 32) ⌝ }
 {
-    (s.list - wide(starts[0]) - 4 * starts.len()) / 16
+    (s.list - le::wide(starts[0]) - 4 * starts.len()) / 16
 }
 
 // Refusal 13 of every list position, where the entries passed 7 to 12.

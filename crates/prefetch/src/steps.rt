@@ -33,12 +33,6 @@ struct Probe {
     met: u32,
 }
 
-fn wide(x: u32) -> usize
-    ensures { λ r. ⌜ (r ≡ x) × (r < 2 ^ 32) ⌝ }
-{
-    x as usize
-}
-
 // Where the texts stand, and their first characters.
 fn see(
     b: &[u8],
@@ -57,7 +51,7 @@ fn see(
 {
     let mut j = 0;
     while j < n {
-        let a = spot::spot_to(b, chars, samples, wide(slots[j]) + 4);
+        let a = spot::spot_to(b, chars, samples, le::wide(slots[j]) + 4);
         let Spot::At(x, m) = a else {
             return false;
         };
@@ -99,9 +93,9 @@ fn hash_texts(
 {
     let mut j = 0;
     while j < n {
-        let h = both(b, t, wide(at[j]), wide(left[j]), wide(seen[j]));
+        let h = both(b, t, le::wide(at[j]), le::wide(left[j]), le::wide(seen[j]));
         hashes[j] = h.hash as u32;
-        if words::extended(le::u16_at(b, wide(slots[j]) + 2)) != h.value {
+        if words::extended(le::u16_at(b, le::wide(slots[j]) + 2)) != h.value {
             return false;
         }
         j += 1;
@@ -155,9 +149,9 @@ fn expect(
             s,
             samples,
             starts,
-            wide(hashes[j]),
-            wide(guess[j]),
-            wide(met[j]),
+            le::wide(hashes[j]),
+            le::wide(guess[j]),
+            le::wide(met[j]),
         );
         guess[j] = l.guess;
         met[j] = l.met;
@@ -210,9 +204,9 @@ fn find_entries(
             s,
             samples,
             starts,
-            wide(slots[j]),
-            wide(hashes[j]),
-            wide(guess[j]),
+            le::wide(slots[j]),
+            le::wide(hashes[j]),
+            le::wide(guess[j]),
         ) {
             return false;
         }

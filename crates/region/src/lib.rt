@@ -24,12 +24,6 @@ pub enum Place {
     Nowhere,
 }
 
-fn wide(x: u32) -> usize
-    ensures { λ r. ⌜ (r ≡ x) × (r < 2 ^ 32) ⌝ }
-{
-    x as usize
-}
-
 // Where the segment behind the one at p starts.
 fn next_start(b: &[u8], p: usize, size: usize) -> usize
     requires { ⌜ p + 8 + u32At (now b) p * size ≤ length (now b) ⌝ }
@@ -157,7 +151,7 @@ pub fn locate(b: &[u8], r: Region, size: usize, starts: &[u32; 256], seg: usize)
     ensures { λ p. ⌜ p ≡ startOf size (now (b .entry)) (r .at) seg ⌝ }
 {
     let mut left = seg & r.mask;
-    let mut p = wide(starts[seg >> r.shift]);
+    let mut p = le::wide(starts[seg >> r.shift]);
     while left > 0 {
         p = next_start(b, p, size);
         left -= 1;
@@ -205,8 +199,8 @@ pub fn number(
 {
     let k = seg >> r.shift;
     let mut left = seg & r.mask;
-    let mut p = wide(starts[k]);
-    let mut n = wide(counts[k]);
+    let mut p = le::wide(starts[k]);
+    let mut n = le::wide(counts[k]);
     while left > 0 {
         n += le::u32_at(b, p + 4);
         p = next_start(b, p, size);

@@ -30,8 +30,8 @@ pub struct Glances {
     pub listed: [bool; 16],
 }
 
-// The first character of the text at p, plus 65,536 times the one 31 further on. That one has no meaning: it is read only so that
-// its part of the text is near, too.
+// The first of the n characters at p, plus 65,536 times the one 31 further on, if there is one. That one has no meaning: it is
+// read only so that its part of a text is near, too.
 pub fn touch(b: &[u8], p: usize, n: usize) -> usize
     requires { ⌜ (0 < n) × (p + 2 * n ≤ length (now b)) ⌝ }
     ensures { λ r. ⌜ (r % 65536 ≡ u16At (now (b .entry)) p) × (r < 2 ^ 32) ⌝ }
@@ -74,14 +74,14 @@ fn glance_at(
     }
 }
 
-// How many of the entries that are left are glanced at.
+// How many entries are glanced at, of those that are left.
 fn at_most_16(left: usize) -> usize
     ensures { λ r. ⌜ (r ≤ left) × (r ≤ 16) × ((i : ℕ) → i < left → i < 16 → i < r) ⌝ }
 {
     if left < 16 { left } else { 16 }
 }
 
-// Glances at the entries of bucket k from j on; it has n.
+// Glances at entry j of bucket k, which has n, and at the 15 behind it, as far as there are so many.
 pub fn read_ahead(
     b: &[u8],
     s: Strings,

@@ -1,6 +1,6 @@
 // One entry: its fields, and refusals 7 to 12.
 ghost use mathlib.Core.Path.{_≡_};
-ghost use Prim.Native.Nat.{ℕ, _+_, _*_, _%_, _≤_, _<_, _^_};
+ghost use Prim.Native.Nat.{ℕ, _+_, _*_, _%_, _≤_, _<_};
 ghost use lib.ListN.{length};
 ghost use Rattle.verdict.specs.Checks.{Tells, firstFault};
 ghost use Rattle.verdict.specs.declared.Verdict.the-variants.{Accepted};
@@ -20,12 +20,6 @@ use crate::spot::Spot;
 use text::Extent;
 use verdict::Verdict;
 
-fn wide(x: u32) -> usize
-    ensures { λ r. ⌜ (r ≡ x) × (r < 2 ^ 32) ⌝ }
-{
-    x as usize
-}
-
 // Where entry j of bucket k stands.
 pub fn entry_at(
     b: &[u8],
@@ -38,7 +32,7 @@ pub fn entry_at(
     requires { ⌜ Held (now b) s (now samples) (now starts) × Here (heldTable (now b) s (now starts)) k j ⌝ }
     ensures { λ r. ⌜ (r ≡ entryAt (heldTable (now (b .entry)) s (now (starts .entry))) k j) × (r + 16 ≤ length (now (b .entry))) ⌝ }
 {
-    wide(starts[k]) + 4 + 16 * j
+    le::wide(starts[k]) + 4 + 16 * j
 }
 
 // The number of entries of bucket k.
@@ -46,7 +40,7 @@ pub fn entry_count(b: &[u8], s: Strings, samples: &[u32; 256], starts: &[u32], k
     requires { ⌜ Held (now b) s (now samples) (now starts) × (k < length (now starts)) ⌝ }
     ensures { λ r. ⌜ r ≡ entries (heldTable (now (b .entry)) s (now (starts .entry))) k ⌝ }
 {
-    le::u32_at(b, wide(starts[k]))
+    le::u32_at(b, le::wide(starts[k]))
 }
 
 // Refusal 10 is not due.
@@ -172,7 +166,8 @@ fn check_order(
     Verdict::Accepted
 }
 
-// The text at p, of at most n characters, where what was seen of it ends in the first one.
+// The text at p, of at most n characters, where what was seen of it ends in the first one. The test of that character is what
+// keeps the read ahead: the compiler drops a read that nothing asks for.
 fn measure_seen(b: &[u8], t: &[u32; 1024], p: usize, n: usize, seen: usize) -> Extent
     requires { ⌜ Tables (now t) × (0 < n) × (p + 2 * n ≤ length (now b)) × (seen % 65536 ≡ u16At (now b) p) ⌝ }
     ensures { λ r. ⌜ Measured (now (b .entry)) p n r ⌝ }

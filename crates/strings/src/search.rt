@@ -11,8 +11,9 @@ ghost use Rattle.strings.specs.Search.{Lower};
 use crate::Strings;
 use crate::entry;
 
-// Where hash h may stand among the n entries of bucket k. The hashes of an ordinary file are spread evenly, so that h has about
-// h * n / 2^32 entries before it; one look there tells how far off that is. No answer is wrong, a near one saves probes.
+// Where hash h may stand among the n entries of bucket k. The hashes of an ordinary file are spread evenly, so that about
+// h * n / 2^32 entries stand before h. A look at the hash w there tells how far off that is: about (h - w) * n / 2^32 entries.
+// No answer is wrong, a near one saves probes. No hash has more than 32 bits, so an h that has is cut, and the product fits.
 fn guess(
     b: &[u8],
     s: Strings,
@@ -25,18 +26,18 @@ fn guess(
     requires { ⌜ Held (now b) s (now samples) (now starts) × (k < length (now starts))
         × (n ≡ entries (heldTable (now b) s (now starts)) k) ⌝ }
 {
-    let even = h % 4294967296 * n;
-    let j = even / 4294967296;
+    let before = h % 4294967296 * n;
+    let j = before / 4294967296;
     if j >= n {
         return 0;
     }
     let e = entry::entry_at(b, s, samples, starts, k, j);
     let met = le::u32_at(b, e) * n;
-    let sum = j * 4294967296 + even;
-    if sum < met {
+    let ahead = j * 4294967296 + before;
+    if ahead < met {
         return 0;
     }
-    (sum - met) / 4294967296
+    (ahead - met) / 4294967296
 }
 
 // The entry to look at next: reach entries from the end that moved last, or the middle where that is not between the ends.
@@ -50,9 +51,9 @@ fn probe(lo: usize, hi: usize, up: bool, reach: usize) -> usize
     if up { lo + reach } else { hi - 1 - reach }
 }
 
-// The first entry of bucket k whose hash is not below h, or the number of entries. From the guess on it steps 0, 1, 3, 7, ..
-// entries past, and halves what is left when a step would leave it: a few probes in an ordinary file, never more than a
-// search by halves takes twice.
+// The first entry of bucket k whose hash is not below h, or the number of entries. From the guess it goes on by 0, 1, 3, 7, ..
+// entries, and by halves once a step would lead out of what is left: four or five probes in an ordinary file, and never more
+// than about twice as many as by halves alone. The last step is 2^32 - 1, longer than any bucket.
 pub fn lower(
     b: &[u8],
     s: Strings,

@@ -1,6 +1,6 @@
 -- Refusals 20 to 22 (01, "Refusal numbers").
 use Prim.Native.Nat.{ℕ}
-use mathlib.Core.List.{List, [], _∷_, _++_}
+use mathlib.Core.List.{List, [], _∷_}
 use Rattle.verdict.specs.Checks.{Check, check, atMost, each}
 use Rattle.region.specs.Region.{countOf, usedOf}
 use Rattle.layout.specs.Layout.{nodeSize, nodesAt}

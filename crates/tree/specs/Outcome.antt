@@ -4,13 +4,13 @@ use mathlib.Core.Path.{_≡_}
 use mathlib.Core.Bool.{Bool, true, false, cond, _||_}
 use mathlib.Core.List.{List, [], _∷_, _++_}
 use lib.Dec.{eqb}
-use lib.ListN.{length, getD, replicate}
+use lib.ListN.{getD, replicate}
 use Rattle.laws.specs.Lists.{splice}
 use Rattle.verdict.specs.Checks.{Check, firstFault, Tells}
 use Rattle.verdict.specs.declared.Verdict.{Verdict}
 use Rattle.verdict.specs.declared.Verdict.the-variants.{Accepted, Refused}
 use Rattle.region.specs.Region.{Reaches, numberOf}
-use Rattle.region.specs.Samples.{Mapped, Starts, Counts}
+use Rattle.region.specs.Samples.{Mapped, Starts}
 use Rattle.region.specs.declared.Region.{Region}
 use Rattle.layout.specs.Layout.{LaidOut, nodeSize, nodesAt}
 use Rattle.nodes.specs.Node.{childSegment, childElement, childCount}

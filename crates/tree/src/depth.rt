@@ -1,6 +1,6 @@
 // Refusal 22: the first node in document order to which a chain of 65 nodes leads.
 ghost use mathlib.Core.Path.{_≡_};
-ghost use Prim.Native.Nat.{ℕ, _≤_};
+ghost use Prim.Native.Nat.{_≤_};
 ghost use Rattle.tree.specs.Chain.{ends};
 ghost use Rattle.tree.specs.File.{Used, nodeOf, treeOf};
 ghost use Rattle.tree.specs.Outcome.{TreeReady, firstPlace};

@@ -1,6 +1,5 @@
 // Refusals 20 to 22: the workspace, the tree test and the depth (01, "Refusal numbers").
 ghost use mathlib.Core.Path.{_≡_};
-ghost use Prim.Native.Nat.{ℕ, _≤_};
 ghost use lib.ListN.{length};
 ghost use Rattle.verdict.specs.Checks.{firstFault};
 ghost use Rattle.region.specs.Samples.{Counts};

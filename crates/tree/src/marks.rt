@@ -1,6 +1,6 @@
 // Refusal 21: each live node's child range is marked in the workspace, and a second mark refuses.
 ghost use mathlib.Core.Path.{_≡_};
-ghost use Prim.Native.Nat.{ℕ, _+_, _≤_, _<_};
+ghost use Prim.Native.Nat.{_+_, _≤_, _<_};
 ghost use lib.ListN.{length, replicate};
 ghost use Rattle.laws.specs.Lists.{splice};
 ghost use Rattle.verdict.specs.Checks.{Tells, firstFault};

@@ -14,7 +14,7 @@ use Rattle.path.proofs.below.count_below.Reads as count-below
 use Rattle.path.proofs.below.count_below.Kinds as count-below-kinds
 use Rattle.path.proofs.below.+count_below.Lts-count_below as count-below-lts
 use Rattle.le.proofs.u16_at.Reads as u16-at-reads
-use Rattle.path.proofs.below.wide.Reads as wide-reads
+use Rattle.le.proofs.wide.Reads as wide-reads
 use Rattle.region.proofs.range_at.Reads as range-at-reads
 use Rattle.path.proofs.below.+count_below.{statement}
 use Rattle.path.proofs.below.+count_below.Tie.{close}
@@ -73,7 +73,7 @@ named t c = child-name (c .before .before .before .before .before .before .befor
 hit : (t : ℕ) (c : count-below-lts.Then4 (callees t) (count-below-at t) count-below.Post count-below-Inv-loop count-below-μ-loop)
     → treeOf (c .before .before .before .before .before .before .before .before .before .before .before .before .before .before .before .before .before .before .args .b .now) .name (c .before .before .before .before .before .before .before .before .before .before .before .u16-at3 .result * 65536 + c .before .before .before .before .before .before .before .before .before .before .u16-at4 .result + c .before .before .before .loop .j)
     ≡ getD (c .before .before .before .before .before .before .before .before .before .before .before .before .before .before .before .before .before .before .args .wanted .now) (c .before .before .before .before .before .before .before .before .before .before .before .before .before .before .before .before .before .before .args .at) 0
-hit t c = sym (named t (c .before)) ∙ c .if4 .taken ∙ c .before .before .before .before .wide .ensures
+hit t c = sym (named t (c .before)) ∙ c .if4 .taken ∙ c .before .before .before .before .wide .ensures .0
 
 count-below-returns : (t : ℕ) → count-below-lts.Need-returns (callees t) (count-below-at t) count-below.Post count-below-Inv-loop count-below-μ-loop
 count-below-returns t c = sym (ap length (at-end _ _ _ _ (long t (c .before .before)) _ (c .if1 .taken)))
@@ -198,7 +198,7 @@ count-below-loop-again t c =
     let k = l .inv .0 in
     let m = more t (c .before .before .before .before .before .before .before .before .before .before .before .before .before .before .before .before) in
     let n = named t (c .before) in
-    let g = c .before .before .before .before .wide .ensures in (
+    let g = c .before .before .before .before .wide .ensures .0 in (
       k,
       omega arith,
       ⊎-elim

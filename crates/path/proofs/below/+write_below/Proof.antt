@@ -18,7 +18,7 @@ use Rattle.path.proofs.below.write_below.Kinds as write-below-kinds
 use Rattle.path.proofs.below.+write_below.Lts-write_below as write-below-lts
 use Rattle.le.proofs.u16_at.Reads as u16-at-reads
 use Rattle.path.proofs.below.put_u32.Reads as put-u32-reads
-use Rattle.path.proofs.below.wide.Reads as wide-reads
+use Rattle.le.proofs.wide.Reads as wide-reads
 use Rattle.region.proofs.range_at.Reads as range-at-reads
 use Rattle.path.proofs.below.+write_below.{statement}
 use Rattle.path.proofs.below.+write_below.Tie.{close}
@@ -77,7 +77,7 @@ named t c = child-name (c .before .before .before .before .before .before .befor
 hit : (t : ℕ) (c : write-below-lts.Then4 (callees t) (write-below-at t) write-below.Post write-below-Inv-loop write-below-μ-loop)
     → treeOf (c .before .before .before .before .before .before .before .before .before .before .before .before .before .before .before .before .before .before .before .args .b .now) .name (c .before .before .before .before .before .before .before .before .before .before .before .u16-at3 .result * 65536 + c .before .before .before .before .before .before .before .before .before .before .u16-at4 .result + c .before .before .before .loop .j)
     ≡ getD (c .before .before .before .before .before .before .before .before .before .before .before .before .before .before .before .before .before .before .before .args .wanted .now) (c .before .before .before .before .before .before .before .before .before .before .before .before .before .before .before .before .before .before .before .args .at) 0
-hit t c = sym (named t (c .before)) ∙ c .if4 .taken ∙ c .before .before .before .before .wide .ensures
+hit t c = sym (named t (c .before)) ∙ c .if4 .taken ∙ c .before .before .before .before .wide .ensures .0
 
 write-below-mul-put-u32 : (t : ℕ) → write-below-lts.Need-mul-put-u32 (callees t) (write-below-at t) write-below.Post write-below-Inv-loop write-below-μ-loop
 write-below-mul-put-u32 t c = record { fits = omega (arith, c .before .before .before .before .pre .1 .1 .3) }
@@ -221,7 +221,7 @@ write-below-loop-again t c =
     let k = l .inv .0 in
     let m = more t (c .before .before .before .before .before .before .before .before .before .before .before .before .before .before .before .before) in
     let n = named t (c .before) in
-    let g = c .before .before .before .before .wide .ensures in (
+    let g = c .before .before .before .before .wide .ensures .0 in (
       k,
       omega arith,
       ⊎-elim

@@ -9,11 +9,11 @@ use Rattle.strings.proofs.search.guess.Tie as tie
 few : (c : tie.Start) → c .args .n ≤ 1073741824
 few c = omega (arith, few-entries _ _ _ _ (c .pre .0) _ (c .pre .1), c .pre .2)
 
-even-fits : (c : tie.Start) → c .args .h % 4294967296 * c .args .n ≤ 4611686018427387904
-even-fits c = hash-product _ _ (omega arith) (few c)
+before-fits : (c : tie.Start) → c .args .h % 4294967296 * c .args .n ≤ 4611686018427387904
+before-fits c = hash-product _ _ (omega arith) (few c)
 
-mul-even : tie.Need-mul-even
-mul-even c = omega (arith, even-fits (c .before .before))
+mul-before : tie.Need-mul-before
+mul-before c = omega (arith, before-fits (c .before .before))
 
 returns : tie.Need-returns
 returns c = search needs
@@ -27,11 +27,11 @@ u32-at-requires c κs = search needs
 mul-met : tie.Need-mul-met
 mul-met c = omega (arith, hash-product _ _ (c .u32-at .ensures .1) (few (c .before .before .before .before .before)))
 
-mul-sum : tie.Need-mul-sum
-mul-sum c = omega (arith, few (c .before .before .before .before .before))
+mul-ahead : tie.Need-mul-ahead
+mul-ahead c = omega (arith, few (c .before .before .before .before .before))
 
-add-sum : tie.Need-add-sum
-add-sum c = omega (arith, few (c .before .before .before .before .before), even-fits (c .before .before .before .before .before))
+add-ahead : tie.Need-add-ahead
+add-ahead c = omega (arith, few (c .before .before .before .before .before), before-fits (c .before .before .before .before .before))
 
 returns-2 : tie.Need-returns-2
 returns-2 c = search needs
@@ -43,12 +43,12 @@ pub guess-spec : {M : Type 1} → statement M
 guess-spec =
     tie.close
     (tie.spec
-    mul-even
+    mul-before
     returns
     entry-at-requires
     u32-at-requires
     mul-met
-    mul-sum
-    add-sum
+    mul-ahead
+    add-ahead
     returns-2
     returns-3)
