@@ -11,6 +11,7 @@ use lib.ListN.{length, take, drop, length-drop}
 use lib.Seq.{length-take-le, getD-take, getD-drop}
 use Rattle.le.specs.Le.{u16At}
 use Rattle.text.specs.Text.{chars}
+use Rattle.text.proofs.OneByOne.{chars-same}
 use Rattle.lookup.specs.Lookup.{textFrom}
 use Rattle.path.specs.Names.{addFirst, split, namesOf}
 use Rattle.path.specs.Indices.{nameAt}
@@ -61,21 +62,6 @@ stands b (suc n) p i h =
     let e = ne-eqb (u16At b p) 0 f in
     let l : i < length (split (chars b (p + 2) n)) = omega (arith, rw e at h, length-add (u16At b p) (split (chars b (p + 2) n))) in
     rw e (stands-more b p n i _ l (stands b n (p + 2) i l)))
-
--- characters that are the same one by one
-chars-same : (a b : List ℕ) (n p q : ℕ) → ((i : ℕ) → i < n → u16At a (p + 2 * i) ≡ u16At b (q + 2 * i)) → chars a p n ≡ chars b q n
-unfolding chars
-chars-same a b zero p q f = refl
-chars-same a b (suc n) p q f =
-    let e : p + 2 * 0 ≡ p = omega arith in
-    let g : q + 2 * 0 ≡ q = omega arith in
-    let r = chars-same a b n (p + 2) (q + 2)
-    (λ i l.
-    let x : p + 2 + 2 * i ≡ p + 2 * suc i = omega arith in
-    let y : q + 2 + 2 * i ≡ q + 2 * suc i = omega arith in
-    ap (u16At a) x ∙ f (suc i) (omega arith) ∙ ap (u16At b) (sym y)) in
-    let h = ap (u16At a) (sym e) ∙ f 0 (omega arith) ∙ ap (u16At b) g in
-    cc
 
 -- n characters of b, as a text of its own
 module _ (b : List ℕ) (at n : ℕ) (h : at + 2 * n ≤ length b) where

@@ -15,8 +15,6 @@ use Rattle.le.specs.Le.{u16At}
 use Rattle.verdict.proofs.Laws.{Clean}
 use Rattle.hash.specs.Hash.{hashText}
 use Rattle.text.specs.Text.{chars, textIn}
-use Rattle.text.specs.Measure.{Measured}
-use Rattle.text.specs.declared.Extent.{Extent}
 use Rattle.text.proofs.Laws.{chars-more, text-chars, text-live, text-end}
 use Rattle.lookup.specs.Kinds.{kindOf, numberOf}
 use Rattle.lookup.specs.declared.Lookup.{Lookup}
@@ -27,6 +25,7 @@ use Rattle.path.specs.Indices.{NameEnd}
 use Rattle.path.proofs.Split.{length-add, namesFrom, names-start, names-end, names-more}
 use Rattle.path.proofs.Formed.{formed-inv}
 use Rattle.batch.specs.Places.{place, places}
+use Rattle.batch.specs.Groups.{TextRead}
 
 pub length-place : (l : Lookup) → length (place l) ≡ 8
 unfolding place le4
@@ -133,19 +132,19 @@ module _ (texts : List ℕ) (at : ℕ) (ok : Clean (pathChecks texts)) (even : a
         live = λ i h z. text-live texts at n i (omega arith) z;
       }
 
-  pub text-measured : {x : Extent} → Measured texts at ((length texts - at) / 2) x → TextAt texts at (x .length) (x .hash)
-  text-measured {x} m =
+  pub text-measured : {k h : ℕ} → TextRead texts at k h → TextAt texts at k h
+  text-measured {k} {h} m =
       let w = formed-inv texts ok in
       let n : ℕ = (length texts - at) / 2 in
-      let e = text-end-at (x .length) (m .long) in
-      let d : (at + 2 * x .length - at) / 2 ≡ x .length = omega arith in
-      let f : at + 2 * x .length + 2 ≡ at + (2 * x .length + 2) = omega arith in
+      let e = text-end-at k (m .long) in
+      let d : (at + 2 * k - at) / 2 ≡ k = omega arith in
+      let f : at + 2 * k + 2 ≡ at + (2 * k + 2) = omega arith in
       record {
         within = omega (arith, e .within);
         hashed = m .hashed ∙ ap hashText (text-chars texts at n ∙ ap (chars texts at) (sym (m .long)));
-        next = names-more texts at (at + 2 * x .length) (w .0) even e
-            ∙ ap (λ (k : ℕ). chars texts at k ∷ namesFrom texts (at + 2 * x .length + 2)) d
-            ∙ ap (λ (k : ℕ). chars texts at (x .length) ∷ namesFrom texts k) f;
+        next = names-more texts at (at + 2 * k) (w .0) even e
+            ∙ ap (λ (i : ℕ). chars texts at i ∷ namesFrom texts (at + 2 * k + 2)) d
+            ∙ ap (λ (i : ℕ). chars texts at k ∷ namesFrom texts i) f;
       }
 
 -- with the places of the texts from offset `at` on put at i, the answers d′ are d with all places put at 0

@@ -1,6 +1,6 @@
 // Many lookups in one acceptance: each text is answered as the question for one text would be.
 ghost use mathlib.Core.Path.{_≡_};
-ghost use Prim.Native.Nat.{_+_, _*_, _%_, _≤_};
+ghost use Prim.Native.Nat.{_+_, _*_, _%_, _≤_, _<_};
 ghost use lib.ListN.{length};
 ghost use Rattle.laws.specs.Lists.{splice};
 ghost use Rattle.verdict.specs.Checks.{firstFault};
@@ -12,6 +12,9 @@ ghost use Rattle.lookup.specs.Kinds.{toldIn};
 ghost use Rattle.path.specs.Names.{namesOf, pathChecks};
 ghost use Rattle.batch.specs.Places.{place, places, answersAfter};
 ghost use Rattle.batch.specs.Answer.{Answered};
+
+pub mod group;
+
 use lookup::Kind;
 use lookup::Lookup;
 use strings::Strings;
@@ -56,7 +59,7 @@ fn put_place(answers: &mut [u8], at: usize, l: Lookup)
     }
 }
 
-// Writes what each text's lookup answers, one after the other. One pass finds a text's end and its hash.
+// Writes what each text's lookup answers, a group of texts at a time.
 fn put_places(
     b: &[u8],
     t: &[u32; 1024],
@@ -73,14 +76,34 @@ fn put_places(
     ensures { λ _. ⌜ now (answers .exit)
         ≡ splice (now (answers .entry)) 0 (places (toldIn kind (heldTable (now (b .entry)) s (now (starts .entry)))) (namesOf (now (texts .entry)))) ⌝ }
 {
+    let mut lengths = [0usize; 64];
+    let mut hashes = [0u32; 64];
+    let mut low = [0usize; 64];
     let mut i = 0usize;
     let mut at = 0;
     while at < texts.len() {
-        let x = text::measure(texts, t, at, (texts.len() - at) / 2);
-        let l = lookup::find_hashed(b, s, samples, starts, kind, x.hash, texts, at, x.length);
-        put_place(answers, i, l);
-        i += 8;
-        at += 2 * x.length + 2;
+        let n = group::take(texts, t, at, &mut lengths, &mut hashes);
+        group::settle(b, s, samples, starts, &hashes, n, &mut low);
+        let mut j = 0;
+        while j < n {
+            let k = lengths[j];
+            let l = lookup::find_from(
+                b,
+                s,
+                samples,
+                starts,
+                kind,
+                le::wide(hashes[j]),
+                low[j] % 4294967296,
+                texts,
+                at,
+                k,
+            );
+            put_place(answers, i, l);
+            i += 8;
+            at += 2 * k + 2;
+            j += 1;
+        }
     }
 }
 

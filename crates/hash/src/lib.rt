@@ -310,12 +310,19 @@ pub fn pair_on(t: &[u32; 1024], h: usize, w: usize) -> usize
     le::wide(t[768 + low(x)]) ^ (le::wide(t[512 + low(x >> 8)]) ^ near)
 }
 
-// The bucket of a hash, among n.
+// The bucket of a hash, among n. The tables have 1,024 and 512: a remainder by a number that is known takes no division.
 pub fn bucket(h: usize, n: usize) -> usize
     requires { ⌜ 0 < n ⌝ }
     ensures { λ r. ⌜ (r ≡ bucketOf n h) × (r < n) ⌝ }
 {
-    (h ^ (h >> 16)) % n
+    let x = h ^ (h >> 16);
+    if n == 1024 {
+        return x % 1024;
+    }
+    if n == 512 {
+        return x % 512;
+    }
+    x % n
 }
 
 // Whether a fold takes 0020 off the character.

@@ -1,17 +1,19 @@
 -- The search for the entry that bears a text. Assumes nothing.
-use Prim.Native.Nat.{ℕ, _+_, _≤_, _<_}
+use Prim.Native.Nat.{ℕ, _+_, _*_, _≤_, _<_}
 use native.Mathlib.Omega.{arith}
 use mathlib.Core.Path.{_≡_, ap, sym, subst, _∙_}
 use mathlib.Core.Logic.{⊎-elim}
 use mathlib.Core.Bool.{Bool}
 use mathlib.Core.List.{List}
 use borrow.Author.Count.{below-more}
+use lib.ListN.{length}
 use Rattle.laws.proofs.Order.{le-or-lt}
 use Rattle.verdict.specs.Checks.{Tells}
 use Rattle.verdict.proofs.Laws.{Clean}
 use Rattle.hash.specs.Hash.{hashText, bucketOf}
-use Rattle.text.specs.Text.{textIn}
-use Rattle.layout.specs.Table.{Table, entries, entryAt, hashOf, segmentOf, elementOf}
+use Rattle.text.specs.Text.{chars, textIn}
+use Rattle.text.proofs.Laws.{text-chars, text-length-le}
+use Rattle.layout.specs.Table.{Table, entries, entryAt, hashOf, lengthOf, segmentOf, elementOf}
 use Rattle.strings.specs.Texts.{textOf}
 use Rattle.strings.specs.Rules.{Resolved}
 use Rattle.strings.specs.Held.{Here}
@@ -29,13 +31,31 @@ use Rattle.lookup.proofs.Found.{told-none, told-some}
 pub entry-resolved : (t : Table) (k j : ℕ) → Clean (stringChecks t) → Here t k j → Resolved t k j
 entry-resolved t k j ok h = all-good t (strings-parts t ok .0) k j (h .bucket) (h .entry) .resolved
 
--- its text, compared at its spot
-pub text-there : (t : Table) (x : List ℕ) (k j p n : ℕ) {r : Bool} → Spotted t (segmentOf t k j) (elementOf t k j) p n → Tells (textIn (t .bytes) p n ≡ x) r
-    → Tells (textOf t k j ≡ x) r
+-- an entry of another length bears another text
+pub other-length : (t : Table) (x : List ℕ) (k j w n : ℕ) → Clean (stringChecks t) → Here t k j → w ≡ lengthOf t k j → length x ≡ n → (w ≡ n + 1 → ⊥) → textOf t k j ≡ x → ⊥
+other-length t x k j w n ok h e l f q =
+    f (omega (arith, e, all-good t (strings-parts t ok .0) k j (h .bucket) (h .entry) .delimited .long, ap length q))
+
+-- of n characters: they stand at its spot
+pub record Standing (t : Table) (k j p n : ℕ) : Type 0 where
+  pub fits : p + 2 * n ≤ length (t .bytes)
+  pub text : textOf t k j ≡ chars (t .bytes) p n
+
+pub standing : (t : Table) (k j p m w n : ℕ) → Clean (stringChecks t) → Here t k j → Spotted t (segmentOf t k j) (elementOf t k j) p m → w ≡ lengthOf t k j → w ≡ n + 1
+    → Standing t k j p n
 unfolding textOf
+standing t k j p m w n ok h s e f =
+    let d : length (textIn (t .bytes) p m) ≡ n = omega (arith, e, ap length (s .text), all-good t (strings-parts t ok .0) k j (h .bucket) (h .entry) .delimited .long) in
+    record {
+      fits = omega (arith, s .fits, text-length-le (t .bytes) p m);
+      text = sym (s .text) ∙ text-chars (t .bytes) p m ∙ ap (chars (t .bytes) p) d;
+    }
+
+-- compared there
+pub text-there : (t : Table) (x : List ℕ) (k j p n : ℕ) {r : Bool} → Standing t k j p n → Tells (chars (t .bytes) p n ≡ x) r → Tells (textOf t k j ≡ x) r
 text-there t x k j p n s f = record {
-  so = λ w. sym (s .text) ∙ f .so w;
-  not = λ w e. f .not w (s .text ∙ e);
+  so = λ w. s .text ∙ f .so w;
+  not = λ w e. f .not w (sym (s .text) ∙ e);
 }
 
 -- ---- the loop over a bucket
@@ -50,8 +70,8 @@ pub record Searched (t : Table) (x : List ℕ) (h k m j : ℕ) : Type 0 where
   pub above : (i : ℕ) → j ≤ i → i < entries t k → h ≤ hashOf t k i
 
 pub searched-start : (t : Table) (x : List ℕ) (h k m j : ℕ) → Clean (stringChecks t) → h ≡ hashText x → k ≡ bucketOf (t .buckets) h → k < t .buckets
-    → m ≡ entries t k → Lower t k h j → Searched t x h k m j
-searched-start t x h k m j ok e q b n l = record {
+    → m ≡ entries t k → Lower t (bucketOf (t .buckets) h) h j → Searched t x h k m j
+searched-start t x h k m j ok e q b n g = let l = subst (λ (y : ℕ). Lower t y h j) (sym q) g in record {
   hash = e;
   bucket = b;
   right = ap (bucketOf (t .buckets)) (sym e) ∙ sym q;

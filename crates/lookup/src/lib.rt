@@ -5,13 +5,17 @@ ghost use lib.ListN.{length};
 ghost use Rattle.verdict.specs.Checks.{Tells, firstFault};
 ghost use Rattle.verdict.specs.declared.Verdict.the-variants.{Accepted};
 ghost use Rattle.hash.specs.Table.{Tables};
-ghost use Rattle.hash.specs.Hash.{hashText};
+ghost use Rattle.hash.specs.Hash.{hashText, bucketOf};
 ghost use Rattle.text.specs.Text.{chars};
 ghost use Rattle.strings.specs.Texts.{textOf};
 ghost use Rattle.strings.specs.Order.{stringChecks};
 ghost use Rattle.strings.specs.Held.{Held, heldTable, Here};
+ghost use Rattle.strings.specs.Search.{Lower};
 ghost use Rattle.lookup.specs.Lookup.{entryOfText, indexOfText, addressOfText};
 ghost use Rattle.lookup.specs.Kinds.{toldIn};
+
+pub mod near;
+
 use strings::Strings;
 use strings::entry;
 use strings::search;
@@ -30,7 +34,7 @@ pub enum Kind {
     Value,
 }
 
-// Whether entry j of bucket k bears the n characters at p of what is asked.
+// Whether entry j of bucket k bears the n characters at p of what is asked. Its length is right: where that fits, no 0 is looked for.
 fn entry_bears(
     b: &[u8],
     s: Strings,
@@ -47,31 +51,37 @@ fn entry_bears(
     ensures { λ r. ⌜ Tells (textOf (heldTable (now (b .entry)) s (now (starts .entry))) k j ≡ chars (now (q .entry)) p n) r ⌝ }
 {
     let e = entry::entry_at(b, s, samples, starts, k, j);
+    if le::u32_at(b, e + 4) != n + 1 {
+        return false;
+    }
     let a = spot::spot_to(b, s.chars, samples, e + 12);
-    let Spot::At(x, m) = a else {
+    let Spot::At(x, _) = a else {
         return false;
     };
-    text::bears(b, x, m, q, p, n)
+    text::alike(b, x, q, p, n)
 }
 
-// The entry that bears the n characters at p of what is asked, whose hash is h. Among equal hashes all are read.
-pub fn find_entry(
+// The entry that bears the n characters at p of what is asked, whose hash is h: from `low` on, the first entry of its bucket whose hash
+// is not below h. Among equal hashes all are read.
+fn find_entry(
     b: &[u8],
     s: Strings,
     samples: &[u32; 256],
     starts: &[u32],
     h: usize,
+    low: usize,
     q: &[u8],
     p: usize,
     n: usize,
 ) -> Lookup
     requires { ⌜ Held (now b) s (now samples) (now starts) × (firstFault (stringChecks (heldTable (now b) s (now starts))) ≡ Accepted) ⌝ }
-    requires { ⌜ (p + 2 * n ≤ length (now q)) × (h ≡ hashText (chars (now q) p n)) ⌝ }
+    requires { ⌜ (p + 2 * n ≤ length (now q)) × (h ≡ hashText (chars (now q) p n))
+        × Lower (heldTable (now b) s (now starts)) (bucketOf (length (now starts)) h) h low ⌝ }
     ensures { λ r. ⌜ r ≡ entryOfText (heldTable (now (b .entry)) s (now (starts .entry))) (chars (now (q .entry)) p n) ⌝ }
 {
     let k = hash::bucket(h, starts.len());
     let m = entry::entry_count(b, s, samples, starts, k);
-    let mut j = search::lower(b, s, samples, starts, k, h);
+    let mut j = low;
     while j < m {
         let e = entry::entry_at(b, s, samples, starts, k, j);
         if le::u32_at(b, e) != h {
@@ -85,7 +95,34 @@ pub fn find_entry(
     Lookup::Absent
 }
 
-// What is told of those characters, for a caller that has their hash already.
+// What is told of those characters, for a caller that has their hash, and its place in the bucket.
+pub fn find_from(
+    b: &[u8],
+    s: Strings,
+    samples: &[u32; 256],
+    starts: &[u32],
+    kind: Kind,
+    h: usize,
+    low: usize,
+    q: &[u8],
+    p: usize,
+    n: usize,
+) -> Lookup
+    requires { ⌜ Held (now b) s (now samples) (now starts) × (firstFault (stringChecks (heldTable (now b) s (now starts))) ≡ Accepted) ⌝ }
+    requires { ⌜ (p + 2 * n ≤ length (now q)) × (h ≡ hashText (chars (now q) p n))
+        × Lower (heldTable (now b) s (now starts)) (bucketOf (length (now starts)) h) h low ⌝ }
+    ensures { λ r. ⌜ r ≡ toldIn kind (heldTable (now (b .entry)) s (now (starts .entry))) (chars (now (q .entry)) p n) ⌝ }
+{
+    let Lookup::Found(e) = find_entry(b, s, samples, starts, h, low, q, p, n) else {
+        return Lookup::Absent;
+    };
+    match kind {
+        Kind::Name => Lookup::Found(le::u32_at(b, e + 8)),
+        Kind::Value => Lookup::Found(le::u16_at(b, e + 12) * 65536 + le::u16_at(b, e + 14)),
+    }
+}
+
+// The same for a caller that has the hash only.
 pub fn find_hashed(
     b: &[u8],
     s: Strings,
@@ -101,13 +138,9 @@ pub fn find_hashed(
     requires { ⌜ (p + 2 * n ≤ length (now q)) × (h ≡ hashText (chars (now q) p n)) ⌝ }
     ensures { λ r. ⌜ r ≡ toldIn kind (heldTable (now (b .entry)) s (now (starts .entry))) (chars (now (q .entry)) p n) ⌝ }
 {
-    let Lookup::Found(e) = find_entry(b, s, samples, starts, h, q, p, n) else {
-        return Lookup::Absent;
-    };
-    match kind {
-        Kind::Name => Lookup::Found(le::u32_at(b, e + 8)),
-        Kind::Value => Lookup::Found(le::u16_at(b, e + 12) * 65536 + le::u16_at(b, e + 14)),
-    }
+    let k = hash::bucket(h, starts.len());
+    let low = search::lower(b, s, samples, starts, k, h);
+    find_from(b, s, samples, starts, kind, h, low, q, p, n)
 }
 
 // The index of a name.

@@ -129,7 +129,7 @@ fn look(
 }
 
 // Looks for each hash, from where it was looked for before.
-fn expect(
+pub fn expect(
     b: &[u8],
     s: Strings,
     samples: &[u32; 256],

@@ -168,3 +168,36 @@ pub fn bears(b: &[u8], p: usize, n: usize, s: &[u8], q: usize, k: usize) -> bool
     }
     char_or_end(b, p, n, k) == 0
 }
+
+// Whether the n characters at p of one slice are those at q of another, when there are few.
+fn alike_few(b: &[u8], p: usize, s: &[u8], q: usize, n: usize) -> bool
+    requires { ⌜ (p + 2 * n ≤ length (now b)) × (q + 2 * n ≤ length (now s)) ⌝ }
+    ensures { λ r. ⌜ Tells (chars (now (b .entry)) p n ≡ chars (now (s .entry)) q n) r ⌝ }
+{
+    let mut i = 0;
+    while i < n {
+        if le::u16_at(b, p + 2 * i) != le::u16_at(s, q + 2 * i) {
+            return false;
+        }
+        i += 1;
+    }
+    true
+}
+
+// The same for any number: four in a step, and the last four once more.
+pub fn alike(b: &[u8], p: usize, s: &[u8], q: usize, n: usize) -> bool
+    requires { ⌜ (p + 2 * n ≤ length (now b)) × (q + 2 * n ≤ length (now s)) ⌝ }
+    ensures { λ r. ⌜ Tells (chars (now (b .entry)) p n ≡ chars (now (s .entry)) q n) r ⌝ }
+{
+    if n < 4 {
+        return alike_few(b, p, s, q, n);
+    }
+    let mut i = 0;
+    while i + 4 < n {
+        if le::u64_at(b, p + 2 * i) != le::u64_at(s, q + 2 * i) {
+            return false;
+        }
+        i += 4;
+    }
+    le::u64_at(b, p + 2 * (n - 4)) == le::u64_at(s, q + 2 * (n - 4))
+}

@@ -1,79 +1,134 @@
-use native.Mathlib.Omega.{arith}
 use Prim.Native.Nat.{_-_}
-use mathlib.Core.Path.{ap}
+use mathlib.Core.Path.{refl, ap, _∙_}
 use lib.ListN.{length}
 use Rattle.strings.specs.Held.{heldTable}
+use Rattle.strings.proofs.Accepted.{strings-parts}
 use Rattle.lookup.specs.Kinds.{toldIn}
-use Rattle.batch.proofs.Placed.{TextAt, text-measured, Writing, writing-start, place-room, writing-more, writing-all}
+use Rattle.prefetch.specs.Batch.{Lengths}
+use Rattle.batch.proofs.Placed.{Writing, writing-start, place-room, writing-all}
+use Rattle.batch.proofs.Slots.{low-read}
+use Rattle.batch.proofs.Groupwise.{Going, going-start, going-text, going-more, going-on}
+use native.Mathlib.Omega.{arith}
+use borrow.Author.Needs.{needs}
 use Rattle.batch.proofs.put_places.Statement.{statement}
 use Rattle.batch.proofs.put_places.Tie as tie
 
+abbrev Inv-loop2 : tie.InvT-loop2
+Inv-loop2 b t s samples starts kind texts answers₀ lengths hashes low i₀ at₀ n j₀ answers i at j = Going (toldIn kind (heldTable b s starts)) texts answers₀ i₀ at₀ n lengths hashes j answers i at
+
+abbrev μ-loop2 : tie.MeasureT-loop2
+μ-loop2 b t s samples starts kind texts answers₀ lengths hashes low i₀ at₀ n j₀ answers i at j = n - j
+
 abbrev Inv-loop : tie.InvT-loop
-Inv-loop b t s samples starts kind texts answers₀ i₀ at₀ answers i at = Writing (toldIn kind (heldTable b s starts)) texts answers₀ i at answers
+Inv-loop b t s samples starts kind texts answers₀ lengths₀ hashes₀ low₀ i₀ at₀ answers lengths hashes low i at =
+    Writing (toldIn kind (heldTable b s starts)) texts answers₀ i at answers × Lengths lengths hashes low
 
 abbrev μ-loop : tie.MeasureT-loop
-μ-loop b t s samples starts kind texts answers₀ i₀ at₀ answers i at = length texts - at
+μ-loop b t s samples starts kind texts answers₀ lengths₀ hashes₀ low₀ i₀ at₀ answers lengths hashes low i at = length texts - at
 
--- the text measured
-found : (c : tie.After-measure Inv-loop μ-loop)
-    → TextAt (c .before .before .before .before .before .before .before .args .texts .now) (c .before .before .loop .at) (c .measure .result .length) (c .measure .result .hash)
-found c = text-measured _ _ (c .before .before .before .before .before .before .before .pre .1 .0) (c .before .before .loop .inv .even) (c .before .loop-test .taken) (c .measure .ensures)
+loop-holds : tie.Need-loop-holds Inv-loop2 μ-loop2 Inv-loop μ-loop
+loop-holds c = (writing-start _ _ _ (c .before .before .before .before .pre .1 .1), search needs)
 
-loop-holds : tie.Need-loop-holds Inv-loop μ-loop
-loop-holds c = writing-start _ _ _ (c .before .before .before .before .pre .1 .1)
+take-requires : tie.Need-take-requires Inv-loop2 μ-loop2 Inv-loop μ-loop
+take-requires c κs = let p = c .before .before .before .before .before .before .before .before .pre in let i = c .before .before .before .loop .inv in (p .0 .0, p .1 .0, i .0 .even, c .before .before .loop-test .taken, i .1 .first, i .1 .second)
 
-sub-measure : tie.Need-sub-measure Inv-loop μ-loop
-sub-measure c = omega arith
+settle-requires : tie.Need-settle-requires Inv-loop2 μ-loop2 Inv-loop μ-loop
+settle-requires c κs = let p = c .before .before .before .before .before .before .before .before .before .before .before .pre .0 in let g = c .before .before .take .ensures .1 in (p .1, strings-parts _ (p .2) .0, g .few, g .hashes-long, c .before .before .before .before .before .before .loop .inv .1 .third)
 
-measure-requires : tie.Need-measure-requires Inv-loop μ-loop
-measure-requires c κs = (c .before .before .before .before .before .before .pre .0 .0, omega arith)
+loop2-holds : tie.Need-loop2-holds Inv-loop2 μ-loop2 Inv-loop μ-loop
+loop2-holds c = going-start _ _ _ (c .before .before .before .take .ensures .1)
 
-find-hashed-requires : tie.Need-find-hashed-requires Inv-loop μ-loop
-find-hashed-requires c κs = let p = c .before .before .before .before .before .before .before .pre .0 in let e = found c in ((p .1, p .2), (omega (arith, e .within), e .hashed))
+loop-less : tie.Need-loop-less Inv-loop2 μ-loop2 Inv-loop μ-loop
+loop-less c = let g = c .before .loop2 .inv in omega (arith, c .before .before .before .before .before .before .before .before .loop-test .taken, c .loop2-test .left, c .before .before .before .before .before .take .ensures .0, going-on g (omega (arith, c .loop2-test .left, c .before .before .before .before .before .take .ensures .0)))
 
-put-place-requires : tie.Need-put-place-requires Inv-loop μ-loop
-put-place-requires c κs = place-room _ _ (c .before .before .before .before .loop .inv) (found (c .before .before))
+loop-again : tie.Need-loop-again Inv-loop2 μ-loop2 Inv-loop μ-loop
+loop-again c = let g = c .before .loop2 .inv in (g .kept _ (c .before .before .before .before .before .before .before .before .before .loop .inv .0), record { first = g .group .lengths-long; second = g .group .hashes-long; third = c .before .before .settle .ensures .long })
 
-add-i : tie.Need-add-i Inv-loop μ-loop
-add-i c = record { fits = omega (arith, c .before .before .before .before .before .before .before .before .before .before .before .before .good .1 .1 .1 .1 .1 .1 .1 .0 .0, c .before .before .before .before .before .before .before .loop .inv .room, ap length (found (c .before .before .before .before .before) .next)) }
+mul-k : tie.Need-mul-k Inv-loop2 μ-loop2 Inv-loop μ-loop
+mul-k c = search needs
 
-mul-at : tie.Need-mul-at Inv-loop μ-loop
-mul-at c = record { fits = omega (arith, c .before .before .before .before .before .before .before .before .before .before .before .before .before .good .1 .1 .1 .1 .1 .1 .0 .0, found (c .before .before .before .before .before .before) .within) }
+array-read-k : tie.Need-array-read-k Inv-loop2 μ-loop2 Inv-loop μ-loop
+array-read-k c = search needs
 
-add-at : tie.Need-add-at Inv-loop μ-loop
-add-at c = record { fits = omega (arith, c .before .before .before .before .before .before .before .before .before .before .before .before .before .good .1 .1 .1 .1 .1 .1 .0 .0, found (c .before .before .before .before .before .before) .within) }
+mul-wide : tie.Need-mul-wide Inv-loop2 μ-loop2 Inv-loop μ-loop
+mul-wide c = search needs
 
-add-at-2 : tie.Need-add-at-2 Inv-loop μ-loop
-add-at-2 c = record { fits = omega (arith, c .before .before .before .before .before .before .before .before .before .before .before .before .before .good .1 .1 .1 .1 .1 .1 .0 .0, found (c .before .before .before .before .before .before) .within) }
+array-read-wide : tie.Need-array-read-wide Inv-loop2 μ-loop2 Inv-loop μ-loop
+array-read-wide c = search needs
 
-loop-less : tie.Need-loop-less Inv-loop μ-loop
-loop-less c = omega (arith, found (c .before .before .before .before .before .before) .within)
+wide-requires : tie.Need-wide-requires Inv-loop2 μ-loop2 Inv-loop μ-loop
+wide-requires c κs = search needs
 
-loop-again : tie.Need-loop-again Inv-loop μ-loop
-loop-again c = writing-more _ _ (c .before .before .before .before .before .before .before .before .loop .inv) (found (c .before .before .before .before .before .before)) (c .before .before .before .before .before .find-hashed .ensures) (c .before .before .before .put-place .ensures)
+mul-find-from : tie.Need-mul-find-from Inv-loop2 μ-loop2 Inv-loop μ-loop
+mul-find-from c = search needs
 
-same-length : tie.Need-same-length Inv-loop μ-loop
-same-length c = c .before .loop .inv .long
+array-read-find-from : tie.Need-array-read-find-from Inv-loop2 μ-loop2 Inv-loop μ-loop
+array-read-find-from c = search needs
 
-returns : tie.Need-returns Inv-loop μ-loop
-returns c = writing-all _ _ (c .before .loop .inv) (c .loop-test .left)
+find-from-requires : tie.Need-find-from-requires Inv-loop2 μ-loop2 Inv-loop μ-loop
+find-from-requires c κs = let p = c .before .before .before .before .before .before .before .before .before .before .before .before .before .before .before .pre .0 in
+    let e = going-text (c .before .before .loop2 .inv) (c .before .before .before .before .before .before .before .before .before .before .before .before .before .before .before .pre .1 .0) (c .before .before .before .before .before .before .before .before .before .before .loop .inv .0 .even) (c .before .loop2-test .taken) in
+    ((p .1, p .2), (omega (arith, e .within), c .wide .ensures .0 ∙ e .hashed, low-read (c .before .before .before .settle .ensures) _ (c .before .loop2-test .taken) (c .wide .ensures .0) refl))
+
+put-place-requires : tie.Need-put-place-requires Inv-loop2 μ-loop2 Inv-loop μ-loop
+put-place-requires c κs = place-room _ _ (c .before .before .before .before .loop2 .inv .kept _ (c .before .before .before .before .before .before .before .before .before .before .before .before .loop .inv .0)) (going-text (c .before .before .before .before .loop2 .inv) (c .before .before .before .before .before .before .before .before .before .before .before .before .before .before .before .before .before .pre .1 .0) (c .before .before .before .before .before .before .before .before .before .before .before .before .loop .inv .0 .even) (c .before .before .before .loop2-test .taken))
+
+add-i : tie.Need-add-i Inv-loop2 μ-loop2 Inv-loop μ-loop
+add-i c = record { fits = omega (arith, c .before .before .before .before .before .before .before .before .before .before .before .before .before .before .before .before .before .before .before .before .good .1 .1 .1 .1 .1 .1 .1 .0 .0, (c .before .before .before .before .before .before .before .loop2 .inv .kept _ (c .before .before .before .before .before .before .before .before .before .before .before .before .before .before .before .loop .inv .0)) .room, ap length ((going-text (c .before .before .before .before .before .before .before .loop2 .inv) (c .before .before .before .before .before .before .before .before .before .before .before .before .before .before .before .before .before .before .before .before .pre .1 .0) (c .before .before .before .before .before .before .before .before .before .before .before .before .before .before .before .loop .inv .0 .even) (c .before .before .before .before .before .before .loop2-test .taken)) .next)) }
+
+mul-at : tie.Need-mul-at Inv-loop2 μ-loop2 Inv-loop μ-loop
+mul-at c = record { fits = omega (arith, c .before .before .before .before .before .before .before .before .before .before .before .before .before .before .before .before .before .before .before .before .good .1 .1 .1 .1 .1 .1 .0 .0, (going-text (c .before .before .before .before .before .before .before .loop2 .inv) (c .before .before .before .before .before .before .before .before .before .before .before .before .before .before .before .before .before .before .before .before .pre .1 .0) (c .before .before .before .before .before .before .before .before .before .before .before .before .before .before .before .loop .inv .0 .even) (c .before .before .before .before .before .before .loop2-test .taken)) .within) }
+
+add-at : tie.Need-add-at Inv-loop2 μ-loop2 Inv-loop μ-loop
+add-at c = record { fits = omega (arith, c .before .before .before .before .before .before .before .before .before .before .before .before .before .before .before .before .before .before .before .before .good .1 .1 .1 .1 .1 .1 .0 .0, (going-text (c .before .before .before .before .before .before .before .loop2 .inv) (c .before .before .before .before .before .before .before .before .before .before .before .before .before .before .before .before .before .before .before .before .pre .1 .0) (c .before .before .before .before .before .before .before .before .before .before .before .before .before .before .before .loop .inv .0 .even) (c .before .before .before .before .before .before .loop2-test .taken)) .within) }
+
+add-at-2 : tie.Need-add-at-2 Inv-loop2 μ-loop2 Inv-loop μ-loop
+add-at-2 c = record { fits = omega (arith, c .before .before .before .before .before .before .before .before .before .before .before .before .before .before .before .before .before .before .before .before .good .1 .1 .1 .1 .1 .1 .0 .0, (going-text (c .before .before .before .before .before .before .before .loop2 .inv) (c .before .before .before .before .before .before .before .before .before .before .before .before .before .before .before .before .before .before .before .before .pre .1 .0) (c .before .before .before .before .before .before .before .before .before .before .before .before .before .before .before .loop .inv .0 .even) (c .before .before .before .before .before .before .loop2-test .taken)) .within) }
+
+add-j : tie.Need-add-j Inv-loop2 μ-loop2 Inv-loop μ-loop
+add-j c = search needs
+
+loop2-less : tie.Need-loop2-less Inv-loop2 μ-loop2 Inv-loop μ-loop
+loop2-less c = search needs
+
+loop2-again : tie.Need-loop2-again Inv-loop2 μ-loop2 Inv-loop μ-loop
+loop2-again c = going-more (c .before .before .before .before .before .before .before .loop2 .inv) (c .before .before .before .before .before .before .loop2-test .taken) (going-text (c .before .before .before .before .before .before .before .loop2 .inv) (c .before .before .before .before .before .before .before .before .before .before .before .before .before .before .before .before .before .before .before .before .pre .1 .0) (c .before .before .before .before .before .before .before .before .before .before .before .before .before .before .before .loop .inv .0 .even) (c .before .before .before .before .before .before .loop2-test .taken)) (c .before .before .before .before .find-from .ensures) (c .before .before .put-place .ensures)
+
+same-length : tie.Need-same-length Inv-loop2 μ-loop2 Inv-loop μ-loop
+same-length c = c .before .loop .inv .0 .long
+
+returns : tie.Need-returns Inv-loop2 μ-loop2 Inv-loop μ-loop
+returns c = writing-all _ _ (c .before .loop .inv .0) (c .loop-test .left)
 
 pub put-places-spec : {M : Type 1} → statement M
 put-places-spec =
     tie.close
     (tie.spec
+    Inv-loop2
+    μ-loop2
     Inv-loop
     μ-loop
     loop-holds
-    sub-measure
-    measure-requires
-    find-hashed-requires
+    take-requires
+    settle-requires
+    loop2-holds
+    loop-less
+    loop-again
+    mul-k
+    array-read-k
+    mul-wide
+    array-read-wide
+    wide-requires
+    mul-find-from
+    array-read-find-from
+    find-from-requires
     put-place-requires
     add-i
     mul-at
     add-at
     add-at-2
-    loop-less
-    loop-again
+    add-j
+    loop2-less
+    loop2-again
     same-length
     returns)

@@ -1,11 +1,28 @@
-use borrow.Author.Needs.{needs}
+use Rattle.verdict.proofs.Laws.{tells-no}
+use Rattle.text.proofs.Laws.{length-chars}
+use Rattle.strings.proofs.Places.{length-at}
 use Rattle.strings.proofs.Spots.{spotted, unspotted}
-use Rattle.lookup.proofs.Bucket.{entry-resolved, text-there}
+use Rattle.lookup.proofs.Bucket.{entry-resolved, other-length, standing, text-there}
+use borrow.Author.Needs.{needs}
 use Rattle.lookup.proofs.entry_bears.Statement.{statement}
 use Rattle.lookup.proofs.entry_bears.Tie as tie
 
 entry-at-requires : tie.Need-entry-at-requires
 entry-at-requires c κs = search needs
+
+add-u32-at : tie.Need-add-u32-at
+add-u32-at c = search needs
+
+u32-at-requires : tie.Need-u32-at-requires
+u32-at-requires c κs = search needs
+
+add-if1 : tie.Need-add-if1
+add-if1 c = search needs
+
+returns : tie.Need-returns
+returns c =
+    let p = c .before .before .before .before .before .before .pre in
+    tells-no (other-length _ _ _ _ _ _ (p .2) (p .1) (length-at _ _ _ _ _ (c .before .before .entry-at .ensures .0) (c .before .u32-at .ensures .0)) (length-chars _ _ _) (c .if1 .taken))
 
 add-spot-to : tie.Need-add-spot-to
 add-spot-to c = search needs
@@ -19,27 +36,40 @@ enum-known-a c = search needs
 enum-told : tie.Need-enum-told
 enum-told c = search needs
 
-returns : tie.Need-returns
-returns c = absurd (unspotted _ _ _ _ (c .before .before .before .entry-at .ensures .0) (c .before .before .spot-to .ensures) (c .enum-told .given .1) (entry-resolved _ _ _ (c .before .before .before .before .before .before .before .pre .2) (c .before .before .before .before .before .before .before .pre .1)))
-
-bears-requires : tie.Need-bears-requires
-bears-requires c κs = (
-  spotted _ _ _ _ (c .before .before .before .before .entry-at .ensures .0) (c .before .before .before .spot-to .ensures) (c .before .before .before .before .before .before .before .before .pre .0 .laid .characters) (c .before .a .given .1) .fits,
-  c .before .before .before .before .before .before .before .before .pre .3,
-)
-
 returns-2 : tie.Need-returns-2
-returns-2 c = text-there _ _ _ _ _ _ (spotted _ _ _ _ (c .before .before .before .before .before .entry-at .ensures .0) (c .before .before .before .before .spot-to .ensures) (c .before .before .before .before .before .before .before .before .before .pre .0 .laid .characters) (c .before .before .a .given .1)) (c .bears .ensures)
+returns-2 c =
+    let p = c .before .before .before .before .before .before .before .before .before .pre in
+    absurd (unspotted _ _ _ _ (c .before .before .before .before .before .entry-at .ensures .0) (c .before .before .spot-to .ensures) (c .enum-told .given .1) (entry-resolved _ _ _ (p .2) (p .1)))
+
+alike-requires : tie.Need-alike-requires
+alike-requires c κs =
+    let p = c .before .before .before .before .before .before .before .before .before .before .pre in
+    let e = c .before .before .before .before .before .before .entry-at .ensures .0 in
+    let w = spotted _ _ _ _ e (c .before .before .before .spot-to .ensures) (p .0 .laid .characters) (c .before .a .given .1) in
+    let x = standing _ _ _ _ _ _ _ (p .2) (p .1) w (length-at _ _ _ _ _ e (c .before .before .before .before .before .u32-at .ensures .0)) (c .before .before .before .before .if1 .left) in
+    (x .fits, p .3)
+
+returns-3 : tie.Need-returns-3
+returns-3 c =
+    let p = c .before .before .before .before .before .before .before .before .before .before .before .pre in
+    let e = c .before .before .before .before .before .before .before .entry-at .ensures .0 in
+    let w = spotted _ _ _ _ e (c .before .before .before .before .spot-to .ensures) (p .0 .laid .characters) (c .before .before .a .given .1) in
+    let x = standing _ _ _ _ _ _ _ (p .2) (p .1) w (length-at _ _ _ _ _ e (c .before .before .before .before .before .before .u32-at .ensures .0)) (c .before .before .before .before .before .if1 .left) in
+    text-there _ _ _ _ _ _ x (c .alike .ensures)
 
 pub entry-bears-spec : {M : Type 1} → statement M
 entry-bears-spec =
     tie.close
     (tie.spec
     entry-at-requires
+    add-u32-at
+    u32-at-requires
+    add-if1
+    returns
     add-spot-to
     spot-to-requires
     enum-known-a
     enum-told
-    returns
-    bears-requires
-    returns-2)
+    returns-2
+    alike-requires
+    returns-3)

@@ -3,16 +3,15 @@ use borrow.Author.Needs.{needs}
 use Rattle.text.specs.Text.{chars}
 use Rattle.strings.specs.Held.{heldTable}
 use Rattle.strings.proofs.Places.{here-in, hash-at}
-use Rattle.strings.proofs.Accepted.{strings-parts}
 use Rattle.lookup.proofs.Bucket.{Searched, searched-start, searched-more, searched-over, searched-end, searched-found}
 use Rattle.lookup.proofs.find_entry.Statement.{statement}
 use Rattle.lookup.proofs.find_entry.Tie as tie
 
 abbrev Inv-loop : tie.InvT-loop
-Inv-loop b s samples starts h q p n k m j₀ j = Searched (heldTable b s starts) (chars q p n) h k m j
+Inv-loop b s samples starts h low q p n k m j₀ j = Searched (heldTable b s starts) (chars q p n) h k m j
 
 abbrev μ-loop : tie.MeasureT-loop
-μ-loop b s samples starts h q p n k m j₀ j = m - j
+μ-loop b s samples starts h low q p n k m j₀ j = m - j
 
 bucket-requires : tie.Need-bucket-requires Inv-loop μ-loop
 bucket-requires c κs = search needs
@@ -20,30 +19,28 @@ bucket-requires c κs = search needs
 entry-count-requires : tie.Need-entry-count-requires Inv-loop μ-loop
 entry-count-requires c κs = search needs
 
-lower-requires : tie.Need-lower-requires Inv-loop μ-loop
-lower-requires c κs = let p = c .before .before .before .before .before .pre .0 in (p .0, c .before .bucket .ensures .1, strings-parts _ (p .1) .0)
-
 loop-holds : tie.Need-loop-holds Inv-loop μ-loop
-loop-holds c = let k = c .before .before .bucket .ensures in
-    searched-start _ _ _ _ _ _ (c .before .before .before .before .before .before .pre .0 .1) (c .before .before .before .before .before .before .pre .1 .1) (k .0) (k .1) (c .before .entry-count .ensures) (c .lower .ensures)
+loop-holds c = let p = c .before .before .before .before .before .pre in
+    let k = c .before .bucket .ensures in
+    searched-start _ _ _ _ _ _ (p .0 .1) (p .1 .1) (k .0) (k .1) (c .entry-count .ensures) (p .1 .2)
 
 entry-at-requires : tie.Need-entry-at-requires Inv-loop μ-loop
-entry-at-requires c κs = let i = c .before .loop .inv in (c .before .before .before .before .before .before .before .before .pre .0 .0, here-in _ _ _ _ (i .bucket) (i .many) (c .loop-test .taken))
+entry-at-requires c κs = let i = c .before .loop .inv in (c .before .before .before .before .before .before .before .pre .0 .0, here-in _ _ _ _ (i .bucket) (i .many) (c .loop-test .taken))
 
 u32-at-requires : tie.Need-u32-at-requires Inv-loop μ-loop
 u32-at-requires c κs = search needs
 
 returns : tie.Need-returns Inv-loop μ-loop
-returns c = searched-over _ _ _ _ _ _ (c .before .before .before .before .loop .inv) (c .before .before .before .before .before .before .before .before .before .before .before .pre .0 .1) _ (c .before .before .before .loop-test .taken) (hash-at _ _ _ _ _ (c .before .before .entry-at .ensures .0) (c .before .u32-at .ensures .0)) (c .if1 .taken)
+returns c = searched-over _ _ _ _ _ _ (c .before .before .before .before .loop .inv) (c .before .before .before .before .before .before .before .before .before .before .pre .0 .1) _ (c .before .before .before .loop-test .taken) (hash-at _ _ _ _ _ (c .before .before .entry-at .ensures .0) (c .before .u32-at .ensures .0)) (c .if1 .taken)
 
 entry-bears-requires : tie.Need-entry-bears-requires Inv-loop μ-loop
-entry-bears-requires c κs = let s = c .before .before .before .before .before .before .before .before .before .before .before in
+entry-bears-requires c κs = let s = c .before .before .before .before .before .before .before .before .before .before in
     let i = c .before .before .before .before .loop .inv in
     (s .pre .0 .0, here-in _ _ _ _ (i .bucket) (i .many) (c .before .before .before .loop-test .taken), s .pre .0 .1, s .pre .1 .0)
 
 returns-2 : tie.Need-returns-2 Inv-loop μ-loop
 returns-2 c = let i = c .before .before .before .before .before .before .loop .inv in
-    searched-found _ _ _ _ _ _ i (c .before .before .before .before .before .before .before .before .before .before .before .before .before .pre .0 .1) _ (here-in _ _ _ _ (i .bucket) (i .many) (c .before .before .before .before .before .loop-test .taken)) (c .before .before .before .before .entry-at .ensures .0) (c .before .entry-bears .ensures .so (c .if2 .taken))
+    searched-found _ _ _ _ _ _ i (c .before .before .before .before .before .before .before .before .before .before .before .before .pre .0 .1) _ (here-in _ _ _ _ (i .bucket) (i .many) (c .before .before .before .before .before .loop-test .taken)) (c .before .before .before .before .entry-at .ensures .0) (c .before .entry-bears .ensures .so (c .if2 .taken))
 
 add-j : tie.Need-add-j Inv-loop μ-loop
 add-j c = search needs
@@ -55,7 +52,7 @@ loop-again : tie.Need-loop-again Inv-loop μ-loop
 loop-again c = searched-more _ _ _ _ _ _ (c .before .before .before .before .before .before .loop .inv) (c .before .entry-bears .ensures .not (c .if2 .left))
 
 returns-3 : tie.Need-returns-3 Inv-loop μ-loop
-returns-3 c = searched-end _ _ _ _ _ _ (c .before .loop .inv) (c .before .before .before .before .before .before .before .before .pre .0 .1) (c .loop-test .left)
+returns-3 c = searched-end _ _ _ _ _ _ (c .before .loop .inv) (c .before .before .before .before .before .before .before .pre .0 .1) (c .loop-test .left)
 
 pub find-entry-spec : {M : Type 1} → statement M
 find-entry-spec =
@@ -65,7 +62,6 @@ find-entry-spec =
     μ-loop
     bucket-requires
     entry-count-requires
-    lower-requires
     loop-holds
     entry-at-requires
     u32-at-requires

@@ -1,81 +1,20 @@
-use native.Mathlib.Omega.{arith}
+use Rattle.strings.proofs.Accepted.{strings-parts}
+use Rattle.lookup.proofs.Nearby.{lower-in}
 use borrow.Author.Needs.{needs}
-use Prim.Native.Nat.{_+_, _≤_}
-use lib.ListN.{length}
-use Rattle.lookup.proofs.Told.{entry-inside, index-told, address-told}
-use Rattle.lookup.proofs.ByKind.{name-told, value-told, none-told}
 use Rattle.lookup.proofs.find_hashed.Statement.{statement}
 use Rattle.lookup.proofs.find_hashed.Tie as tie
 
--- the entry lies in the file
-inside : (c : tie.After-known-told) → c .before .e .given .0 .0 + 16 ≤ length (c .before .before .before .before .before .before .before .args .b .now)
-inside c = let s = c .before .before .before .before .before .before .before in entry-inside _ _ (s .pre .0 .1) (c .before .before .before .find-entry .ensures) _ (c .before .e .given .1) _ (s .pre .0 .0 .laid)
+bucket-requires : tie.Need-bucket-requires
+bucket-requires c κs = search needs
 
-find-entry-requires : tie.Need-find-entry-requires
-find-entry-requires c κs = search needs
+lower-requires : tie.Need-lower-requires
+lower-requires c κs = let p = c .before .before .before .before .pre .0 in (p .0, c .bucket .ensures .1, strings-parts _ (p .1) .0)
 
-enum-known-e : tie.Need-enum-known-e
-enum-known-e c = search needs
-
-enum-told : tie.Need-enum-told
-enum-told c = search needs
+find-from-requires : tie.Need-find-from-requires
+find-from-requires c κs = let p = c .before .before .before .before .before .pre in (p .0, (p .1 .0, p .1 .1, lower-in (c .before .bucket .ensures .0) (c .lower .ensures)))
 
 returns : tie.Need-returns
-returns c = none-told _ _ _ (c .before .before .before .before .before .before .pre .0 .1) (c .before .before .find-entry .ensures) (c .enum-told .given .1)
-
-enum-told-2 : tie.Need-enum-told-2
-enum-told-2 c = search needs
-
-add-u32-at : tie.Need-add-u32-at
-add-u32-at c = omega (arith, inside (c .before .before))
-
-u32-at-requires : tie.Need-u32-at-requires
-u32-at-requires c κs = omega (arith, inside (c .before .before))
-
-enum-told-3 : tie.Need-enum-told-3
-enum-told-3 c = search needs
-
-add-u16-at : tie.Need-add-u16-at
-add-u16-at c = omega (arith, inside (c .before .before))
-
-u16-at-requires : tie.Need-u16-at-requires
-u16-at-requires c κs = omega (arith, inside (c .before .before))
-
-mul-t17 : tie.Need-mul-t17
-mul-t17 c = search needs
-
-add-u16-at-2 : tie.Need-add-u16-at-2
-add-u16-at-2 c = omega (arith, inside (c .before .before .before))
-
-u16-at-requires-2 : tie.Need-u16-at-requires-2
-u16-at-requires-2 c κs = omega (arith, inside (c .before .before .before))
-
-add-t20 : tie.Need-add-t20
-add-t20 c = search needs
-
-returns-2 : tie.Need-returns-2
-returns-2 c = name-told _ _ (c .before .enum-told2 .given .1) (index-told _ _ (c .before .before .before .before .before .before .before .before .before .before .pre .0 .1) (c .before .before .before .before .before .before .find-entry .ensures) _ (c .before .before .before .before .e .given .1) _ (c .u32-at .ensures .0))
-
-returns-3 : tie.Need-returns-3
-returns-3 c = value-told _ _ (c .before .before .enum-told3 .given .1) (address-told _ _ (c .before .before .before .before .before .before .before .before .before .before .before .pre .0 .1) (c .before .before .before .before .before .before .before .find-entry .ensures) _ (c .before .before .before .before .before .e .given .1) _ _ (c .before .u16-at .ensures .0) (c .u16-at2 .ensures .0))
+returns c = search needs
 
 pub find-hashed-spec : {M : Type 1} → statement M
-find-hashed-spec =
-    tie.close
-    (tie.spec
-    find-entry-requires
-    enum-known-e
-    enum-told
-    returns
-    enum-told-2
-    add-u32-at
-    u32-at-requires
-    enum-told-3
-    add-u16-at
-    u16-at-requires
-    mul-t17
-    add-u16-at-2
-    u16-at-requires-2
-    add-t20
-    returns-2
-    returns-3)
+find-hashed-spec = tie.close (tie.spec bucket-requires lower-requires find-from-requires returns)

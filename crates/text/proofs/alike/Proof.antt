@@ -1,0 +1,125 @@
+use Prim.Native.Nat.{_+_, _-_, _≤_}
+use mathlib.Core.Path.{sym, _∙_}
+use Rattle.verdict.proofs.Laws.{tells-no, tells-eqb}
+use Rattle.text.proofs.OneByOne.{Alike, alike-chars, chars-alike, alike-none, four-number, four-chars, alike-four}
+use native.Mathlib.Omega.{arith}
+use borrow.Author.Needs.{needs}
+use Rattle.text.proofs.alike.Statement.{statement}
+use Rattle.text.proofs.alike.Tie as tie
+
+abbrev Inv-loop : tie.InvT-loop
+Inv-loop b p s q n i₀ i = (i ≤ n) × Alike b p s q i
+
+abbrev μ-loop : tie.MeasureT-loop
+μ-loop b p s q n i₀ i = n - i
+
+alike-few-requires : tie.Need-alike-few-requires Inv-loop μ-loop
+alike-few-requires c κs = search needs
+
+returns : tie.Need-returns Inv-loop μ-loop
+returns c = search needs
+
+loop-holds : tie.Need-loop-holds Inv-loop μ-loop
+loop-holds c = (search needs, alike-none _ _ _ _ 0)
+
+add-loop : tie.Need-add-loop Inv-loop μ-loop
+add-loop c = search needs
+
+mul-u64-at : tie.Need-mul-u64-at Inv-loop μ-loop
+mul-u64-at c = search needs
+
+add-u64-at : tie.Need-add-u64-at Inv-loop μ-loop
+add-u64-at c = search needs
+
+u64-at-requires : tie.Need-u64-at-requires Inv-loop μ-loop
+u64-at-requires c κs = search needs
+
+mul-u64-at-2 : tie.Need-mul-u64-at-2 Inv-loop μ-loop
+mul-u64-at-2 c = search needs
+
+add-u64-at-2 : tie.Need-add-u64-at-2 Inv-loop μ-loop
+add-u64-at-2 c = search needs
+
+u64-at-requires-2 : tie.Need-u64-at-requires-2 Inv-loop μ-loop
+u64-at-requires-2 c κs = search needs
+
+returns-2 : tie.Need-returns-2 Inv-loop μ-loop
+returns-2 c =
+    tells-no
+    (λ e. c .if2 .taken
+    (c .before .before .u64-at .ensures
+    ∙ four-number _ _ _ _ _ (λ j l m. chars-alike _ _ _ _ _ e j (omega (arith, c .before .before .before .loop-test .taken)))
+    ∙ sym (c .before .u64-at2 .ensures)))
+
+add-i : tie.Need-add-i Inv-loop μ-loop
+add-i c = search needs
+
+loop-less : tie.Need-loop-less Inv-loop μ-loop
+loop-less c = search needs
+
+loop-again : tie.Need-loop-again Inv-loop μ-loop
+loop-again c =
+    let e = sym (c .before .before .u64-at .ensures) ∙ c .if2 .left ∙ c .before .u64-at2 .ensures in
+    let f = four-chars _ _ _ _ _ (λ k. omega (arith, c .before .before .before .before .before .before .before .shared-slice-known .given k)) (λ k. omega (arith, c .before .before .before .before .before .before .shared-slice-known2 .given k)) e in
+    (search needs, alike-four _ _ _ _ _ _ (omega arith) _ (omega arith) (c .before .before .before .before .loop .inv .1) f)
+
+mul-u64-at-3 : tie.Need-mul-u64-at-3 Inv-loop μ-loop
+mul-u64-at-3 c = search needs
+
+add-u64-at-3 : tie.Need-add-u64-at-3 Inv-loop μ-loop
+add-u64-at-3 c = search needs
+
+u64-at-requires-3 : tie.Need-u64-at-requires-3 Inv-loop μ-loop
+u64-at-requires-3 c κs = search needs
+
+mul-u64-at-4 : tie.Need-mul-u64-at-4 Inv-loop μ-loop
+mul-u64-at-4 c = search needs
+
+add-u64-at-4 : tie.Need-add-u64-at-4 Inv-loop μ-loop
+add-u64-at-4 c = search needs
+
+u64-at-requires-4 : tie.Need-u64-at-requires-4 Inv-loop μ-loop
+u64-at-requires-4 c κs = search needs
+
+returns-3 : tie.Need-returns-3 Inv-loop μ-loop
+returns-3 c =
+    let s = c .before .before .before .before .before .before .before .args in
+    let u = c .before .u64-at3 .ensures in
+    let v = c .u64-at4 .ensures in
+    let l = c .before .before .loop-test .left in
+    let m = c .before .before .before .before .if1 .left in
+    let g : s .n ≤ s .n - 4 + 4 = omega arith in
+    let h : s .n - 4 ≤ c .before .before .before .loop .i = omega arith in
+    tells-eqb _ _
+    (λ e. alike-chars _ _ _ _ _
+    (alike-four _ _ _ _ (s .n - 4) (s .n) g _ h (c .before .before .before .loop .inv .1)
+    (four-chars _ _ _ _ _ (λ k. omega (arith, c .before .before .before .before .before .before .shared-slice-known .given k)) (λ k. omega (arith, c .before .before .before .before .before .shared-slice-known2 .given k)) (sym u ∙ e ∙ v))))
+    (λ e. u ∙ four-number _ _ _ _ (s .n - 4) (λ j x y. chars-alike _ _ _ _ (s .n) e j (omega arith)) ∙ sym v)
+
+pub alike-spec : {M : Type 1} → statement M
+alike-spec =
+    tie.close
+    (tie.spec
+    Inv-loop
+    μ-loop
+    alike-few-requires
+    returns
+    loop-holds
+    add-loop
+    mul-u64-at
+    add-u64-at
+    u64-at-requires
+    mul-u64-at-2
+    add-u64-at-2
+    u64-at-requires-2
+    returns-2
+    add-i
+    loop-less
+    loop-again
+    mul-u64-at-3
+    add-u64-at-3
+    u64-at-requires-3
+    mul-u64-at-4
+    add-u64-at-4
+    u64-at-requires-4
+    returns-3)
