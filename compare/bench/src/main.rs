@@ -1,10 +1,10 @@
 //! The benchmark: both loaders on made files of 8, 64 and 256 MB.
 //!
 //! Before each measurement the workspace is zeroed and every page of the file
-//! has been touched; the best of several runs counts, in processor time of the
-//! thread. Lookups of the proved
-//! library go in one batch question, whose acceptance (measured in the same
-//! run) is taken off; the second loader's go to a held view.
+//! has been touched; the best of several rounds counts, in processor time of the
+//! thread. Lookups of the proved library go in one batch question, whose
+//! acceptance (measured in the same run) is taken off; the second loader's go to
+//! a held view.
 
 mod clock;
 mod subject;
@@ -20,6 +20,8 @@ const SIZES: [usize; 3] = [8, 64, 256];
 /// Enough lookups to weigh more than the acceptance that is taken off.
 const NAMES: usize = 8_000_000;
 const VALUES: usize = 4_000_000;
+const ACCEPT_ROUNDS: usize = 9;
+const LOOKUP_ROUNDS: usize = 4;
 
 /// One loader's numbers on one file.
 struct Numbers {
@@ -28,6 +30,18 @@ struct Numbers {
     values: f64,
     path: f64,
     held_path: Option<f64>,
+}
+
+impl Numbers {
+    fn none() -> Numbers {
+        Numbers {
+            accept: f64::MAX,
+            names: f64::MAX,
+            values: f64::MAX,
+            path: f64::MAX,
+            held_path: None,
+        }
+    }
 }
 
 fn subjects() -> Vec<Box<dyn Subject>> {
@@ -69,10 +83,6 @@ fn batch(rng: &mut Rng, from: &[Text], count: usize) -> Batch {
     Batch { texts, count }
 }
 
-fn best(runs: usize, mut measure: impl FnMut() -> f64) -> f64 {
-    (0..runs).map(|_| measure()).fold(f64::MAX, f64::min)
-}
-
 /// A path of two names that many nodes bear: the first sheet's name and the
 /// name of its first child.
 fn path(file: &Large) -> Vec<u8> {
@@ -83,26 +93,38 @@ fn path(file: &Large) -> Vec<u8> {
     path
 }
 
-fn measure(subject: &dyn Subject, file: &Large) -> Numbers {
+/// All loaders on one file, in rounds: each round asks every loader once, so
+/// that a slow spell of the machine meets them all. The best round counts.
+fn measure(subjects: &[Box<dyn Subject>], file: &Large) -> Vec<Numbers> {
     let mut workspace = vec![0; file.nodes];
     let bytes = &file.bytes;
     let mut rng = Rng::new(3);
     let (names, values) =
         (batch(&mut rng, &file.names, NAMES), batch(&mut rng, &file.values, VALUES));
     let path = path(file);
-    let accept = best(7, || {
-        workspace.fill(0);
-        subject.accept(bytes, &mut workspace)
-    });
-    let taken_off = if subject.accepts_again() { accept } else { 0.0 };
-    Numbers {
-        accept,
-        names: best(3, || subject.lookups(bytes, &mut workspace, Which::Names, &names)) - taken_off,
-        values: best(3, || subject.lookups(bytes, &mut workspace, Which::Values, &values))
-            - taken_off,
-        path: best(3, || subject.path(bytes, &mut workspace, &path)),
-        held_path: subject.held_path(bytes, &mut workspace, &path),
+    let mut all: Vec<Numbers> = subjects.iter().map(|_| Numbers::none()).collect();
+    for _ in 0..ACCEPT_ROUNDS {
+        for (subject, numbers) in subjects.iter().zip(&mut all) {
+            workspace.fill(0);
+            numbers.accept = numbers.accept.min(subject.accept(bytes, &mut workspace));
+        }
     }
+    for _ in 0..LOOKUP_ROUNDS {
+        for (subject, numbers) in subjects.iter().zip(&mut all) {
+            let off = if subject.accepts_again() { numbers.accept } else { 0.0 };
+            let mut lookups =
+                |which, batch| subject.lookups(bytes, &mut workspace, which, batch) - off;
+            numbers.names = numbers.names.min(lookups(Which::Names, &names));
+            numbers.values = numbers.values.min(lookups(Which::Values, &values));
+            numbers.path = numbers.path.min(subject.path(bytes, &mut workspace, &path));
+            let held = subject.held_path(bytes, &mut workspace, &path);
+            numbers.held_path = match (numbers.held_path, held) {
+                (Some(before), Some(now)) => Some(before.min(now)),
+                (before, now) => before.or(now),
+            };
+        }
+    }
+    all
 }
 
 fn print(title: &str, file: &Large, numbers: &Numbers, first: &Numbers) {
@@ -141,8 +163,7 @@ fn main() {
             file.attributes,
             file.values.len()
         );
-        let all: Vec<Numbers> =
-            subjects.iter().map(|subject| measure(subject.as_ref(), &file)).collect();
+        let all = measure(&subjects, &file);
         for (i, (subject, numbers)) in subjects.iter().zip(&all).enumerate() {
             print(subject.title(), &file, numbers, &all[0]);
             costs[i].push(numbers.accept * 1e9 / file.bytes.len() as f64);
