@@ -26,4 +26,8 @@ bench: library
 	cd compare && TAPLINEN_LIB=$(CURDIR)/target/staticlib cargo build --quiet --release --offline -p bench --features rattle
 	compare/target/release/bench
 
-.PHONY: ask dump library check gate compare bench
+# Instructions a byte of acceptance as files grow; wants valgrind.
+cost: ask
+	scripts/cost
+
+.PHONY: ask dump library check gate compare bench cost

@@ -7,6 +7,7 @@
 //! a held view.
 
 mod clock;
+mod memory;
 mod subject;
 
 use maker::large::{large, Large};
@@ -154,6 +155,7 @@ fn main() {
     let subjects = subjects();
     println!("workspace zeroed, file pages touched; times as multiples of the first line's");
     let mut costs: Vec<Vec<f64>> = vec![Vec::new(); subjects.len()];
+    let mut reads = Vec::new();
     for size in SIZES.into_iter().filter(|&size| size <= most) {
         let file = large(size);
         println!(
@@ -164,6 +166,7 @@ fn main() {
             file.values.len()
         );
         let all = measure(&subjects, &file);
+        reads.push(memory::random_read(&file.bytes));
         for (i, (subject, numbers)) in subjects.iter().zip(&all).enumerate() {
             print(subject.title(), &file, numbers, &all[0]);
             costs[i].push(numbers.accept * 1e9 / file.bytes.len() as f64);
@@ -171,8 +174,15 @@ fn main() {
     }
     println!("acceptance, ns a byte, as files grow:");
     for (subject, costs) in subjects.iter().zip(costs) {
-        let growth = costs.last().unwrap_or(&0.0) / costs.first().unwrap_or(&1.0);
-        let shown: Vec<String> = costs.iter().map(|cost| format!("{cost:.2}")).collect();
-        println!("  {:18} {} (last over first {growth:.2})", subject.title(), shown.join(" "));
+        print_growth(subject.title(), &costs);
     }
+    println!("one read at random in such a file, ns, none waiting for another:");
+    print_growth("memory", &reads);
+}
+
+/// Costs on the files in order, and by how much the last is above the first.
+fn print_growth(title: &str, costs: &[f64]) {
+    let growth = costs.last().unwrap_or(&0.0) / costs.first().unwrap_or(&1.0);
+    let shown: Vec<String> = costs.iter().map(|cost| format!("{cost:.2}")).collect();
+    println!("  {title:18} {} (last over first {growth:.2})", shown.join(" "));
 }

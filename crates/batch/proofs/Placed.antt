@@ -1,5 +1,5 @@
 -- The places of some texts, written one after the other. Assumes nothing.
-use mathlib.Core.Path.{_≡_, refl, sym, ap, _∙_}
+use mathlib.Core.Path.{_≡_, refl, sym, ap, _∙_, subst}
 use mathlib.Core.Bool.{cond}
 use mathlib.Core.Logic.{⊎-elim}
 use mathlib.Core.List.{List, [], _∷_, _++_}
@@ -11,7 +11,7 @@ use lib.ListN.{length, length-append}
 use Rattle.laws.specs.Lists.{splice}
 use Rattle.laws.proofs.Order.{le-or-lt}
 use Rattle.laws.proofs.Splice.{splice-nil, splice-length, splice-append}
-use Rattle.le.specs.Le.{u16At}
+use Rattle.le.specs.Le.{u16At, le4}
 use Rattle.verdict.proofs.Laws.{Clean}
 use Rattle.hash.specs.Hash.{hashText}
 use Rattle.text.specs.Text.{chars, textIn}
@@ -20,7 +20,6 @@ use Rattle.lookup.specs.Kinds.{kindOf, numberOf}
 use Rattle.lookup.specs.declared.Lookup.{Lookup}
 use Rattle.lookup.specs.declared.Lookup.the-variants.{Found, Absent}
 use Rattle.path.specs.Names.{addFirst, split, namesOf, pathChecks}
-use Rattle.path.specs.Listing.{le4}
 use Rattle.path.specs.Indices.{NameEnd}
 use Rattle.path.proofs.Split.{length-add, namesFrom, names-start, names-end, names-more}
 use Rattle.path.proofs.Formed.{formed-inv}
@@ -94,6 +93,30 @@ module _ {texts : List ℕ} {n at : ℕ} (w : Counted texts n at) where
 
   pub counted-all : length texts ≤ at → n ≡ length (namesOf texts)
   counted-all h = omega (arith, w .left, ap length (names-end texts at h))
+
+-- a block of characters whose zeros are counted by themselves
+pub record Block (texts : List ℕ) (n zeros at end : ℕ) : Type 0 where
+  pub counted : Counted texts (n + zeros) at
+  pub upto : at ≤ end
+  pub room : 2 * zeros + (end - at) ≤ 8192
+
+pub block-start : {texts : List ℕ} {n at end : ℕ} → Counted texts n at → (at < end) × (end ≤ length texts) × (end ≤ at + 8192) × (end % 2 ≡ 0) → Block texts n 0 at end
+block-start {texts} {n} {at} w e =
+    let z : n ≡ n + 0 = omega arith in
+    record { counted = subst (λ (x : ℕ). Counted texts x at) z w; upto = omega (arith, e .0); room = omega (arith, e .2) }
+
+module _ {texts : List ℕ} {n zeros at end : ℕ} (w : Block texts n zeros at end) (l : at < end) (even : end % 2 ≡ 0) where
+  pub block-zero : Counted texts (n + zeros + 1) (at + 2) → Block texts n (zeros + 1) (at + 2) end
+  block-zero c =
+      let z : n + zeros + 1 ≡ n + (zeros + 1) = omega arith in
+      record {
+        counted = subst (λ (x : ℕ). Counted texts x (at + 2)) z c;
+        upto = omega (arith, w .counted .even);
+        room = omega (arith, w .room, w .counted .even);
+      }
+
+  pub block-other : Counted texts (n + zeros) (at + 2) → Block texts n zeros (at + 2) end
+  block-other c = record { counted = c; upto = omega (arith, w .counted .even); room = omega (arith, w .room, w .counted .even) }
 
 -- ---- the loop that writes
 

@@ -1,8 +1,10 @@
 -- How the slots of a group are filled, one by one. Assumes nothing.
 use Prim.Native.Nat.{ℕ, zero, suc, _+_, _-_, _*_, _/_, _%_, _^_, _≤_, _<_}
+use native.Mathlib.Nat.{mod-lt}
+use native.Mathlib.Decide.{ℕ-discrete}
 use native.Mathlib.Numerals.{add-one}
 use native.Mathlib.Omega.{arith}
-use mathlib.Core.Path.{_≡_, refl, ap, sym, subst, _∙_}
+use mathlib.Core.Path.{_≡_, refl, ap, sym, _∙_}
 use mathlib.Core.List.{List}
 use borrow.Author.Count.{below-none, below-more}
 use lib.ListN.{length, getD, set, length-set}
@@ -13,8 +15,12 @@ use Rattle.text.specs.Text.{textIn}
 use Rattle.text.specs.Measure.{Measured}
 use Rattle.text.specs.declared.Extent.{Extent}
 use Rattle.layout.specs.Table.{Table}
-use Rattle.strings.specs.Search.{Lower}
-use Rattle.batch.specs.Groups.{TextRead, standsAt, Group, AllLow}
+use Rattle.search.specs.Lower.{Lower}
+use Rattle.search.specs.Group.{AllLow}
+use Rattle.strings.specs.Held.{Held, heldTable}
+use Rattle.strings.specs.declared.Strings.{Strings}
+use Rattle.strings.proofs.Places.{few-entries}
+use Rattle.batch.specs.Groups.{TextRead, standsAt, Group, AllNear, Texts, SameLow}
 
 -- ---- where the texts of a group stand
 
@@ -96,27 +102,64 @@ module _ {texts : List ℕ} {at n : ℕ} {lengths hashes : List ℕ} (g : Group 
 
 -- ---- places of hashes
 
--- a place with something above its 32 bits
-pub low-half : {t : Table} {k m h r : ℕ} (y : ℕ) → k ≡ m → Lower t k h r → y % 4294967296 ≡ r → Lower t m h (y % 4294967296)
-low-half {t} {h = h} {r = r} y e w q = rw q (subst (λ (i : ℕ). Lower t i h r) e w)
+module _ (b : List ℕ) (s : Strings) (samples starts : List ℕ) (h : Held b s samples starts) where
+  -- a place has 32 bits
+  pub place-small : (y x : ℕ) → Lower (heldTable b s starts) (bucketOf (length starts) y) y x → x ≤ 1073741824
+  unfolding bucketOf
+  place-small y x w = omega (arith, w .upto, few-entries b s samples starts h (bucketOf (length starts) y) (mod-lt _ (h .some-bucket)))
 
-pub low-none : (t : Table) (hashes low : List ℕ) → length low ≡ 64 → AllLow t hashes 0 low
-low-none t hashes low e = record { long = e; each = below-none _ }
+  pub near-first : (hashes low : List ℕ) (n : ℕ) → AllLow (heldTable b s starts) hashes n low → AllNear (heldTable b s starts) hashes n low
+  near-first hashes low n a = record {
+    long = a .long;
+    each = λ j l.
+        let w = a .each j l in
+        let z : getD low j 0 % 4294967296 ≡ getD low j 0 = omega (arith, place-small _ _ w) in
+        rw z w;
+  }
 
-pub low-upto : {t : Table} {hashes low : List ℕ} {j n : ℕ} → n ≤ j → AllLow t hashes j low → AllLow t hashes n low
-low-upto {j = j} {n = n} l a = record { long = a .long; each = λ i h. a .each i (omega arith) }
+-- something above them changes nothing
+pub near-same : {t : Table} {hashes low d : List ℕ} {n : ℕ} → AllNear t hashes n low → SameLow low d → AllNear t hashes n d
+near-same a s = record { long = s .long ∙ a .long; each = λ j l. rw (s .each j) (a .each j l) }
 
-pub low-more : {t : Table} {hashes low : List ℕ} {j : ℕ} → AllLow t hashes j low → j < 64 → {h : ℕ} (r : ℕ) → h ≡ getD hashes j 0
-    → Lower t (bucketOf (t .buckets) h) h (r % 4294967296) → AllLow t hashes (j + 1) (set low j r)
-low-more {t} {hashes} {low} {j} a l {h} r e w = record {
-  long = length-set low j r ∙ a .long;
-  each =
-      below-more (λ (i : ℕ). Lower t (bucketOf (t .buckets) (getD hashes i 0)) (getD hashes i 0) (getD (set low j r) i 0 % 4294967296)) j
-      (λ i c. rw (getD-set-other low j i r 0 (omega arith)) (a .each i c))
-      (rw (getD-set-same low j r 0 (omega (arith, a .long)), sym e) w);
+pub same-start : (low : List ℕ) → SameLow low low
+same-start low = record { long = refl; each = λ j. refl }
+
+pub same-more : {a b : List ℕ} {j x : ℕ} (r : ℕ) → SameLow a b → j < length b → x ≡ getD b j 0 → r % 4294967296 ≡ x % 4294967296 → SameLow a (set b j r)
+same-more {a} {b} {j} {x} r s l e f = record { long = length-set b j r ∙ s .long; each = λ i. kept i (ℕ-discrete i j) ∙ s .each i }
+  where
+    kept : (i : ℕ) → Dec (i ≡ j) → getD (set b j r) i 0 % 4294967296 ≡ getD b i 0 % 4294967296
+    kept i (no q) = ap (λ (y : ℕ). y % 4294967296) (getD-set-other b j i r 0 q)
+    kept i (yes q) =
+        ap (λ (y : ℕ). getD (set b j r) y 0 % 4294967296) q ∙ ap (λ (y : ℕ). y % 4294967296) (getD-set-same b j r 0 l)
+        ∙ f ∙ ap (λ (y : ℕ). y % 4294967296) e ∙ ap (λ (y : ℕ). getD b y 0 % 4294967296) (sym q)
+
+-- ---- places of texts
+
+pub texts-more : {b first later : List ℕ} {j : ℕ} (x y : ℕ) → Texts b j first later → j < 64 → x + 2 ≤ length b → y + 2 ≤ length b
+    → Texts b (j + 1) (set first j x) (set later j y)
+texts-more {b} {first} {later} {j} x y w l p q = record {
+  first-long = length-set first j x ∙ w .first-long;
+  later-long = length-set later j y ∙ w .later-long;
+  first-in = in-file first x (w .first-long) p (w .first-in);
+  later-in = in-file later y (w .later-long) q (w .later-in);
+}
+  where
+    in-file : (xs : List ℕ) (z : ℕ) → length xs ≡ 64 → z + 2 ≤ length b → ((i : ℕ) → i < j → getD xs i 0 + 2 ≤ length b)
+        → (i : ℕ) → i < j + 1 → getD (set xs j z) i 0 + 2 ≤ length b
+    in-file xs z long h f =
+        below-more (λ (i : ℕ). getD (set xs j z) i 0 + 2 ≤ length b) j
+        (λ i c. rw (getD-set-other xs j i z 0 (omega arith)) (f i c))
+        (rw (getD-set-same xs j z 0 (omega (arith, long))) h)
+
+pub texts-upto : {b first later : List ℕ} {j n : ℕ} → n ≤ j → Texts b j first later → Texts b n first later
+texts-upto {j = j} {n = n} l w = record {
+  first-long = w .first-long;
+  later-long = w .later-long;
+  first-in = λ i h. w .first-in i (omega arith);
+  later-in = λ i h. w .later-in i (omega arith);
 }
 
 -- what is read of one slot
-pub low-read : {t : Table} {hashes low : List ℕ} {n : ℕ} → AllLow t hashes n low → (j : ℕ) → j < n → {h r : ℕ} → h ≡ getD hashes j 0 → r ≡ getD low j 0
+pub near-read : {t : Table} {hashes low : List ℕ} {n : ℕ} → AllNear t hashes n low → (j : ℕ) → j < n → {h r : ℕ} → h ≡ getD hashes j 0 → r ≡ getD low j 0
     → Lower t (bucketOf (t .buckets) h) h (r % 4294967296)
-low-read a j l e f = rw (e, f) (a .each j l)
+near-read a j l e f = rw (e, f) (a .each j l)

@@ -7,7 +7,8 @@ use native.Mathlib.Omega.{arith}
 use lib.ListN.{length, getD, take, drop}
 use lib.Seq.{take-at, drop-append-add, getD-append-add, getD-take, getD-drop}
 use Rattle.laws.specs.Lists.{splice}
-use Rattle.le.specs.Le.{u32At}
+use Rattle.le.specs.Le.{u32At, le4}
+use Rattle.le.proofs.Four.{le4-front, shifted}
 use Rattle.verdict.specs.Checks.{firstFault}
 use Rattle.verdict.specs.declared.Verdict.the-variants.{Accepted, Refused}
 use Rattle.verdict.proofs.Laws.{Clean, never, pass, stop, fault-none, fault-append, fault-keep}
@@ -15,9 +16,7 @@ use Rattle.lookup.specs.Kinds.{kindOf, numberOf}
 use Rattle.lookup.specs.declared.Lookup.{Lookup}
 use Rattle.lookup.proofs.ByKind.{kind-low}
 use Rattle.path.specs.Names.{namesOf, pathChecks}
-use Rattle.path.specs.Listing.{le4}
 use Rattle.path.specs.Indices.{nameAt}
-use Rattle.path.proofs.Demand.{le4-front, shifted}
 use Rattle.batch.specs.Places.{place, places, placeChecks, answersAfter}
 use Rattle.batch.specs.Answer.{Answered}
 use Rattle.batch.specs.declared.Batch.{Batch}

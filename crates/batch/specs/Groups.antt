@@ -6,7 +6,7 @@ use lib.ListN.{length, getD}
 use Rattle.hash.specs.Hash.{hashText, bucketOf}
 use Rattle.text.specs.Text.{textIn}
 use Rattle.layout.specs.Table.{Table}
-use Rattle.strings.specs.Search.{Lower}
+use Rattle.search.specs.Lower.{Lower}
 
 -- The text at an offset of the texts has k characters and hash h.
 pub record TextRead (texts : List ℕ) (at k h : ℕ) : Type 0 where
@@ -27,6 +27,18 @@ pub record Group (texts : List ℕ) (at n : ℕ) (lengths hashes : List ℕ) : T
   pub read : (j : ℕ) → j < n → TextRead texts (standsAt at lengths j) (getD lengths j 0) (getD hashes j 0)
 
 -- The low half of each of the first n is where its hash stands in its bucket, or would.
-pub record AllLow (t : Table) (hashes : List ℕ) (n : ℕ) (low : List ℕ) : Type 0 where
+pub record AllNear (t : Table) (hashes : List ℕ) (n : ℕ) (low : List ℕ) : Type 0 where
   pub long : length low ≡ 64
   pub each : (j : ℕ) → j < n → Lower t (bucketOf (t .buckets) (getD hashes j 0)) (getD hashes j 0) (getD low j 0 % 4294967296)
+
+-- A character of the file stands at each of the first n offsets of two lists.
+pub record Texts (b : List ℕ) (n : ℕ) (first later : List ℕ) : Type 0 where
+  pub first-long : length first ≡ 64
+  pub later-long : length later ≡ 64
+  pub first-in : (j : ℕ) → j < n → getD first j 0 + 2 ≤ length b
+  pub later-in : (j : ℕ) → j < n → getD later j 0 + 2 ≤ length b
+
+-- The low halves of two lists are the same.
+pub record SameLow (a b : List ℕ) : Type 0 where
+  pub long : length b ≡ length a
+  pub each : (j : ℕ) → getD b j 0 % 4294967296 ≡ getD a j 0 % 4294967296

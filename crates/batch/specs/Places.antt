@@ -2,13 +2,13 @@
 use Prim.Native.Nat.{ℕ, _/_}
 use mathlib.Core.List.{List, [], _∷_, _++_}
 use lib.ListN.{length, drop}
+use Rattle.le.specs.Le.{le4}
 use Rattle.verdict.specs.Checks.{Check, atMost}
 use Rattle.verdict.specs.declared.Verdict.{Verdict}
 use Rattle.verdict.specs.declared.Verdict.the-variants.{Accepted, Refused}
 use Rattle.lookup.specs.Kinds.{kindOf, numberOf}
 use Rattle.lookup.specs.declared.Lookup.{Lookup}
 use Rattle.path.specs.Names.{namesOf}
-use Rattle.path.specs.Listing.{le4}
 
 -- A place of the answers is eight bytes: the kind and the value that one lookup answers, four bytes each, low byte first.
 unfoldable pub place : Lookup → List ℕ

@@ -26,7 +26,15 @@ pub struct Batch {
     pub texts: usize,
 }
 
-// How many texts there are: each 0 ends one.
+// The end of the next block of characters: short enough for its zeros to be counted in 16 bits.
+fn block_end(at: usize, end: usize) -> usize
+    requires { ⌜ (at < end) × (at % 2 ≡ 0) × (end % 2 ≡ 0) ⌝ }
+    ensures { λ r. ⌜ (at < r) × (r ≤ end) × (r ≤ at + 8192) × (r % 2 ≡ 0) ⌝ }
+{
+    if end - at < 8192 { end } else { at + 8192 }
+}
+
+// How many texts there are: each 0 ends one. A block is counted in 16 bits, since the compiler then takes eight characters at a step.
 fn count_texts(texts: &[u8]) -> usize
     requires { ⌜ length (now texts) % 2 ≡ 0 ⌝ }
     ensures { λ r. ⌜ r ≡ length (namesOf (now (texts .entry))) ⌝ }
@@ -34,10 +42,15 @@ fn count_texts(texts: &[u8]) -> usize
     let mut n = 0usize;
     let mut at = 0;
     while at < texts.len() {
-        if le::u16_at(texts, at) == 0 {
-            n += 1;
+        let end = block_end(at, texts.len());
+        let mut zeros = 0u16;
+        while at < end {
+            if le::u16_at(texts, at) == 0 {
+                zeros += 1;
+            }
+            at += 2;
         }
-        at += 2;
+        n += zeros as usize;
     }
     n
 }
@@ -49,12 +62,12 @@ fn put_place(answers: &mut [u8], at: usize, l: Lookup)
 {
     match l {
         Lookup::Found(n) => {
-            path::below::put_u32(answers, at, 0);
-            path::below::put_u32(answers, at + 4, n);
+            le::put_u32(answers, at, 0);
+            le::put_u32(answers, at + 4, n);
         }
         Lookup::Absent => {
-            path::below::put_u32(answers, at, 1);
-            path::below::put_u32(answers, at + 4, 0);
+            le::put_u32(answers, at, 1);
+            le::put_u32(answers, at + 4, 0);
         }
     }
 }
@@ -83,7 +96,7 @@ fn put_places(
     let mut at = 0;
     while at < texts.len() {
         let n = group::take(texts, t, at, &mut lengths, &mut hashes);
-        group::settle(b, s, samples, starts, &hashes, n, &mut low);
+        group::bring_near(b, s, samples, starts, &hashes, n, &mut low);
         let mut j = 0;
         while j < n {
             let k = lengths[j];

@@ -4,7 +4,7 @@ use native.Mathlib.Nat.{pow-suc, div-lt-iff-lt-mul}
 use native.Mathlib.Omega.{arith}
 use mathlib.Core.Path.{_≡_, refl}
 use mathlib.Core.Logic.{⊎-elim}
-use mathlib.Core.List.{List, [], _∷_, _++_}
+use mathlib.Core.List.{List, [], _∷_}
 use borrow.Author.Tests.{lt-ltb, le-ltb}
 use lib.ListN.{length, length-append}
 use Rattle.laws.proofs.Order.{le-or-lt}
@@ -59,24 +59,17 @@ file-decimal x h = few-digits 20 4 x (omega arith)
 
 -- ---- the lines
 
-number-line : (w : List ℕ) (x : ℕ) → length (w ++ (decimal x ++ (10 ∷ []))) ≡ length w + length (decimal x) + 1
-number-line w x = omega (arith, length-append w (decimal x ++ (10 ∷ [])), length-append (decimal x) (10 ∷ []))
-
 bad-long : (n : ℕ) → length (badLine n) ≤ 65551
 unfolding badLine
-bad-long n = omega (arith, number-line (0x62 ∷ 0x61 ∷ 0x64 ∷ 0x20 ∷ 0x6c ∷ 0x69 ∷ 0x6e ∷ 0x65 ∷ 0x20 ∷ []) n, any-decimal n)
+bad-long n = simp length-append (omega (arith, any-decimal n))
 
 refused-long : (r p : ℕ) → length (refusedLine r p) ≤ 65551
 unfolding refusedLine
-refused-long r p =
-    let w : List ℕ = 0x20 ∷ 0x61 ∷ 0x74 ∷ 0x20 ∷ [] in
-    let v : List ℕ = 0x72 ∷ 0x65 ∷ 0x66 ∷ 0x75 ∷ 0x73 ∷ 0x65 ∷ 0x64 ∷ 0x20 ∷ [] in
-    let t : List ℕ = w ++ (decimal p ++ (10 ∷ [])) in
-    omega (arith, length-append v (decimal r ++ t), length-append (decimal r) t, number-line w p, any-decimal r, any-decimal p)
+refused-long r p = simp length-append (omega (arith, any-decimal r, any-decimal p))
 
 accepted-long : (l : ℕ) → l ≤ 32768 → length (acceptedLine l) ≤ 15
 unfolding acceptedLine
-accepted-long l h = omega (arith, number-line (0x61 ∷ 0x63 ∷ 0x63 ∷ 0x65 ∷ 0x70 ∷ 0x74 ∷ 0x65 ∷ 0x64 ∷ 0x20 ∷ []) l, file-decimal l h)
+accepted-long l h = simp length-append (omega (arith, file-decimal l h))
 
 -- ---- the whole
 

@@ -9,15 +9,11 @@ use lib.Seq.{take-at}
 use Rattle.laws.specs.Lists.{splice}
 use Rattle.verdict.specs.Checks.{firstFault}
 use Rattle.verdict.specs.declared.Verdict.{Verdict}
-use Rattle.verdict.specs.declared.Verdict.the-variants.{Accepted, Refused}
+use Rattle.verdict.specs.declared.Verdict.the-variants.{Accepted}
 use Rattle.print.specs.Put.{Put}
 use Rattle.print.proofs.Puts.{put-same, put-length, put-front}
-use Rattle.layout.specs.View.{Fits}
-use Rattle.layout.specs.declared.View.{View}
-use Rattle.accept.specs.Rules.{FileRules}
 use Rattle.accept.specs.Verdict.{verdictOf}
 use Rattle.outline.specs.Outline.{outlineOf}
-use Rattle.outline.specs.Ready.{OutlineReady}
 use Rattle.outline.specs.Outlined.{outlineChecks, outlineAfter}
 use Rattle.frames.specs.Frames.{framesFrom, fileOf, framesOf}
 use Rattle.frames.specs.declared.Frames.{Frames}
@@ -25,27 +21,16 @@ use Rattle.frames.specs.declared.Frames.the-variants.{Bytes, Bad}
 use Rattle.frames.specs.Lines.{linesOf}
 use Rattle.frames.proofs.Tests.{by-test}
 use Rattle.frames.proofs.Cut.{file-fits}
-use Rattle.dcdump.specs.Messages.{badLine, refusedLine, acceptedLine}
+use Rattle.dcdump.specs.Messages.{badLine, acceptedLine}
 use Rattle.dcdump.specs.Output.{reportAccepted, reportFile, reportFrames, outputOf}
 use Rattle.dcdump.proofs.Lengths.{outline-fits, output-long}
 
--- ---- an accepted file
+-- a verdict w that was told with the buffer that there was is reported as that of a buffer of the stated size
+pub reported : (f : Verdict → List ℕ) (verdict : ℕ → Verdict) {room most : ℕ} {v w : Verdict} → v ≡ verdict room → most ≡ room → v ≡ w
+    → f w ≡ f (verdict most)
+reported f verdict e s g = sym (ap f (ap verdict s ∙ sym e ∙ g))
 
--- what the outline is written from
-pub ready : (b : List ℕ) (v : View) → FileRules b → Fits b v
-    → OutlineReady b (v .places) (v .«attribute_starts») (v .«node_starts») (v .«value_starts») (v .«name_starts»)
-ready b v r f =
-    record {
-      line =
-          record {
-            rules = r;
-            placed = f .places;
-            attributes = f .«attribute_starts»;
-            values = f .«value_starts»;
-            names = f .«name_starts»;
-          };
-      nodes = f .«node_starts»;
-    }
+-- ---- an accepted file
 
 -- the text that was written, at its length
 outline-text : (b text text′ : List ℕ) (n : ℕ) (v : Verdict) → text′ ≡ outlineAfter b text v → v ≡ Accepted → n ≡ length (outlineOf b) → take n text′ ≡ outlineOf b
@@ -53,36 +38,17 @@ unfolding outlineAfter
 outline-text b text text′ n v e f l =
     ap (take n) (e ∙ ap (outlineAfter b text) f) ∙ take-at (outlineOf b) (drop (length (outlineOf b)) text) n (sym l)
 
-module _ (b : List ℕ) (room : ℕ) {v : Verdict} (e : v ≡ firstFault (outlineChecks b room)) (s : room ≡ 65536) where
-  verdict-is : firstFault (outlineChecks b 65536) ≡ v
-  verdict-is = sym (e ∙ ap (λ (r : ℕ). firstFault (outlineChecks b r)) s)
+module _ (b : List ℕ) (room : ℕ) {v : Verdict} (e : v ≡ firstFault (outlineChecks b room)) (s : 65536 ≡ room) (f : v ≡ Accepted) (n : ℕ)
+    (l : n ≡ length (outlineOf b)) where
+  pub shown-fits : (text : List ℕ) → length text ≡ room → n ≤ length text
+  shown-fits text h = omega (arith, outline-fits b room (sym e ∙ f))
 
-  pub shown-refused : {r p : ℕ} → v ≡ Refused r p → refusedLine r p ≡ reportAccepted b (firstFault (outlineChecks b 65536))
-  unfolding reportAccepted
-  shown-refused f = sym (ap (reportAccepted b) (verdict-is ∙ f))
-
-  pub shown-fits : (n : ℕ) (text : List ℕ) → v ≡ Accepted → n ≡ length (outlineOf b) → length text ≡ 65536 → n ≤ length text
-  shown-fits n text f l h = omega (arith, outline-fits b 65536 (verdict-is ∙ f))
-
-  pub shown-accepted : (n : ℕ) (text text′ : List ℕ) → v ≡ Accepted → text′ ≡ outlineAfter b text v → n ≡ length (outlineOf b)
+  pub shown-accepted : (text text′ : List ℕ) → text′ ≡ outlineAfter b text v
       → acceptedLine (length b) ++ take n text′ ≡ reportAccepted b (firstFault (outlineChecks b 65536))
   unfolding reportAccepted
-  shown-accepted n text text′ f g l =
-      ap (λ (t : List ℕ). acceptedLine (length b) ++ t) (outline-text b text text′ n v g f l) ∙ sym (ap (reportAccepted b) (verdict-is ∙ f))
-
--- ---- a file
-
-module _ (b : List ℕ) (room : ℕ) {v : Verdict} (e : v ≡ verdictOf b room) (s : room ≡ 2048) where
-  judgement-is : verdictOf b 2048 ≡ v
-  judgement-is = sym (e ∙ ap (verdictOf b) s)
-
-  pub judged-refused : {r p : ℕ} → v ≡ Refused r p → refusedLine r p ≡ reportFile b (verdictOf b 2048)
-  unfolding reportFile
-  judged-refused f = sym (ap (reportFile b) (judgement-is ∙ f))
-
-  pub judged-accepted : v ≡ Accepted → reportAccepted b (firstFault (outlineChecks b 65536)) ≡ reportFile b (verdictOf b 2048)
-  unfolding reportFile
-  judged-accepted f = sym (ap (reportFile b) (judgement-is ∙ f))
+  shown-accepted text text′ g =
+      ap (λ (t : List ℕ). acceptedLine (length b) ++ t) (outline-text b text text′ n v g f l)
+      ∙ reported (reportAccepted b) (λ (r : ℕ). firstFault (outlineChecks b r)) e s f
 
 -- ---- an input
 

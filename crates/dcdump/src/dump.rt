@@ -22,7 +22,7 @@ fn put_outline(out: &mut [u8], l: usize, text: &[u8], n: usize) -> usize
     requires { ⌜ n ≤ length (now text) ⌝ }
     ensures { λ r. ⌜ Put (now (out .entry)) 0 (acceptedLine l ++ take n (now (text .entry))) r (now (out .exit)) ⌝ }
 {
-    let p = messages::put_accepted(out, l);
+    let p = messages::put_line(out, 0, b"accepted ", l);
     print::put_bytes(out, p, &text[..n])
 }
 
@@ -49,7 +49,7 @@ fn show(b: &[u8], v: View, out: &mut [u8]) -> usize
     );
     let a = o.answer;
     match a {
-        Verdict::Refused(num, place) => messages::put_refused(out, num as usize, place),
+        Verdict::Refused(num, place) => messages::put_refused(out, num, place),
         Verdict::Accepted => put_outline(out, b.len(), &text, o.length),
     }
 }
@@ -62,7 +62,7 @@ fn judge(b: &[u8], out: &mut [u8]) -> usize
     let r = accept::accept(b, &mut ws);
     let a = r.answer;
     match a {
-        Verdict::Refused(num, place) => messages::put_refused(out, num as usize, place),
+        Verdict::Refused(num, place) => messages::put_refused(out, num, place),
         Verdict::Accepted => {
             let v = r.view;
             show(b, v, out)
@@ -79,6 +79,6 @@ pub fn dump(input: &[u8], out: &mut [u8]) -> usize
     let mut file = buffers::file();
     match frames::read_frames(input, &mut file) {
         Frames::Bytes(n) => judge(&file[..n], out),
-        Frames::Bad(n) => messages::put_bad(out, n),
+        Frames::Bad(n) => messages::put_line(out, 0, b"bad line ", n),
     }
 }

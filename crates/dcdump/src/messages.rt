@@ -1,32 +1,23 @@
-// The lines that the program writes (01, "The program"), at the front of a buffer.
+// The lines that the program writes (01, "The program").
+ghost use mathlib.Core.List.{[], _∷_, _++_};
 ghost use Rattle.print.specs.Put.{Put};
-ghost use Rattle.dcdump.specs.Messages.{badLine, refusedLine, acceptedLine};
+ghost use Rattle.print.specs.Text.{decimal};
+ghost use Rattle.dcdump.specs.Messages.{refusedLine};
 
-// The first bad line.
-pub fn put_bad(out: &mut [u8], n: usize) -> usize
-    ensures { λ r. ⌜ Put (now (out .entry)) 0 (badLine n) r (now (out .exit)) ⌝ }
+// A line, or its end: words, and the number after them.
+pub fn put_line(out: &mut [u8], at: usize, words: &[u8], n: usize) -> usize
+    ensures { λ r. ⌜ Put (now (out .entry)) at (now (words .entry) ++ (decimal n ++ (0x0a ∷ []))) r (now (out .exit)) ⌝ }
 {
-    let p = print::put_bytes(out, 0, b"bad line ");
+    let p = print::put_bytes(out, at, words);
     let q = print::put_decimal(out, p, n);
     print::put(out, q, b'\n')
 }
 
-// A refusal: its number and its place.
-pub fn put_refused(out: &mut [u8], num: usize, place: usize) -> usize
+// A refusal, at the front of a buffer: its number and its place.
+pub fn put_refused(out: &mut [u8], num: u32, place: usize) -> usize
     ensures { λ r. ⌜ Put (now (out .entry)) 0 (refusedLine num place) r (now (out .exit)) ⌝ }
 {
     let p = print::put_bytes(out, 0, b"refused ");
-    let q = print::put_decimal(out, p, num);
-    let s = print::put_bytes(out, q, b" at ");
-    let t = print::put_decimal(out, s, place);
-    print::put(out, t, b'\n')
-}
-
-// An accepted file's length.
-pub fn put_accepted(out: &mut [u8], n: usize) -> usize
-    ensures { λ r. ⌜ Put (now (out .entry)) 0 (acceptedLine n) r (now (out .exit)) ⌝ }
-{
-    let p = print::put_bytes(out, 0, b"accepted ");
-    let q = print::put_decimal(out, p, n);
-    print::put(out, q, b'\n')
+    let q = print::put_decimal(out, p, num as usize);
+    put_line(out, q, b" at ", place)
 }

@@ -1,1 +1,3 @@
 pub mod Nan
+pub mod Four
+pub mod Numbers

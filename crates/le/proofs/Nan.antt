@@ -1,7 +1,7 @@
 -- Which patterns are a NaN's, over the format. Assumes nothing.
 use Prim.Native.Nat.{ℕ, _%_, _*_, _≤_, _<_}
 use mathlib.Core.Path.{_≡_, refl, sym, subst, _∙_}
-use mathlib.Core.Bool.{Bool, true, false, not}
+use mathlib.Core.Bool.{Bool, true, not}
 use borrow.Author.Tests.{le-ltb, lt-ltb}
 use lib.Dec.{T}
 use lib.Ieee.{Format, Float, nan, inf, fin, isNan, ofBits, nanBits, ones, hid, top}

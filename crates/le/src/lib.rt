@@ -3,7 +3,8 @@ ghost use mathlib.Core.Path.{_≡_};
 ghost use Prim.Native.Nat.{_+_, _≤_, _<_, _^_};
 ghost use lib.ListN.{length};
 ghost use lib.Ieee.{ofBits, binary32, binary64};
-ghost use Rattle.le.specs.Le.{u16At, u32At, u64At};
+ghost use Rattle.laws.specs.Lists.{splice};
+ghost use Rattle.le.specs.Le.{u16At, u32At, u64At, le4};
 ghost use Rattle.le.specs.Floats.{singleOf, doubleAt};
 
 fn byte(x: u8) -> usize
@@ -38,6 +39,17 @@ pub fn u64_at(s: &[u8], at: usize) -> u64
     ensures { λ r. ⌜ r ≡ u64At (now (s .entry)) at ⌝ }
 {
     u32_at(s, at) as u64 + (u32_at(s, at + 4) as u64) * 4294967296
+}
+
+// Writes a number's four low bytes.
+pub fn put_u32(d: &mut [u8], at: usize, x: usize)
+    requires { ⌜ at + 4 ≤ length (now d) ⌝ }
+    ensures { λ _. ⌜ now (d .exit) ≡ splice (now (d .entry)) at (le4 x) ⌝ }
+{
+    d[at] = (x % 256) as u8;
+    d[at + 1] = (x / 256 % 256) as u8;
+    d[at + 2] = (x / 65536 % 256) as u8;
+    d[at + 3] = (x / 16777216 % 256) as u8;
 }
 
 // A float beside its bits: a NaN's own bits cannot live in the float.

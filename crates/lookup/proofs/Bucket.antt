@@ -18,10 +18,11 @@ use Rattle.strings.specs.Texts.{textOf}
 use Rattle.strings.specs.Rules.{Resolved}
 use Rattle.strings.specs.Held.{Here}
 use Rattle.strings.specs.Order.{stringChecks}
-use Rattle.strings.specs.Search.{Lower}
+use Rattle.search.specs.Lower.{Lower}
 use Rattle.strings.proofs.Accepted.{strings-parts, all-good}
 use Rattle.strings.proofs.Spots.{Spotted}
-use Rattle.strings.proofs.Only.{bucket-of, none-after, none-before}
+use Rattle.strings.proofs.Only.{bucket-of, none-after}
+use Rattle.search.proofs.Nearby.{none-before}
 use Rattle.lookup.specs.Lookup.{Borne, entryOfText}
 use Rattle.lookup.specs.declared.Lookup.the-variants.{Found, Absent}
 use Rattle.lookup.proofs.Found.{told-none, told-some}

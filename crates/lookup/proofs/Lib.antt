@@ -2,4 +2,3 @@ pub mod Found
 pub mod Bucket
 pub mod Told
 pub mod ByKind
-pub mod Nearby

@@ -10,15 +10,11 @@ ghost use Rattle.text.specs.Text.{chars};
 ghost use Rattle.strings.specs.Texts.{textOf};
 ghost use Rattle.strings.specs.Order.{stringChecks};
 ghost use Rattle.strings.specs.Held.{Held, heldTable, Here};
-ghost use Rattle.strings.specs.Search.{Lower};
+ghost use Rattle.search.specs.Lower.{Lower};
 ghost use Rattle.lookup.specs.Lookup.{entryOfText, indexOfText, addressOfText};
 ghost use Rattle.lookup.specs.Kinds.{toldIn};
-
-pub mod near;
-
 use strings::Strings;
 use strings::entry;
-use strings::search;
 use strings::spot;
 use strings::spot::Spot;
 

@@ -1,16 +1,16 @@
 -- Refusal 19: an address is looked for in the bucket of the text there, among the entries with its hash. Assumes nothing.
 use Prim.Native.Nat.{ℕ, _+_, _*_, _≤_, _<_}
 use native.Mathlib.Omega.{arith}
-use mathlib.Core.Path.{_≡_, ap, sym, subst, _∙_}
-use mathlib.Core.Bool.{Bool, true, false, true≢false, false≢true}
-use mathlib.Core.Logic.{⊎-elim}
+use mathlib.Core.Path.{_≡_, refl, ap, sym, subst, _∙_}
+use mathlib.Core.Bool.{Bool, true, false}
 use mathlib.Core.List.{List}
 use lib.ListN.{length}
-use borrow.Author.Count.{below-more}
-use Rattle.laws.proofs.Order.{le-or-lt}
 use Rattle.verdict.specs.Checks.{Tells}
 use Rattle.verdict.proofs.Laws.{Clean, tells-yes, tells-no}
-use Rattle.le.specs.Le.{u16At}
+use Rattle.le.specs.Le.{u16At, u32At}
+use Rattle.le.proofs.Numbers.{Bytes, pairs, halves}
+use Rattle.verdict.specs.Decide.{SomeBelow}
+use Rattle.search.specs.Run.{wordOf, Meets}
 use Rattle.words.specs.Words.{typeOf, extendedOf}
 use Rattle.hash.specs.Hash.{hashText, bucketOf}
 use Rattle.hash.specs.Fold.{valueHash}
@@ -19,67 +19,48 @@ use Rattle.text.specs.Text.{textIn, textAt}
 use Rattle.text.specs.Measure.{Hashed}
 use Rattle.text.specs.declared.Hashes.{Hashes}
 use Rattle.text.proofs.Laws.{room-fits}
-use Rattle.layout.specs.Table.{Table, entries, hashOf, segmentOf, elementOf}
+use Rattle.layout.specs.Table.{Table, entries, entryAt, hashOf, segmentOf, elementOf}
 use Rattle.layout.specs.Layout.{values}
 use Rattle.strings.specs.Texts.{textTo, spotAt}
 use Rattle.strings.specs.Order.{allEntryChecks, stringChecks}
-use Rattle.strings.specs.Search.{Lower}
 use Rattle.strings.specs.declared.spot.Spot.{Spot}
 use Rattle.strings.specs.declared.spot.Spot.the-variants.{At, Nowhere}
 use Rattle.strings.proofs.Accepted.{all-good, strings-parts}
-use Rattle.strings.proofs.Only.{text-of-address, hash-of, bucket-of, rises}
+use Rattle.strings.proofs.Only.{text-of-address, hash-of, bucket-of}
 use Rattle.strings.proofs.Spots.{spot-in, spot-out}
 use Rattle.nodes.specs.Attribute.{typeWord, textSegment, textElement}
 use Rattle.nodes.specs.Rules.{EntryAddress, TextRule, TextRight}
-use Rattle.nodes.specs.Search.{AddressIn}
 use Rattle.nodes.proofs.Fields.{kind-is, extended-is}
 
--- ---- a bucket
+-- ---- an entry's address, as one number: that of the address at p
 
--- what the loop has passed: entries without the hash or without the address; from there on no hash is below
-pub record Passed (t : Table) (k h seg el n j : ℕ) : Type 0 where
-  pub many : n ≡ entries t k
-  pub none : (m : ℕ) → m < j → hashOf t k m ≡ h → segmentOf t k m ≡ seg → elementOf t k m ≡ el → ⊥
-  pub above : (m : ℕ) → j ≤ m → m < entries t k → h ≤ hashOf t k m
+module _ (b : List ℕ) (f : Bytes b) (p : ℕ) (t : Table) (same : t .bytes ≡ b) (k j : ℕ) where
+  pub address-of : wordOf t k j 12 ≡ u32At b p → (segmentOf t k j ≡ u16At b p) × (elementOf t k j ≡ u16At b (p + 2))
+  unfolding segmentOf elementOf
+  address-of e =
+      let x = entryAt t k j in
+      let z : x + 12 + 2 ≡ x + 14 = omega arith in
+      let w = halves (t .bytes) b (x + 12) p (λ i. rw same (f i)) f e in
+      (w .0, ap (u16At (t .bytes)) (sym z) ∙ w .1)
 
-pub passed-start : (t : Table) (k h seg el n j : ℕ) → n ≡ entries t k → Lower t k h j → Passed t k h seg el n j
-passed-start t k h seg el n j e w = record { many = e; none = λ m a g. absurd (below a g); above = w .above }
-  where
-    below : {m : ℕ} → m < j → hashOf t k m ≡ h → ⊥
-    below {m} a g = omega (arith, w .below m a)
+  address-number : segmentOf t k j ≡ u16At b p → elementOf t k j ≡ u16At b (p + 2) → wordOf t k j 12 ≡ u32At b p
+  unfolding segmentOf elementOf
+  address-number g h =
+      let x = entryAt t k j in
+      let z : x + 12 + 2 ≡ x + 14 = omega arith in
+      pairs (t .bytes) b (x + 12) p g (ap (u16At (t .bytes)) z ∙ h)
 
-module _ (t : Table) (k h seg el n j : ℕ) (r : Passed t k h seg el n j) where
-  passed-on : (segmentOf t k j ≡ seg → elementOf t k j ≡ el → ⊥) → Passed t k h seg el n (j + 1)
-  passed-on f = record {
-    many = r .many;
-    none = below-more _ j (r .none) (λ g. f);
-    above = λ m a. r .above m (omega arith);
-  }
+-- an entry of bucket k has the address seg:el; or none with hash h does
+record AddressIn (t : Table) (k h seg el : ℕ) (r : Bool) : Type 0 where
+  so : r ≡ true → SomeBelow (entries t k) (λ j. (segmentOf t k j ≡ seg) × (elementOf t k j ≡ el))
+  not : r ≡ false → (j : ℕ) → j < entries t k → hashOf t k j ≡ h → segmentOf t k j ≡ seg → elementOf t k j ≡ el → ⊥
 
-  pub passed-segment : (x : ℕ) → x ≡ segmentOf t k j → (x ≡ seg → ⊥) → Passed t k h seg el n (j + 1)
-  passed-segment x p f = passed-on (λ a c. f (p ∙ a))
-
-  pub passed-element : (y : ℕ) → y ≡ elementOf t k j → (y ≡ el → ⊥) → Passed t k h seg el n (j + 1)
-  passed-element y p f = passed-on (λ a c. f (p ∙ c))
-
-  pub address-found : j < n → (x y : ℕ) → x ≡ segmentOf t k j → x ≡ seg → y ≡ elementOf t k j → y ≡ el → AddressIn t k h seg el true
-  address-found l x y p a q c = record {
-    so = λ w. (j, omega (arith, r .many), (sym p ∙ a, sym q ∙ c));
-    not = λ w. absurd (true≢false w);
-  }
-
-  pub address-none : n ≤ j → AddressIn t k h seg el false
-  address-none l = record { so = λ w. absurd (false≢true w); not = λ w m a. r .none m (omega (arith, r .many)) }
-
-  -- behind an entry with another hash, which is above, none has the hash
-  pub address-over : Clean (allEntryChecks t) → k < t .buckets → j < n → (w : ℕ) → w ≡ hashOf t k j → (w ≡ h → ⊥) → AddressIn t k h seg el false
-  address-over ok b l w e f = record {
-    so = λ z. absurd (false≢true z);
-    not = λ z m a g. ⊎-elim (λ d. absurd (past m a g d)) (λ d. r .none m d g) (le-or-lt j m);
-  }
-    where
-      past : (m : ℕ) → m < entries t k → hashOf t k m ≡ h → j ≤ m → ⊥
-      past m a g d = f (omega (arith, e, r .above j (omega arith) (omega (arith, r .many)), rises t ok k j m b d a))
+address-in : (b : List ℕ) → Bytes b → (p : ℕ) (t : Table) → t .bytes ≡ b → (k h w : ℕ) {r : Bool} → w ≡ u32At b p → Meets t k h 12 w r
+    → AddressIn t k h (u16At b p) (u16At b (p + 2)) r
+address-in b f p t same k h w e m = record {
+  so = λ z. let s = m .so z in (s .0, s .1, address-of b f p t same k (s .0) (s .2 ∙ e));
+  not = λ z j l g x y. m .not z j l g (address-number b f p t same k j x y ∙ sym e);
+}
 
 -- ---- the table
 
@@ -123,18 +104,26 @@ module _ (b : List ℕ) (q w y : ℕ) (e : w ≡ u16At b (q + 2)) (f : y ≡ typ
   pub other-type : (y ≡ 3 → ⊥) → Tells (TextRight b q) true
   other-type d = tells-yes (λ z. absurd (d (sym (kind-is b q w e y f) ∙ z)))
 
-  module _ (three : y ≡ 3) (t : Table) (same : t ≡ values b) (ok : Clean (stringChecks (values b))) (seg el : ℕ)
-      (a : seg ≡ u16At b (q + 4)) (c : el ≡ u16At b (q + 6)) where
+  module _ (three : y ≡ 3) (t : Table) (same : t ≡ values b) (ok : Clean (stringChecks (values b))) where
+    abbrev pub seg : ℕ
+    seg = u16At b (q + 4)
+
+    abbrev pub el : ℕ
+    el = u16At b (q + 4 + 2)
+
     passed : Clean (allEntryChecks t)
     passed = clean-entries b t same ok
 
+    behind : u16At b (q + 4 + 2) ≡ u16At b (q + 6)
+    behind = let z : q + 4 + 2 ≡ q + 6 = omega arith in ap (u16At b) z
+
     there : (P : Table → ℕ → ℕ → Type 0) → P t seg el → P (values b) (textSegment b q) (textElement b q)
     unfolding textSegment textElement
-    there P h = moved P same a c h
+    there P h = moved P same refl behind h
 
     back : (P : Table → ℕ → ℕ → Type 0) → P (values b) (textSegment b q) (textElement b q) → P t seg el
     unfolding textSegment textElement
-    back P h = moved P (sym same) (sym a) (sym c) h
+    back P h = moved P (sym same) refl (sym behind) h
 
     rule-of : TextRight b q → TextRule b q
     rule-of r = r (kind-is b q w e y f ∙ three)
@@ -161,9 +150,9 @@ module _ (b : List ℕ) (q w y : ℕ) (e : w ≡ u16At b (q + 2)) (f : y ≡ typ
               ∙ back (λ s k j. extendedOf (typeWord b q) ≡ valueHash (textTo s k j)) (rule-of u .hash)
               ∙ ap valueHash (sym text-there) ∙ sym (m .value)))
 
-          pub text-told : v ≡ h .value → (k : ℕ) → (k ≡ bucketOf (t .buckets) (h .hash)) × (k < t .buckets) → {o : Bool}
-              → AddressIn t k (h .hash) seg el o → Tells (TextRight b q) o
-          text-told d k l {o} p = record {
+          pub text-told : Bytes b → t .bytes ≡ b → v ≡ h .value → (k : ℕ) → (k ≡ bucketOf (t .buckets) (h .hash)) × (k < t .buckets)
+              → (address : ℕ) → address ≡ u32At b (q + 4) → {o : Bool} → Meets t k (h .hash) 12 address o → Tells (TextRight b q) o
+          text-told bytes here d k l address g {o} p = record {
             so = λ u s. record {
               entry = there EntryAddress (told .so u);
               hash = there (λ s k j. extendedOf (typeWord b q) ≡ valueHash (textTo s k j))
@@ -173,4 +162,5 @@ module _ (b : List ℕ) (q w y : ℕ) (e : w ≡ u16At b (q + 2)) (f : y ≡ typ
           }
             where
               told : Tells (EntryAddress t seg el) o
-              told = address-told t passed seg el (h .hash) k (m .hashed ∙ ap hashText text-there) (l .0) (l .1) p
+              told = address-told t passed seg el (h .hash) k (m .hashed ∙ ap hashText text-there) (l .0) (l .1)
+                  (address-in b bytes (q + 4) t here k (h .hash) address g p)

@@ -1,16 +1,15 @@
 -- The scan over all nodes: whether there is a root, and what the loops over segments and nodes have left. Assumes nothing.
-use Prim.Native.Nat.{ℕ, _+_, _*_, _≤_, _<_}
+use Prim.Native.Nat.{ℕ, _+_, _*_, _<_}
 use native.Mathlib.Omega.{arith}
 use mathlib.Core.Path.{_≡_, refl, ap, sym, _∙_}
 use mathlib.Core.List.{List}
-use lib.ListN.{length}
 use Rattle.le.specs.Le.{u32At}
 use Rattle.verdict.specs.Checks.{firstFault}
 use Rattle.verdict.specs.declared.Verdict.{Verdict}
 use Rattle.verdict.specs.declared.Verdict.the-variants.{Refused}
 use Rattle.verdict.proofs.Laws.{pass, stop}
 use Rattle.region.specs.declared.Region.{Region}
-use Rattle.region.specs.Region.{Resolves, countOf, startOf, usedOf, placeOf}
+use Rattle.region.specs.Region.{Resolves, countOf, startOf, usedOf}
 use Rattle.region.specs.Samples.{Mapped}
 use Rattle.region.proofs.Samples.{start-more, used-at, place-at}
 use Rattle.layout.specs.Layout.{nodeSize, nodesAt}

@@ -6,18 +6,18 @@ ghost use Rattle.verdict.specs.Checks.{Tells, firstFault};
 ghost use Rattle.verdict.specs.declared.Verdict.the-variants.{Accepted};
 ghost use Rattle.hash.specs.Table.{Tables};
 ghost use Rattle.layout.specs.Layout.{values};
-ghost use Rattle.strings.specs.Order.{allEntryChecks, stringChecks};
+ghost use Rattle.strings.specs.Order.{stringChecks};
 ghost use Rattle.strings.specs.Held.{Held, heldTable};
 ghost use Rattle.keys.specs.Known.{Known};
 ghost use Rattle.nodes.specs.Node.{attributeCount, attributeAt};
 ghost use Rattle.nodes.specs.Attribute.{Typed};
 ghost use Rattle.nodes.specs.Rules.{AttributeRule, TextRight, TextsOf};
 ghost use Rattle.nodes.specs.Order.{nodeAttributeChecks};
-ghost use Rattle.nodes.specs.Search.{Sure, AddressIn};
+ghost use Rattle.nodes.specs.Search.{Sure};
 use keys::Names;
+use search::run;
 use strings::Strings;
 use strings::entry;
-use strings::search;
 use strings::spot;
 use strings::spot::Spot;
 use verdict::Verdict;
@@ -74,38 +74,6 @@ fn attribute_right(b: &[u8], names: Names, p: usize, i: usize, q: usize) -> bool
     words::kind(le::u16_at(b, q + 2)) == 3
 }
 
-// Whether an entry of bucket k with hash h has the address seg:el.
-pub fn address_in(
-    b: &[u8],
-    s: Strings,
-    samples: &[u32; 256],
-    starts: &[u32],
-    k: usize,
-    h: usize,
-    seg: usize,
-    el: usize,
-) -> bool
-    requires { ⌜ Held (now b) s (now samples) (now starts) × (k < length (now starts))
-        × (firstFault (allEntryChecks (heldTable (now b) s (now starts))) ≡ Accepted) ⌝ }
-    ensures { λ r. ⌜ AddressIn (heldTable (now (b .entry)) s (now (starts .entry))) k h seg el r ⌝ }
-{
-    let n = entry::entry_count(b, s, samples, starts, k);
-    let mut j = search::lower(b, s, samples, starts, k, h);
-    while j < n {
-        let e = entry::entry_at(b, s, samples, starts, k, j);
-        if le::u32_at(b, e) != h {
-            return false;
-        }
-        if le::u16_at(b, e + 12) == seg {
-            if le::u16_at(b, e + 14) == el {
-                return true;
-            }
-        }
-        j += 1;
-    }
-    false
-}
-
 // Whether refusal 19 is not due to the attribute at q. An entry with its address would stand in the bucket of the text there.
 fn text_right(
     b: &[u8],
@@ -123,9 +91,7 @@ fn text_right(
     if words::kind(word) != 3 {
         return true;
     }
-    let seg = le::u16_at(b, q + 4);
-    let el = le::u16_at(b, q + 6);
-    let a = spot::spot_at(b, s.chars, samples, seg, el);
+    let a = spot::spot_to(b, s.chars, samples, q + 4);
     let Spot::At(x, n) = a else {
         return false;
     };
@@ -134,7 +100,9 @@ fn text_right(
         return false;
     }
     let k = hash::bucket(h.hash, starts.len());
-    address_in(b, s, samples, starts, k, h.hash, seg, el)
+    let low = search::lower(b, s, samples, starts, k, h.hash);
+    let address = le::u32_at(b, q + 4);
+    run::run_has(b, s, samples, starts, k, h.hash, low, 12, address)
 }
 
 // The same where it may be known of the attribute already.

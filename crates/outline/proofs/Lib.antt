@@ -4,7 +4,6 @@ pub mod Levels
 pub mod Widths
 pub mod Fits
 pub mod Rules
-pub mod Kin
 pub mod Addressed
 pub mod Written
 pub mod Parts

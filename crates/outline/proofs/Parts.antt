@@ -14,15 +14,17 @@ use Rattle.region.specs.declared.Place.the-variants.{At, Nowhere}
 use Rattle.region.proofs.Laws.{place-row}
 use Rattle.layout.specs.Layout.{attributeSize, attributesAt}
 use Rattle.layout.specs.declared.Places.{Places}
-use Rattle.nodes.specs.Node.{nodeName, attributeSegment, attributeElement, attributeCount, attributeAt}
+use Rattle.nodes.specs.Node.{attributeSegment, attributeElement, attributeCount, attributeAt}
 use Rattle.nodes.proofs.Sought.{lent}
 use Rattle.nodes.proofs.Ways.{attribute-count, attributes-sought, attributes-nowhere, attributes-start}
 use Rattle.tree.specs.Chain.{ranged}
 use Rattle.tree.specs.File.{nodeOf, treeOf}
+use Rattle.tree.specs.Children.{ChildrenOf}
+use Rattle.tree.specs.declared.ranges.Children.{Children}
+use Rattle.tree.proofs.Children.{first-is, count-is}
 use Rattle.print.proofs.Puts.{Left}
 use Rattle.outline.specs.Outline.{attributeText, line, shown, block}
-use Rattle.outline.specs.Ready.{AttributeReady, NodeReady, LineReady, Row, ChildrenOf}
-use Rattle.outline.specs.declared.blocks.Children.{Children}
+use Rattle.outline.specs.Ready.{AttributeReady, NodeReady, LineReady}
 
 -- what is left of a run, with the place and the buffer by other names
 pub left-same : {d d′ d″ : List ℕ} {i p q : ℕ} {s t : List ℕ} → Left d i s p t d′ → q ≡ p → d″ ≡ d′ → Left d i s q t d″
@@ -83,31 +85,20 @@ module _ (b : List ℕ) (f : ℕ → List ℕ) (c : ℕ) where
   unfolding shown
   shown-not h = rw (eq-eqb (treeOf b .name c) 0 h)
 
--- the name of a child, as it is read
-pub name-read : {b : List ℕ} {first q n : ℕ} → Row b first q n → (j : ℕ) → j < n → {c : ℕ} → c ≡ u16At b (q + j * 24) → c ≡ treeOf b .name (first + j)
-unfolding treeOf nodeName
-name-read {b} w j h e = e ∙ ap (u16At b) (w .node j h .1)
+-- they are the node's in the tree
+pub range-is : {b : List ℕ} (a : ℕ) {x : ℕ} → x ≡ nodeOf b a → {k : Children} → ChildrenOf b x k
+    → (f : ℕ → List ℕ) → ranged f (k .first) (k .count) ≡ ranged f (treeOf b .first a) (treeOf b .count a)
+range-is a q h f = rw (first-is a q h, count-is a q h)
 
 -- ---- a block
 
-module _ (b : List ℕ) (left level a x : ℕ) (q : x ≡ nodeOf b a) where
-  pub block-leaf : left ≡ 0 → line b level x ≡ block b left level a
+module _ (b : List ℕ) (level a x : ℕ) (q : x ≡ nodeOf b a) where
+  pub block-leaf : (left : ℕ) → left ≡ 0 → line b level x ≡ block b left level a
   unfolding block
-  block-leaf z = rw (z, q)
+  block-leaf left z = rw (z, q)
 
--- the children by number
-of-tree : (b : List ℕ) (a : ℕ) (r : Children) → ChildrenOf b (nodeOf b a) r → (r .first ≡ treeOf b .first a) × (r .count ≡ treeOf b .count a)
-unfolding treeOf
-of-tree b a r k = (k .first, k .count)
-
-block-below : (b : List ℕ) (left level a : ℕ) → (left ≡ 0 → ⊥) → {first count : ℕ} → first ≡ treeOf b .first a → count ≡ treeOf b .count a
-    → line b level (nodeOf b a) ++ ranged (shown b (block b (left - 1) (level + 1))) first count ≡ block b left level a
-unfolding block
-block-below b zero level a z e f = absurd (z refl)
-block-below b (suc left) level a z e f = rw (sub-one, e, f)
-
-pub block-more : (b : List ℕ) (left level a x : ℕ) → x ≡ nodeOf b a → (left ≡ 0 → ⊥) → (r : Children) → ChildrenOf b x r
-    → line b level x ++ ranged (shown b (block b (left - 1) (level + 1))) (r .first) (r .count) ≡ block b left level a
-block-more b left level a x q z r k =
-    let t = of-tree b a r (rw q at k) in
-    rw q (block-below b left level a z (t .0) (t .1))
+  pub block-more : (left : ℕ) → (left ≡ 0 → ⊥)
+      → line b level x ++ ranged (shown b (block b (left - 1) (level + 1))) (treeOf b .first a) (treeOf b .count a) ≡ block b left level a
+  unfolding block
+  block-more zero z = absurd (z refl)
+  block-more (suc left) z = rw (sub-one, q)

@@ -7,7 +7,7 @@ use mathlib.Core.List.{List}
 use lib.ListN.{length}
 use Rattle.verdict.specs.declared.Verdict.the-variants.{Accepted}
 use Rattle.region.proofs.Laws.{range-each, place-fits}
-use Rattle.layout.specs.Layout.{attributeSize, attributesAt, nodeSize, nodesAt}
+use Rattle.layout.specs.Layout.{attributeSize, attributesAt}
 use Rattle.layout.specs.View.{Fits}
 use Rattle.layout.specs.declared.View.{View}
 use Rattle.layout.specs.declared.Places.{Places}
@@ -15,7 +15,8 @@ use Rattle.nodes.specs.Node.{Live, attributeCount, nodeAt, attributeAt}
 use Rattle.nodes.specs.Rules.{NodeRules, AttributesReach}
 use Rattle.nodes.proofs.Accepted.{nodes-iff}
 use Rattle.tree.specs.File.{nodeOf, Used}
-use Rattle.tree.specs.Outcome.{TreeReady, Reached}
+use Rattle.tree.specs.Outcome.{TreeReady}
+use Rattle.tree.proofs.Children.{node-fits}
 use Rattle.accept.specs.Rules.{FileRules}
 use Rattle.accept.specs.Verdict.{verdictOf}
 use Rattle.accept.proofs.Accepted.{accepted-iff}
@@ -33,14 +34,6 @@ outline-ready b room v f e = record {
     names = f .«name_starts»;
   };
   nodes = f .«node_starts»;
-}
-
-pub tree-held : {b : List ℕ} {p : Places} {xs ns vs ms : List ℕ} → OutlineReady b p xs ns vs ms → TreeReady b (p .nodes) ns
-tree-held {b} r = record {
-  laid = r .line .rules .laid;
-  nodes = r .line .placed .nodes;
-  sampled = r .nodes;
-  accepted = nodes-iff b .1 (r .line .rules .nodes);
 }
 
 module _ (b : List ℕ) (r : FileRules b) where
@@ -67,16 +60,18 @@ module _ (b : List ℕ) (r : FileRules b) where
     };
   }
 
+module _ {b : List ℕ} {p : Places} {xs ns vs ms : List ℕ} (g : OutlineReady b p xs ns vs ms) where
+  pub tree-held : TreeReady b (p .nodes) ns
+  tree-held = record {
+    laid = g .line .rules .laid;
+    nodes = g .line .placed .nodes;
+    sampled = g .nodes;
+    accepted = nodes-iff b .1 (g .line .rules .nodes);
+  }
+
   -- a live node, wherever it stands
-  module _ (a x : ℕ) (u : Used b a) (q : x ≡ nodeOf b a) where
-    pub node-in : x + 24 ≤ length b
-    unfolding nodeOf nodeAt nodeSize
-    node-in = omega (arith, place-fits 24 b (nodesAt b) (r .laid .nodes) _ _ u)
-
-    pub node-ready : Live b x → NodeReady b x
-    unfolding nodeOf
-    node-ready l = rw q (rules-ready (a / 65536) (a % 65536) (r .nodes .each _ _ u) (rw q at node-in) (rw q at l))
-
-    pub node-reached : Reached b x
-    unfolding nodeOf
-    node-reached = rw q (r .nodes .each (a / 65536) (a % 65536) u .children .reach)
+  pub node-ready : (a x : ℕ) → Used b a → x ≡ nodeOf b a → Live b x → NodeReady b x
+  unfolding nodeOf
+  node-ready a x u q l =
+      let r = g .line .rules in
+      rw q (rules-ready b r (a / 65536) (a % 65536) (r .nodes .each _ _ u) (rw q at (node-fits tree-held a x u q)) (rw q at l))

@@ -1,6 +1,5 @@
 -- What the code holds when it writes the outline of an accepted file: the places, and the lent samples of segment starts.
-use Prim.Native.Nat.{ℕ, _+_, _*_, _≤_, _<_}
-use mathlib.Core.Path.{_≡_}
+use Prim.Native.Nat.{ℕ, _+_, _≤_, _<_}
 use mathlib.Core.List.{List}
 use lib.ListN.{length}
 use Rattle.region.specs.Region.{Resolves}
@@ -10,12 +9,10 @@ use Rattle.layout.specs.Layout.{attributeSize, nodeSize, attributesAt, nodesAt,
 use Rattle.layout.specs.View.{Placed}
 use Rattle.layout.specs.declared.Places.{Places}
 use Rattle.keys.specs.Names.{nameCount}
-use Rattle.nodes.specs.Node.{Live, nodeName, childSegment, childElement, attributeCount, childCount, attributeAt}
+use Rattle.nodes.specs.Node.{Live, nodeName, attributeCount, attributeAt}
 use Rattle.nodes.specs.Attribute.{attributeName, Typed}
 use Rattle.nodes.specs.Rules.{AttributesReach, TextRight}
-use Rattle.tree.specs.File.{address, nodeOf, Used}
 use Rattle.accept.specs.Rules.{FileRules}
-use Rattle.outline.specs.declared.blocks.Children.{Children}
 
 -- Samples of the values' characters, and of the names'.
 abbrev pub ValueStarts : List ℕ → Places → List ℕ → Type 0
@@ -52,18 +49,6 @@ pub record LineReady (b : List ℕ) (p : Places) (attributeStarts valueStarts na
 pub record OutlineReady (b : List ℕ) (p : Places) (attributeStarts nodeStarts valueStarts nameStarts : List ℕ) : Type 0 where
   pub line : LineReady b p attributeStarts valueStarts nameStarts
   pub nodes : Starts nodeSize b (nodesAt b) (p .nodes .shift) nodeStarts
-
--- Used nodes, `count` of them by number from `first` on, stand in a row at q.
-pub record Row (b : List ℕ) (first q count : ℕ) : Type 0 where
-  pub low : first < 4294967296
-  pub few : count < 65536
-  pub node : (j : ℕ) → j < count → Used b (first + j) × (q + j * 24 ≡ nodeOf b (first + j))
-
--- The children of the live node at x, as the code finds them.
-pub record ChildrenOf (b : List ℕ) (x : ℕ) (r : Children) : Type 0 where
-  pub first : r .first ≡ address (childSegment b x) (childElement b x)
-  pub count : r .count ≡ childCount b x
-  pub row : Row b (r .first) (r .place) (r .count)
 
 -- The address seg:el of the characters r resolves, and xs are their samples.
 pub record TextHeld (b : List ℕ) (r : Region) (xs : List ℕ) (seg el : ℕ) : Type 0 where

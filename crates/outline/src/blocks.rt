@@ -1,48 +1,16 @@
 // Lines and blocks. The node writer and the child-range writer call each other: a level deeper at each turn, never along the children.
 ghost use mathlib.Core.Path.{_≡_};
 ghost use Prim.Native.Nat.{_+_, _≤_};
-ghost use lib.ListN.{length};
 ghost use Rattle.nodes.specs.Node.{Live};
 ghost use Rattle.tree.specs.Chain.{ranged};
-ghost use Rattle.tree.specs.File.{Used, nodeOf};
-ghost use Rattle.tree.specs.Outcome.{TreeReady, Reached};
+ghost use Rattle.tree.specs.File.{Used, nodeOf, treeOf};
 ghost use Rattle.print.specs.Put.{Put};
 ghost use Rattle.outline.specs.Outline.{line, shown, block};
-ghost use Rattle.outline.specs.Ready.{NodeReady, LineReady, OutlineReady, Row, ChildrenOf};
+ghost use Rattle.outline.specs.Ready.{NodeReady, LineReady, OutlineReady};
 use crate::texts;
 use crate::values;
 use layout::Places;
-use region::Place;
-use region::Region;
-
-// A node's children: the number of the first, where it stands, and how many they are.
-pub struct Children {
-    pub first: usize,
-    pub place: usize,
-    pub count: usize,
-}
-
-// The children of the live node at x.
-fn children_of(b: &[u8], nodes: Region, starts: &[u32; 256], x: usize) -> Children
-    requires { ⌜ TreeReady (now b) nodes (now starts) × Reached (now b) x × Live (now b) x × (x + 24 ≤ length (now b)) ⌝ }
-    ensures { λ r. ⌜ ChildrenOf (now (b .entry)) x r ⌝ }
-{
-    let count = le::u16_at(b, x + 6);
-    let seg = le::u16_at(b, x + 16);
-    let el = le::u16_at(b, x + 18);
-    let first = seg * 65536 + el;
-    let mut place = 0;
-    if count > 0 {
-        if let Place::At(q) = region::range_at(b, nodes, 24, starts, seg, el, count) {
-            place = q;
-        }
-    }
-    Children {
-        first,
-        place,
-        count,
-    }
-}
+use tree::ranges;
 
 // The line of the live node at x.
 fn put_line(
@@ -98,7 +66,6 @@ pub fn write_node(
     if left == 0 {
         return e;
     }
-    let c = children_of(b, p.nodes, node_starts, x);
     write_range(
         b,
         p,
@@ -106,9 +73,8 @@ pub fn write_node(
         node_starts,
         value_starts,
         name_starts,
-        c.first,
-        c.place,
-        c.count,
+        a,
+        x,
         level + 1,
         left - 1,
         out,
@@ -116,7 +82,7 @@ pub fn write_node(
     )
 }
 
-// The blocks of the live ones among `count` nodes from number `first` on, which stand in a row at q.
+// The blocks of the live ones in the child range of node a, which stands at x.
 fn write_range(
     b: &[u8],
     p: Places,
@@ -124,23 +90,24 @@ fn write_range(
     node_starts: &[u32; 256],
     value_starts: &[u32; 256],
     name_starts: &[u32; 256],
-    first: usize,
-    q: usize,
-    count: usize,
+    a: usize,
+    x: usize,
     level: usize,
     left: usize,
     out: &mut [u8],
     at: usize,
 ) -> usize
     requires { ⌜ OutlineReady (now b) p (now «attribute_starts») (now «node_starts») (now «value_starts») (now «name_starts») ⌝ }
-    requires { ⌜ Row (now b) first q count × (level + left ≤ 63) ⌝ }
-    ensures { λ r. ⌜ Put (now (out .entry)) at (ranged (shown (now (b .entry)) (block (now (b .entry)) left level)) first count) r (now (out .exit)) ⌝ }
+    requires { ⌜ Used (now b) a × (x ≡ nodeOf (now b) a) × (level + left ≤ 63) ⌝ }
+    ensures { λ r. ⌜ Put (now (out .entry)) at (ranged (shown (now (b .entry)) (block (now (b .entry)) left level))
+        (treeOf (now (b .entry)) .first a) (treeOf (now (b .entry)) .count a)) r (now (out .exit)) ⌝ }
 {
+    let k = ranges::children_of(b, p.nodes, node_starts, x);
     let mut e = at;
     let mut j = 0;
-    while j < count {
-        let x = q + j * 24;
-        if le::u16_at(b, x) != 0 {
+    while j < k.count {
+        let c = k.place + j * 24;
+        if le::u16_at(b, c) != 0 {
             e = write_node(
                 b,
                 p,
@@ -148,8 +115,8 @@ fn write_range(
                 node_starts,
                 value_starts,
                 name_starts,
-                first + j,
-                x,
+                k.first + j,
+                c,
                 level,
                 left,
                 out,

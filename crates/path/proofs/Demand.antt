@@ -3,41 +3,22 @@
 use mathlib.Core.Path.{_≡_, refl, sym, ap, _∙_}
 use mathlib.Core.Logic.{_↔_, by-cases}
 use mathlib.Core.List.{List, [], _∷_, _++_, List·Memᴰ, List·Memᴰ·head, List·Memᴰ·tail}
-use Prim.Native.Nat.{ℕ, zero, suc, _+_, _-_, _*_, _/_, _%_, _^_, _≤_, _<_}
-use native.Mathlib.Nat.{not-suc-le-zero, div-div-eq-div-mul, mod-eq-of-lt}
+use Prim.Native.Nat.{ℕ, zero, suc, _+_, _-_, _*_, _/_, _^_, _≤_, _<_}
+use native.Mathlib.Nat.{not-suc-le-zero}
 use native.Mathlib.Decide.{decLe}
 use native.Mathlib.Omega.{arith}
 use lib.ListN.{length, getD, drop}
 use lib.Seq.{getD-append-add, getD-drop}
-use Rattle.le.specs.Le.{u32At}
+use Rattle.le.specs.Le.{u32At, le4}
+use Rattle.le.proofs.Four.{le4-front, shifted}
 use Rattle.verdict.specs.Checks.{firstFault}
 use Rattle.verdict.specs.declared.Verdict.the-variants.{Accepted, Refused}
 use Rattle.verdict.proofs.Laws.{Clean, never, pass, stop, fault-none, fault-append}
 use Rattle.accept.specs.Rules.{FileRules}
 use Rattle.path.specs.Names.{pathChecks}
-use Rattle.path.specs.Listing.{pathMatches, le4, encode, listingChecks, listingAfter}
+use Rattle.path.specs.Listing.{pathMatches, encode, listingChecks, listingAfter}
 use Rattle.path.proofs.Few.{match-low}
 use Rattle.path.proofs.Written.{length-encode}
-
--- a number below 2 ^ 32 is the sum of its four bytes
-four-bytes : (a : ℕ) → a < 2 ^ 32 → a % 256 + a / 256 % 256 * 256 + a / 65536 % 256 * 65536 + a / 16777216 % 256 * 16777216 ≡ a
-four-bytes a h =
-    let p : a / 256 / 256 ≡ a / 65536 = div-div-eq-div-mul a 256 256 in
-    let q : a / 65536 / 256 ≡ a / 16777216 = div-div-eq-div-mul a 65536 256 in
-    let m : a / 16777216 % 256 ≡ a / 16777216 = mod-eq-of-lt {m = 256} (omega arith) in
-    omega arith
-
-pub le4-front : (a : ℕ) (t : List ℕ) → a < 2 ^ 32 → u32At (le4 a ++ t) 0 ≡ a
-unfolding u32At le4
-le4-front a t h = four-bytes a h
-
-pub shifted : (s t : List ℕ) (j : ℕ) → u32At (s ++ t) (length s + j) ≡ u32At t j
-unfolding u32At
-shifted s t j =
-    let e1 : length s + j + 1 ≡ length s + (j + 1) = omega arith in
-    let e2 : length s + j + 2 ≡ length s + (j + 2) = omega arith in
-    let e3 : length s + j + 3 ≡ length s + (j + 3) = omega arith in
-    rw (e1, e2, e3, getD-append-add s t j 0, getD-append-add s t (j + 1) 0, getD-append-add s t (j + 2) 0, getD-append-add s t (j + 3) 0)
 
 -- place i of encoded nodes holds node i
 encoded-at : (l t : List ℕ) → ((e : ℕ) → List·Memᴰ e l → e < 2 ^ 32) → (i : ℕ) → i < length l → u32At (encode l ++ t) (4 * i) ≡ getD l i 0

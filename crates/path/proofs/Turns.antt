@@ -2,7 +2,7 @@
 use mathlib.Core.Path.{_≡_, refl, sym, ap, _∙_}
 use mathlib.Core.Bool.{cond}
 use mathlib.Core.List.{List, [], _∷_, _++_, append-nil}
-use Prim.Native.Nat.{ℕ, zero, suc, _+_, _*_, _≤_, _<_}
+use Prim.Native.Nat.{ℕ, zero, suc, _+_, _≤_, _<_}
 use native.Mathlib.Nat.{not-suc-le-zero}
 use native.Mathlib.Numerals.{add-one}
 use native.Mathlib.Omega.{arith}
@@ -12,8 +12,7 @@ use lib.ListN.{length, getD, take, drop, length-append}
 use lib.Seq.{drop-cons, drop-length, length-take-le, getD-take}
 use Rattle.tree.specs.Chain.{ranged}
 use Rattle.tree.specs.File.{treeOf}
-use Rattle.tree.proofs.Ranged.{ranged-none, ranged-more}
-use Rattle.tree.proofs.Children.{Children}
+use Rattle.tree.proofs.Ranged.{ranged-more}
 use Rattle.path.specs.Indices.{matchesAt, indicesFrom}
 
 -- a part of a range is no longer than the whole
@@ -23,11 +22,26 @@ ranged-le f a zero m h = omega arith
 ranged-le f a (suc n) zero h = absurd (not-suc-le-zero h)
 ranged-le f a (suc n) (suc m) h = simp length-append (omega (arith, ranged-le f (a + 1) n m (omega arith)))
 
--- what the child c adds: the nodes below it, where it has the index at place `at`
-abbrev pub added : List ℕ → List ℕ → ℕ → ℕ → ℕ → List ℕ
-added b wanted n at c = cond (eqb (treeOf b .name c) (getD wanted at 0)) (matchesAt (treeOf b) (indicesFrom wanted n (at + 1)) c) []
-
 module _ (b wanted : List ℕ) (n at : ℕ) where
+  -- the nodes below the child c, where it has the index at place `at`
+  abbrev under : ℕ → List ℕ
+  under c = matchesAt (treeOf b) (indicesFrom wanted n (at + 1)) c
+
+  -- the nodes below the first j children
+  abbrev pub passed : ℕ → ℕ → List ℕ
+  passed first j = ranged (λ c. cond (eqb (treeOf b .name c) (getD wanted at 0)) (under c) []) first j
+
+  -- a child that has the index, and one that has not
+  module _ (first j : ℕ) where
+    pub range-hit : treeOf b .name (first + j) ≡ getD wanted at 0 → passed first (j + 1) ≡ passed first j ++ under (first + j)
+    range-hit e =
+        ranged-more _ first j ∙ ap (λ (l : List ℕ). passed first j ++ l) (rw (eq-eqb (treeOf b .name (first + j)) (getD wanted at 0) e))
+
+    pub range-skip : (treeOf b .name (first + j) ≡ getD wanted at 0 → ⊥) → passed first (j + 1) ≡ passed first j
+    range-skip f =
+        ranged-more _ first j ∙ ap (λ (l : List ℕ). passed first j ++ l) (rw (ne-eqb (treeOf b .name (first + j)) (getD wanted at 0) f))
+        ∙ append-nil _
+
   module _ (long : n ≤ length wanted) where
     -- no index left: the node itself
     pub at-end : (a : ℕ) → at ≡ n → matchesAt (treeOf b) (indicesFrom wanted n at) a ≡ a ∷ []
@@ -36,44 +50,23 @@ module _ (b wanted : List ℕ) (n at : ℕ) where
         let l : at ≡ length (take n wanted) = e ∙ sym (length-take-le n wanted long) in
         ap (λ (is : List ℕ). matchesAt (treeOf b) is a) (ap (λ (k : ℕ). drop k (take n wanted)) l ∙ drop-length (take n wanted))
 
-    module _ (h : at < n) where
+    -- the whole child range
+    module _ (h : at < n) (a : ℕ) {first m : ℕ} (p : first ≡ treeOf b .first a) (q : m ≡ treeOf b .count a) where
       next-index : indicesFrom wanted n at ≡ getD wanted at 0 ∷ indicesFrom wanted n (at + 1)
       next-index =
           let l = length-take-le n wanted long in
-          rw (add-one at) (drop-cons (take n wanted) at 0 (omega arith) ∙ ap (λ (x : ℕ). x ∷ drop (suc at) (take n wanted)) (getD-take n wanted at 0 h))
+          rw (add-one at) (drop-cons (take n wanted) at 0 (omega arith))
+          ∙ ap (λ (x : ℕ). x ∷ drop (at + 1) (take n wanted)) (getD-take n wanted at 0 h)
 
-      at-more : (a : ℕ) → matchesAt (treeOf b) (indicesFrom wanted n at) a ≡ ranged (added b wanted n at) (treeOf b .first a) (treeOf b .count a)
+      pub whole : (j : ℕ) → j ≡ m → matchesAt (treeOf b) (indicesFrom wanted n at) a ≡ passed first j
       unfolding matchesAt
-      at-more a = ap (λ (is : List ℕ). matchesAt (treeOf b) is a) next-index
+      whole j e = ap (λ (is : List ℕ). matchesAt (treeOf b) is a) next-index ∙ rw (e ∙ q, p)
 
-      -- no child, no node below
-      pub at-leaf : (a x : ℕ) → x ≡ treeOf b .count a → x ≡ 0 → matchesAt (treeOf b) (indicesFrom wanted n at) a ≡ []
-      at-leaf a x e z = at-more a ∙ ranged-none _ _ _ (sym e ∙ z)
-
-      -- the whole child range
-      module _ {a m seg el q : ℕ} (k : Children b a m seg el q) where
-        pub whole : (j : ℕ) → j ≡ m → ranged (added b wanted n at) (seg * 65536 + el) j ≡ matchesAt (treeOf b) (indicesFrom wanted n at) a
-        whole j e = rw (e ∙ k .count, k .first) (sym (at-more a))
-
-        -- a child that has the index, and one that has not
-        module _ (j : ℕ) where
-          pub range-hit : treeOf b .name (seg * 65536 + el + j) ≡ getD wanted at 0
-              → ranged (added b wanted n at) (seg * 65536 + el) (j + 1)
-              ≡ ranged (added b wanted n at) (seg * 65536 + el) j ++ matchesAt (treeOf b) (indicesFrom wanted n (at + 1)) (seg * 65536 + el + j)
-          range-hit e =
-              ranged-more (added b wanted n at) (seg * 65536 + el) j
-              ∙ ap (λ (l : List ℕ). ranged (added b wanted n at) (seg * 65536 + el) j ++ l) (rw (eq-eqb (treeOf b .name (seg * 65536 + el + j)) (getD wanted at 0) e))
-
-          pub range-skip : (treeOf b .name (seg * 65536 + el + j) ≡ getD wanted at 0 → ⊥)
-              → ranged (added b wanted n at) (seg * 65536 + el) (j + 1) ≡ ranged (added b wanted n at) (seg * 65536 + el) j
-          range-skip f =
-              ranged-more (added b wanted n at) (seg * 65536 + el) j
-              ∙ ap (λ (l : List ℕ). ranged (added b wanted n at) (seg * 65536 + el) j ++ l) (rw (ne-eqb (treeOf b .name (seg * 65536 + el + j)) (getD wanted at 0) f))
-              ∙ append-nil _
-
-          -- what it adds stays within the whole
-          pub hit-le : j < m → treeOf b .name (seg * 65536 + el + j) ≡ getD wanted at 0
-              → length (ranged (added b wanted n at) (seg * 65536 + el) j) + length (matchesAt (treeOf b) (indicesFrom wanted n (at + 1)) (seg * 65536 + el + j))
-              ≤ length (matchesAt (treeOf b) (indicesFrom wanted n at) a)
-          hit-le l e =
-              omega (arith, ranged-le (added b wanted n at) (seg * 65536 + el) (j + 1) m (omega arith), ap length (range-hit e) ∙ length-append (ranged (added b wanted n at) (seg * 65536 + el) j) (matchesAt (treeOf b) (indicesFrom wanted n (at + 1)) (seg * 65536 + el + j)), ap length (whole m refl))
+      -- what a child adds stays within the whole
+      pub hit-le : (j : ℕ) → j < m → treeOf b .name (first + j) ≡ getD wanted at 0
+          → length (passed first j) + length (under (first + j)) ≤ length (matchesAt (treeOf b) (indicesFrom wanted n at) a)
+      hit-le j l e =
+          let s = ap length (range-hit first j e) ∙ length-append (passed first j) (under (first + j)) in
+          let w = ap length (whole m refl) in
+          let r : length (passed first (j + 1)) ≤ length (passed first m) = ranged-le _ first (j + 1) m (omega arith) in
+          omega arith

@@ -1,26 +1,15 @@
 -- Encoded lists put over a buffer one after the other, four bytes for each node. Assumes nothing.
 use mathlib.Core.Path.{_≡_, refl, sym, ap, _∙_}
 use mathlib.Core.List.{List, [], _∷_, _++_}
-use Prim.Native.Nat.{ℕ, _+_, _*_, _≤_}
+use Prim.Native.Nat.{ℕ, _+_, _*_, _/_, _≤_, _<_}
 use native.Mathlib.Omega.{arith}
-use native.Mathlib.Numerals.{add-one, add-two, add-three}
-use lib.ListN.{length, set, length-append}
-use lib.Seq.{sets-eq}
+use lib.ListN.{length, length-append}
 use Rattle.laws.specs.Lists.{splice}
 use Rattle.laws.proofs.Splice.{splice-nil, splice-length, splice-append}
-use Rattle.path.specs.Listing.{le4, encode}
+use Rattle.le.specs.Le.{le4}
+use Rattle.path.specs.Listing.{encode, Wrote}
 
--- four stores in a row
-pub four-stores : (d : List ℕ) (i a b c e : ℕ) → i + 4 ≤ length d
-    → set (set (set (set d i a) (i + 1) b) (i + 2) c) (i + 3) e ≡ splice d i (a ∷ b ∷ c ∷ e ∷ [])
-unfolding splice
-four-stores d i a b c e h = rw (add-one, add-two, add-three) (sets-eq (a ∷ b ∷ c ∷ e ∷ []) d i h)
-
-pub encode-one : (a : ℕ) → encode (a ∷ []) ≡ le4 a
-unfolding encode le4
-encode-one a = refl
-
-pub encode-append : (s t : List ℕ) → encode (s ++ t) ≡ encode s ++ encode t
+encode-append : (s t : List ℕ) → encode (s ++ t) ≡ encode s ++ encode t
 unfolding encode le4
 encode-append [] t = refl
 encode-append (x ∷ s) t = rw (encode-append s t)
@@ -30,36 +19,33 @@ unfolding encode le4
 length-encode [] = refl
 length-encode (x ∷ s) = let r = length-encode s in omega arith
 
--- what a loop that writes lists one after the other keeps: n is the next place, and d′ is d with l written from place k on
-pub record Wrote (d : List ℕ) (k : ℕ) (l : List ℕ) (n : ℕ) (d′ : List ℕ) : Type 0 where
-  pub next : n ≡ k + length l
-  pub now-is : d′ ≡ splice d (4 * k) (encode l)
+module _ (d : List ℕ) (k : ℕ) where
+  pub wrote-none : Wrote d k [] k d
+  unfolding encode
+  wrote-none = record { next-is = omega arith; size = refl; bytes-are = λ h. sym (splice-nil d (4 * k)) }
 
-pub wrote-none : (d : List ℕ) (k : ℕ) → Wrote d k [] k d
-unfolding encode
-wrote-none d k = record { next = omega arith; now-is = sym (splice-nil d (4 * k)) }
+  -- one node, where it fits
+  pub wrote-one : (a : ℕ) {d′ : List ℕ} → k < length d / 4 → d′ ≡ splice d (4 * k) (le4 a) → Wrote d k (a ∷ []) (k + 1) d′
+  unfolding encode le4
+  wrote-one a h e = record { next-is = refl; size = ap length e ∙ splice-length d (4 * k) (le4 a) (omega arith); bytes-are = λ g. e }
+
+  pub wrote-not : (a : ℕ) {d′ : List ℕ} → length d / 4 ≤ k → d′ ≡ d → Wrote d k (a ∷ []) (k + 1) d′
+  wrote-not a h e = record { next-is = refl; size = ap length e; bytes-are = λ g. absurd (omega arith) }
 
 module _ {d d′ : List ℕ} {k n : ℕ} {l : List ℕ} (w : Wrote d k l n d′) where
-  -- the buffer keeps its length
-  pub wrote-length : 4 * n ≤ length d → length d′ ≡ length d
-  wrote-length h = ap length (w .now-is) ∙ splice-length d (4 * k) (encode l) (omega (arith, w .next, length-encode l))
-
-  pub wrote-more : (m : List ℕ) {l′ : List ℕ} {n′ : ℕ} {d″ : List ℕ} → l′ ≡ l ++ m → 4 * n ≤ length d → n′ ≡ n + length m
-      → d″ ≡ splice d′ (4 * n) (encode m) → Wrote d k l′ n′ d″
-  wrote-more m q h e f =
-      let p : 4 * n ≡ 4 * k + length (encode l) = omega (arith, w .next, length-encode l) in
-      record {
-        next = omega (arith, w .next, ap length q ∙ length-append l m);
-        now-is =
-            f ∙ ap (λ (x : List ℕ). splice x (4 * n) (encode m)) (w .now-is)
-            ∙ ap (λ (i : ℕ). splice (splice d (4 * k) (encode l)) i (encode m)) p
-            ∙ sym (splice-append d (4 * k) (encode l) (encode m) (omega arith))
-            ∙ ap (splice d (4 * k)) (sym (encode-append l m))
-            ∙ ap (λ (x : List ℕ). splice d (4 * k) (encode x)) (sym q);
-      }
-
+  -- other names of the same
   pub wrote-same : {l′ : List ℕ} {n′ : ℕ} {d″ : List ℕ} → l′ ≡ l → n′ ≡ n → d″ ≡ d′ → Wrote d k l′ n′ d″
-  wrote-same q e f = record {
-    next = e ∙ w .next ∙ ap (λ (x : List ℕ). k + length x) (sym q);
-    now-is = f ∙ w .now-is ∙ ap (λ (x : List ℕ). splice d (4 * k) (encode x)) (sym q);
+  wrote-same q e f = rw (q, e, f) w
+
+  -- more, after it
+  pub wrote-then : {m : List ℕ} {n′ : ℕ} {d″ : List ℕ} → Wrote d′ n m n′ d″ → Wrote d k (l ++ m) n′ d″
+  wrote-then {m} v = record {
+    next-is = omega (arith, v .next-is, w .next-is, length-append l m);
+    size = v .size ∙ w .size;
+    bytes-are = λ h.
+        let g : 4 * n ≤ length d = omega (arith, v .next-is) in
+        let p : 4 * n ≡ 4 * k + length (encode l) = omega (arith, w .next-is, length-encode l) in
+        v .bytes-are (omega (arith, w .size))
+        ∙ rw (w .bytes-are g, p) (sym (splice-append d (4 * k) (encode l) (encode m) (omega arith)))
+        ∙ ap (splice d (4 * k)) (sym (encode-append l m));
   }

@@ -20,7 +20,8 @@ pub struct Listing {
     pub matches: usize,
 }
 
-// Lists the matches of a path in a file that is accepted; both passes go down the same nodes, so nothing is written unless all fit.
+// Lists the matches of a path in a file that is accepted; the first pass, with an empty listing, counts them, so nothing is written
+// unless all fit.
 pub fn list_path(
     b: &[u8],
     t: &[u32; 1024],
@@ -54,14 +55,15 @@ pub fn list_path(
     let n = w.count;
     let indices = w.indices;
     let root = nodes.at + 12;
-    let k = below::count_below(b, nodes, starts, &indices, n, 0, 0, root);
+    let mut none = [0u8; 0];
+    let k = below::list_below(b, nodes, starts, &indices, n, 0, 0, root, &mut none, 0);
     if list.len() / 4 < k {
         return Listing {
             answer: Verdict::Refused(25, k),
             matches: 0,
         };
     }
-    let m = below::write_below(b, nodes, starts, &indices, n, 0, 0, root, list, 0);
+    let m = below::list_below(b, nodes, starts, &indices, n, 0, 0, root, list, 0);
     Listing {
         answer: Verdict::Accepted,
         matches: m,

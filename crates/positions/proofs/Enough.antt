@@ -14,7 +14,7 @@ use Rattle.strings.specs.declared.Strings.{Strings}
 use Rattle.strings.specs.Order.{allEntryChecks, allPositionChecks}
 use Rattle.strings.proofs.Accepted.{all-good, positions-clean}
 use Rattle.strings.proofs.Only.{text-of-index, one-entry}
-use Rattle.positions.specs.Carry.{entriesBefore, allEntries}
+use Rattle.positions.specs.Total.{entriesBefore, allEntries}
 use Rattle.laws.proofs.Pigeon.{Once, once-none, once-more, once-append, pigeon-all}
 
 -- the indices of the first n entries of bucket k

@@ -2,10 +2,7 @@
 use Prim.Native.Nat.{ℕ, _+_, _-_, _≤_, _<_}
 use native.Mathlib.Omega.{arith}
 use mathlib.Core.Path.{_≡_, refl, ap, sym, subst, _∙_}
-use mathlib.Core.Bool.{Bool, true, false, true≢false, false≢true}
-use mathlib.Core.Logic.{⊎-elim}
-use borrow.Author.Count.{below-more}
-use Rattle.laws.proofs.Order.{le-or-lt}
+use mathlib.Core.Bool.{Bool, false}
 use Rattle.verdict.specs.Checks.{firstFault, each, Tells}
 use Rattle.verdict.specs.declared.Verdict.{Verdict}
 use Rattle.verdict.specs.declared.Verdict.the-variants.{Accepted, Refused}
@@ -16,44 +13,11 @@ use Rattle.layout.specs.Table.{Table, entries, hashOf, indexOf, segmentOf, elem
 use Rattle.region.specs.Region.{Resolves}
 use Rattle.strings.specs.Texts.{listedText}
 use Rattle.strings.specs.Rules.{Carried}
-use Rattle.strings.specs.Search.{Lower}
 use Rattle.strings.specs.Order.{allEntryChecks, positionChecks, allPositionChecks, stringChecks}
 use Rattle.strings.proofs.Accepted.{all-good}
-use Rattle.strings.proofs.Only.{bucket-of, hash-of, text-of-index, rises}
-use Rattle.positions.specs.Carry.{Carries}
+use Rattle.strings.proofs.Only.{bucket-of, hash-of, text-of-index}
+use Rattle.search.specs.Run.{Meets}
 use Rattle.positions.proofs.Listed.{ListedIn}
-
--- ---- the search for an index in one bucket
-
--- none that was passed carries it, and the hashes to come are not below h
-pub record Scanned (t : Table) (k h i n j : ℕ) : Type 0 where
-  pub many : n ≡ entries t k
-  pub none : (m : ℕ) → m < j → hashOf t k m ≡ h → indexOf t k m ≡ i → ⊥
-  pub above : (m : ℕ) → j ≤ m → m < entries t k → h ≤ hashOf t k m
-
-pub scanned-start : (t : Table) (k h i n j : ℕ) → n ≡ entries t k → Lower t k h j → Scanned t k h i n j
-scanned-start t k h i n j e f = record { many = e; none = λ m l g. absurd (omega (arith, f .below m l)); above = f .above }
-
-module _ (t : Table) (k h i n j : ℕ) (r : Scanned t k h i n j) where
-  pub scanned-more : (w : ℕ) → w ≡ indexOf t k j → (w ≡ i → ⊥) → Scanned t k h i n (j + 1)
-  scanned-more w e f = record {
-    many = r .many;
-    none = below-more _ j (r .none) (λ a g. f (e ∙ g));
-    above = λ m l. r .above m (omega arith);
-  }
-
-  pub scanned-found : j < n → (w : ℕ) → w ≡ indexOf t k j → w ≡ i → Carries t k h i true
-  scanned-found l w e f = record { so = λ a. (j, omega (arith, r .many), sym e ∙ f); not = λ a. absurd (true≢false a) }
-
-  pub scanned-none : n ≤ j → Carries t k h i false
-  scanned-none l = record { so = λ a. absurd (false≢true a); not = λ a m b. r .none m (omega (arith, r .many)) }
-
-  -- past an entry with another hash none has this one
-  pub scanned-over : Clean (allEntryChecks t) → k < t .buckets → j < n → (w : ℕ) → w ≡ hashOf t k j → (w ≡ h → ⊥) → Carries t k h i false
-  scanned-over ok b l w e f = record { so = λ a. absurd (false≢true a); not = λ a m c g. ⊎-elim (later m c g) (λ d. r .none m d g) (le-or-lt j m) }
-    where
-      later : (m : ℕ) → m < entries t k → hashOf t k m ≡ h → j ≤ m → indexOf t k m ≡ i → ⊥
-      later m c g d q = f (omega (arith, r .above j (omega arith) (omega (arith, r .many)), rises t ok k j m b d c, e))
 
 -- ---- an index stands in no bucket but that of its text
 
@@ -70,8 +34,9 @@ module _ (t : Table) (i : ℕ) (ok : Clean (allEntryChecks t)) where
   pub carried-in : Carried t i → ListedIn t i
   carried-in = carried-at (Resolves 2 (t .bytes) (t .at)) (λ k j h l. all-good t ok k j h l .resolved)
 
-  pub only-there : (k h : ℕ) (r : Bool) → h ≡ hashText (listedText t i) → k ≡ bucketOf (t .buckets) h → k < t .buckets → Carries t k h i r
+  pub only-there : (k h : ℕ) (r : Bool) → h ≡ hashText (listedText t i) → k ≡ bucketOf (t .buckets) h → k < t .buckets → Meets t k h 8 i r
       → Tells (Carried t i) r
+  unfolding indexOf
   only-there k h r e b l f = record { so = λ w. (k, l, f .so w); not = λ w c. move w c }
     where
       move : r ≡ false → Carried t i → ⊥

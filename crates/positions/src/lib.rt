@@ -1,7 +1,6 @@
 // Refusal 13, and all of 7 to 13 of a string table (01, "Refusal numbers").
 ghost use mathlib.Core.Path.{_≡_};
 ghost use Prim.Native.Nat.{_≤_, _<_, _^_};
-ghost use lib.ListN.{length};
 ghost use Rattle.verdict.specs.Checks.{Tells, firstFault};
 ghost use Rattle.verdict.specs.declared.Verdict.the-variants.{Accepted};
 ghost use Rattle.hash.specs.Table.{Tables};
@@ -9,43 +8,13 @@ ghost use Rattle.layout.specs.Table.{count};
 ghost use Rattle.strings.specs.Rules.{Carried};
 ghost use Rattle.strings.specs.Order.{allEntryChecks, allPositionChecks, stringChecks};
 ghost use Rattle.strings.specs.Held.{Held, heldTable};
-ghost use Rattle.positions.specs.Carry.{Carries, allEntries};
+ghost use Rattle.positions.specs.Total.{allEntries};
+use search::run;
 use strings::Strings;
-use strings::entry;
-use strings::search;
 use strings::spot;
 use strings::spot::Spot;
 use strings::table;
 use verdict::Verdict;
-
-// Whether an entry of bucket k carries index i, looked for among those with hash h.
-fn carries(
-    b: &[u8],
-    s: Strings,
-    samples: &[u32; 256],
-    starts: &[u32],
-    k: usize,
-    h: usize,
-    i: usize,
-) -> bool
-    requires { ⌜ Held (now b) s (now samples) (now starts) × (k < length (now starts))
-        × (firstFault (allEntryChecks (heldTable (now b) s (now starts))) ≡ Accepted) ⌝ }
-    ensures { λ r. ⌜ Carries (heldTable (now (b .entry)) s (now (starts .entry))) k h i r ⌝ }
-{
-    let n = entry::entry_count(b, s, samples, starts, k);
-    let mut j = search::lower(b, s, samples, starts, k, h);
-    while j < n {
-        let e = entry::entry_at(b, s, samples, starts, k, j);
-        if le::u32_at(b, e) != h {
-            return false;
-        }
-        if le::u32_at(b, e + 8) == i {
-            return true;
-        }
-        j += 1;
-    }
-    false
-}
 
 // Whether any entry carries index i: it would stand in the bucket of the text at list position i.
 fn carried(
@@ -68,7 +37,8 @@ fn carried(
     let m = text::measure(b, t, q, n);
     let h = m.hash;
     let k = hash::bucket(h, starts.len());
-    carries(b, s, samples, starts, k, h, i)
+    let low = search::lower(b, s, samples, starts, k, h);
+    run::run_has(b, s, samples, starts, k, h, low, 8, i)
 }
 
 // The number of entries of all buckets, by the bytes that they take: from the first bucket's start up to the address

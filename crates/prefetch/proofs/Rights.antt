@@ -1,9 +1,8 @@
 -- What the steps of a batch find out, and 19 of its attributes from that. Assumes nothing.
-use Prim.Native.Nat.{ℕ, _+_, _*_, _%_, _^_, _≤_, _<_}
-use native.Mathlib.Nat.{mul-le-mul}
+use Prim.Native.Nat.{ℕ, _+_, _*_, _≤_, _<_}
 use native.Mathlib.Omega.{arith}
 use mathlib.Core.Path.{_≡_, refl, ap, sym, subst, _∙_}
-use mathlib.Core.Bool.{true, false, false≢true}
+use mathlib.Core.Bool.{false, false≢true}
 use mathlib.Core.List.{List}
 use borrow.Author.Count.{below-none, below-more}
 use lib.ListN.{length, getD}
@@ -21,40 +20,33 @@ use Rattle.text.specs.Measure.{Hashed}
 use Rattle.text.specs.declared.Hashes.{Hashes}
 use Rattle.text.proofs.Laws.{text-stop, room-some}
 use Rattle.text.proofs.Walk.{hash-end}
-use Rattle.layout.specs.Table.{Table, entries, entryAt, segmentOf, elementOf}
+use Rattle.layout.specs.Table.{Table, entries}
 use Rattle.layout.specs.Layout.{attributeSize, attributesAt, values}
 use Rattle.strings.specs.Texts.{spotAt, textTo}
 use Rattle.strings.specs.declared.spot.Spot.{Spot}
 use Rattle.strings.specs.declared.spot.Spot.the-variants.{At}
-use Rattle.strings.proofs.Places.{segment-at, element-at}
 use Rattle.strings.proofs.Spots.{spot-in, spot-text}
 use Rattle.nodes.specs.Attribute.{typeWord, textSegment, textElement}
 use Rattle.nodes.specs.Rules.{EntryAddress, TextRight, TextsRight}
 use Rattle.nodes.specs.Search.{Sure}
-use Rattle.nodes.proofs.Addresses.{spot-fits}
+use Rattle.nodes.proofs.Addresses.{spot-fits, address-of}
+use Rattle.le.proofs.Numbers.{Bytes}
+use Rattle.search.specs.Run.{wordOf}
 use Rattle.nodes.proofs.Fields.{extended-is}
-use Rattle.prefetch.specs.Batch.{Seen, AllSeen, AllHashed, AllFound, AllRight}
+use Rattle.prefetch.specs.Batch.{TextSpot, AllSpots, AllHashed, AllFound, AllRight}
 
 -- false tells nothing
 pub unsure : {P : Type 0} → Sure P false
 unsure z = absurd (false≢true z)
 
--- a distance of hashes times a number of entries
-pub distance-fits : (d n : ℕ) → d < 2 ^ 32 → n ≤ 2 ^ 30 → d * n ≤ 2 ^ 62
-distance-fits d n h l = omega (arith, mul-le-mul {n₁ = d} {m₁ = n} {n₂ = 2 ^ 32} {m₂ = 2 ^ 30} (omega arith) l)
-
--- the entry that was looked at has the address
-pub near-found : (t : Table) (k j n e x y seg el : ℕ) → n ≡ entries t k → j < n → e ≡ entryAt t k j
-    → y ≡ u16At (t .bytes) (e + 14) → y ≡ el → x ≡ u16At (t .bytes) (e + 12) → x ≡ seg
-    → SomeBelow (entries t k) (λ i. (segmentOf t k i ≡ seg) × (elementOf t k i ≡ el))
-near-found t k j n e x y seg el q f p g c h d =
-    (j, omega (arith, q), (sym (segment-at t k j e x p h) ∙ d, sym (element-at t k j e y p g) ∙ c))
-
--- the same of the attribute's text
-pub entry-in : (b : List ℕ) (t : Table) (q k x y : ℕ) → k < t .buckets → x ≡ u16At b (q + 4) → y ≡ u16At b (q + 6)
-    → SomeBelow (entries t k) (λ i. (segmentOf t k i ≡ x) × (elementOf t k i ≡ y)) → EntryAddress t (textSegment b q) (textElement b q)
+-- an entry in one bucket has the address of the attribute's text
+pub entry-in : (b : List ℕ) → Bytes b → (q : ℕ) (t : Table) → t .bytes ≡ b → (k w : ℕ) → k < t .buckets → w ≡ u32At b (q + 4)
+    → SomeBelow (entries t k) (λ j. wordOf t k j 12 ≡ w) → EntryAddress t (textSegment b q) (textElement b q)
 unfolding textSegment textElement
-entry-in b t q k x y l e f w = (k, l, (w .0, w .1, (w .2 .0 ∙ e, w .2 .1 ∙ f)))
+entry-in b f q t same k w l e s =
+    let z : q + 4 + 2 ≡ q + 6 = omega arith in
+    let a = address-of b f (q + 4) t same k (s .0) (s .2 ∙ e) in
+    (k, l, (s .0, s .1, (a .0, a .1 ∙ ap (u16At b) z)))
 
 pub found-at : (b : List ℕ) (t : Table) {q p : ℕ} → q ≡ p → EntryAddress t (textSegment b q) (textElement b q) → EntryAddress t (textSegment b p) (textElement b p)
 found-at b t e w = subst (λ (i : ℕ). EntryAddress t (textSegment b i) (textElement b i)) e w
@@ -63,21 +55,20 @@ found-at b t e w = subst (λ (i : ℕ). EntryAddress t (textSegment b i) (textEl
 pub spot-some : (b : List ℕ) (r seg el : ℕ) {x n : ℕ} {a : Spot} → a ≡ spotAt b r seg el → a ≡ At x n → 1 ≤ n
 spot-some b r seg el e f = let w = spot-in _ _ _ _ (sym e ∙ f) in omega (arith, w .2, room-some b r seg el (w .0))
 
--- where a text was seen there is at least one character, in the file
-module _ {b : List ℕ} {r q x n c : ℕ} (laid : Laid 2 b r) (s : Seen b r q x n c) where
-  pub seen-some : 1 ≤ n
-  seen-some = spot-some b r (textSegment b q) (textElement b q) refl (s .spot)
+-- at a spot there is at least one character, in the file
+module _ {b : List ℕ} {r q x n : ℕ} (laid : Laid 2 b r) (s : TextSpot b r q x n) where
+  pub some-there : 1 ≤ n
+  some-there = spot-some b r (textSegment b q) (textElement b q) refl (s .spot)
 
-  pub seen-fits : x + 2 * n ≤ length b
-  seen-fits = spot-fits b r (textSegment b q) (textElement b q) laid refl (s .spot)
+  pub fits-there : x + 2 * n ≤ length b
+  fits-there = spot-fits b r (textSegment b q) (textElement b q) laid refl (s .spot)
 
--- a text seen at the address that stands 4 bytes behind an attribute's place
-pub seen-of : {b : List ℕ} {r q x n c : ℕ} {a : Spot} → a ≡ spotAt b r (u16At b (q + 4)) (u16At b (q + 4 + 2)) → a ≡ At x n
-    → c % 65536 ≡ u16At b x → Seen b r q x n c
+-- a spot found for the address that stands 4 bytes behind an attribute's place
+pub spot-of : {b : List ℕ} {r q x n : ℕ} {a : Spot} → a ≡ spotAt b r (u16At b (q + 4)) (u16At b (q + 4 + 2)) → a ≡ At x n → TextSpot b r q x n
 unfolding textSegment textElement
-seen-of {b} {r} {q} {a = a} e f g =
+spot-of {b} {r} {q} e f =
     let z : q + 4 + 2 ≡ q + 6 = omega arith in
-    record { spot = ap (λ (i : ℕ). spotAt b r (u16At b (q + 4)) (u16At b i)) (sym z) ∙ sym e ∙ f; first = g }
+    record { spot = ap (λ (i : ℕ). spotAt b r (u16At b (q + 4)) (u16At b i)) (sym z) ∙ sym e ∙ f }
 
 -- the extended code of one attribute is the value hash of its text, as they are read
 pub hashed-here : (b : List ℕ) (q p w v x y n m : ℕ) (h : Hashes) → p ≡ q → w ≡ u16At b (p + 2) → v ≡ extendedOf w → y ≡ x → m ≡ n → Hashed b y m h → v ≡ h .value
@@ -94,9 +85,9 @@ none-hashed b p n z =
     record { hashed = sym (hash-end _ 0 e); value = ap valueHashOf (sym (hash-end _ 0 (ap foldText e ∙ foldText-nil))) }
 
 -- 19 of every attribute of the batch
-pub all-right : (b : List ℕ) (t : Table) (slots at left seen : List ℕ) (n : ℕ) → t .bytes ≡ b → t ≡ values b → Laid 2 (t .bytes) (t .at)
-    → AllSeen (t .bytes) (t .at) slots n at left seen → AllHashed (t .bytes) slots n at left → AllFound (t .bytes) t slots n → AllRight (t .bytes) slots n
-all-right b t slots at left seen n y e laid s h f j l k = record {
+pub all-right : (b : List ℕ) (t : Table) (slots at left : List ℕ) (n : ℕ) → t .bytes ≡ b → t ≡ values b → Laid 2 (t .bytes) (t .at)
+    → AllSpots (t .bytes) (t .at) slots n at left → AllHashed (t .bytes) slots n at left → AllFound (t .bytes) t slots n → AllRight (t .bytes) slots n
+all-right b t slots at left n y e laid s h f j l k = record {
   entry = there EntryAddress (f j l);
   hash = there (λ u v w. extendedOf (typeWord (t .bytes) (getD slots j 0)) ≡ valueHash (textTo u v w))
       (h j l ∙ ap valueHash (spot-text t _ _ laid (s .each j l .spot) .text));

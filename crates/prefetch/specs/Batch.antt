@@ -2,7 +2,7 @@
 use Prim.Native.Nat.{ℕ, _%_}
 use mathlib.Core.Path.{_≡_}
 use mathlib.Core.List.{List}
-use lib.ListN.{length, getD}
+use lib.ListN.{getD}
 use Rattle.le.specs.Le.{u16At}
 use Rattle.words.specs.Words.{extendedOf}
 use Rattle.hash.specs.Fold.{valueHash}
@@ -14,14 +14,17 @@ use Rattle.nodes.specs.Attribute.{typeWord, textSegment, textElement}
 use Rattle.nodes.specs.Rules.{EntryAddress, TextRight}
 use Rattle.prefetch.specs.Slots.{Each}
 
--- The text of the attribute at q stands at x, with n characters left there; the low half of c is its first character.
-pub record Seen (b : List ℕ) (r q x n c : ℕ) : Type 0 where
+-- The text of the attribute at q stands at x, with n characters left there.
+pub record TextSpot (b : List ℕ) (r q x n : ℕ) : Type 0 where
   pub spot : spotAt b r (textSegment b q) (textElement b q) ≡ At x n
-  pub first : c % 65536 ≡ u16At b x
 
 -- The same of each of the first n slots.
-pub record AllSeen (b : List ℕ) (r : ℕ) (slots : List ℕ) (n : ℕ) (at left seen : List ℕ) : Type 0 where
-  pub each : Each n (λ j. Seen b r (getD slots j 0) (getD at j 0) (getD left j 0) (getD seen j 0))
+pub record AllSpots (b : List ℕ) (r : ℕ) (slots : List ℕ) (n : ℕ) (at left : List ℕ) : Type 0 where
+  pub each : Each n (λ j. TextSpot b r (getD slots j 0) (getD at j 0) (getD left j 0))
+
+-- The low half of each of the first n is the character at its offset.
+pub record AllSeen (b : List ℕ) (n : ℕ) (at seen : List ℕ) : Type 0 where
+  pub each : Each n (λ j. getD seen j 0 % 65536 ≡ u16At b (getD at j 0))
 
 -- The extended code of each is the value hash of its text.
 abbrev pub AllHashed : List ℕ → List ℕ → ℕ → List ℕ → List ℕ → Type 0
@@ -35,9 +38,3 @@ AllFound b t slots n = Each n (λ j. EntryAddress t (textSegment b (getD slots j
 -- 19 holds of each.
 abbrev pub AllRight : List ℕ → List ℕ → ℕ → Type 0
 AllRight b slots n = Each n (λ j. TextRight b (getD slots j 0))
-
--- The lent arrays have their lengths.
-pub record Lengths (a b c : List ℕ) : Type 0 where
-  pub first : length a ≡ 64
-  pub second : length b ≡ 64
-  pub third : length c ≡ 64

@@ -6,4 +6,3 @@ pub mod Checks
 pub mod Runs
 pub mod Left
 pub mod Only
-pub mod Halves

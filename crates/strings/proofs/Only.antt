@@ -13,7 +13,6 @@ use Rattle.layout.specs.Table.{Table, entries, hashOf, indexOf, segmentOf, elem
 use Rattle.strings.specs.Texts.{textTo, textOf, listedText}
 use Rattle.strings.specs.Held.{Sorted}
 use Rattle.strings.specs.Order.{allEntryChecks}
-use Rattle.strings.specs.Search.{Lower}
 use Rattle.strings.proofs.Accepted.{all-good}
 use Rattle.strings.proofs.Runs.{up}
 
@@ -73,7 +72,3 @@ module _ (t : Table) (ok : Clean (allEntryChecks t)) where
   -- past an entry whose hash is above a text's hash, none bears the text
   pub none-after : (k j m : ℕ) (q : List ℕ) → k < t .buckets → m < entries t k → j ≤ m → hashText q < hashOf t k j → textOf t k m ≡ q → ⊥
   none-after k j m q h l a g e = omega (arith, rises k j m h a l, hash-of k m q h l e)
-
-  -- nor does one before the first entry whose hash is not below it
-  pub none-before : (k r m : ℕ) (q : List ℕ) → k < t .buckets → Lower t k (hashText q) r → m < entries t k → m < r → textOf t k m ≡ q → ⊥
-  none-before k r m q h w l a e = omega (arith, w .below m a, hash-of k m q h l e)

@@ -3,5 +3,4 @@ pub mod Rules
 pub mod Decisions
 pub mod Order
 pub mod Held
-pub mod Search
 pub mod Ahead

@@ -1,7 +1,6 @@
 // Refusals 7 to 12: the entries of a string table (01, "Strings", "Refusal numbers").
 pub mod ahead;
 pub mod entry;
-pub mod search;
 pub mod spot;
 pub mod table;
 

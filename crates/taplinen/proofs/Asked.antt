@@ -1,34 +1,41 @@
--- What an accepted file gives to code that holds its view: what a lookup and a listing require. Assumes nothing.
-use Prim.Native.Nat.{ℕ}
-use mathlib.Core.Path.{_≡_}
+-- What an accepted file gives to code that holds its view: what a lookup, a listing and an outline require. Assumes nothing.
+use mathlib.Core.Path.{_≡_, sym, _∙_}
 use mathlib.Core.List.{List}
-use Rattle.verdict.specs.Checks.{firstFault}
+use Prim.Native.Nat.{ℕ}
+use lib.ListN.{length}
 use Rattle.verdict.specs.declared.Verdict.the-variants.{Accepted}
+use Rattle.hash.specs.Table.{Tables}
+use Rattle.layout.specs.Layout.{names}
 use Rattle.layout.specs.View.{Fits}
-use Rattle.layout.specs.declared.View.{View}
-use Rattle.strings.specs.Held.{heldTable}
-use Rattle.strings.specs.Order.{stringChecks}
-use Rattle.nodes.specs.Held.{valueStrings}
+use Rattle.strings.specs.Held.{Held, heldTable}
 use Rattle.nodes.proofs.Accepted.{nodes-iff}
 use Rattle.tree.specs.Outcome.{TreeReady}
 use Rattle.accept.specs.Verdict.{verdictOf}
 use Rattle.accept.specs.Rules.{FileRules}
 use Rattle.accept.specs.Held.{nameStrings}
+use Rattle.accept.specs.Accepted.{Judged}
+use Rattle.accept.specs.declared.Acceptance.{Acceptance}
 use Rattle.accept.proofs.Accepted.{accepted-iff}
-use Rattle.accept.proofs.Held.{tree-ready}
-use Rattle.taplinen.proofs.Tables.{name-table-clean, value-table-clean}
+use Rattle.accept.proofs.Held.{names-table, names-held, tree-ready}
+use Rattle.outline.specs.Ready.{OutlineReady}
+use Rattle.outline.proofs.Rules.{outline-ready}
 
-module _ (b : List ℕ) (room : ℕ) (v : View) (f : Fits b v) (e : verdictOf b room ≡ Accepted) where
-  -- every rule of the file
-  pub file-rules : FileRules b
-  file-rules = accepted-iff b room .0 e .0
+module _ {b ws : List ℕ} {a : Acceptance} (j : Judged b ws a) (e : a .answer ≡ Accepted) where
+  accepted : verdictOf b (length ws) ≡ Accepted
+  accepted = sym (j .answer) ∙ e
 
-  pub names-clean : firstFault (stringChecks (heldTable b (nameStrings (v .places)) (v .«name_buckets»))) ≡ Accepted
-  names-clean = name-table-clean b v f file-rules
+  -- a view that fits, and every rule of the file
+  pub to-find : Fits b (a .view) × FileRules b
+  to-find = (j .view e, accepted-iff b (length ws) .0 accepted .0)
 
-  pub values-clean : firstFault (stringChecks (heldTable b (valueStrings (v .places)) (v .«value_buckets»))) ≡ Accepted
-  values-clean = value-table-clean b v f file-rules
+  pub to-list : {t : List ℕ} → let v = a .view in Tables t
+      → Tables t × Held b (nameStrings (v .places)) (v .«name_starts») (v .«name_buckets»)
+      × (heldTable b (nameStrings (v .places)) (v .«name_buckets») ≡ names b)
+      × TreeReady b (v .places .nodes) (v .«node_starts»)
+      × FileRules b
+  to-list t =
+      let f = to-find .0 in
+      (t, names-held b _ f, names-table b _ f, tree-ready b _ f (nodes-iff b .1 (to-find .1 .nodes)), to-find .1)
 
-  -- and to a listing: its nodes
-  pub nodes-held : TreeReady b (v .places .nodes) (v .«node_starts»)
-  nodes-held = tree-ready b v f (nodes-iff b .1 (file-rules .nodes))
+  pub to-outline : let v = a .view in OutlineReady b (v .places) (v .«attribute_starts») (v .«node_starts») (v .«value_starts») (v .«name_starts»)
+  to-outline = outline-ready b (length ws) (a .view) (j .view e) accepted

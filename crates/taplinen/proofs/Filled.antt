@@ -1,56 +1,66 @@
--- A question that fills a lent buffer, by its ways out: acceptance's refusals, then its own checks cs, then its number n. Assumes nothing.
+-- A question by its ways out: acceptance's refusals, then its own checks cs, then its kind k and its number n. Assumes nothing.
 use Prim.Native.Nat.{ℕ}
 use mathlib.Core.Path.{_≡_, refl, ap, sym, _∙_}
 use mathlib.Core.List.{List, _++_}
+use lib.ListN.{length}
 use Rattle.verdict.specs.Checks.{Check, firstFault}
 use Rattle.verdict.specs.declared.Verdict.{Verdict}
 use Rattle.verdict.specs.declared.Verdict.the-variants.{Accepted, Refused}
-use Rattle.verdict.proofs.Laws.{fault-append, fault-keep}
+use Rattle.verdict.proofs.Laws.{never, fault-append, fault-keep}
+use Rattle.tree.specs.Outcome.{workspaceAfter}
 use Rattle.accept.specs.Verdict.{acceptChecks, verdictOf}
+use Rattle.accept.specs.Accepted.{Judged}
+use Rattle.accept.specs.declared.Acceptance.{Acceptance}
 use Rattle.taplinen.specs.Answers.{answered}
+use Rattle.taplinen.specs.Questions.{workspaceLeft}
 use Rattle.taplinen.specs.declared.answer.Answer.{Answer}
-use Rattle.taplinen.proofs.Laws.{same-refused}
+use Rattle.taplinen.proofs.Laws.{answer-by}
 
--- the answer, and the buffer, which is left by the verdict as `after` says
-abbrev pub Filled : List ℕ → ℕ → List Check → ℕ → (Verdict → List ℕ) → Answer → List ℕ → Type 0
-Filled b room cs n after r l =
-    (r ≡ answered (firstFault (acceptChecks b room ++ cs)) 0 n) × (l ≡ after (firstFault (acceptChecks b room ++ cs)))
+module _ (b : List ℕ) (room : ℕ) (cs : List Check) {v : Verdict} (q : v ≡ verdictOf b room) where
+  first-verdict : {a p : ℕ} → v ≡ Refused a p → firstFault (acceptChecks b room ++ cs) ≡ Refused a p
+  unfolding verdictOf
+  first-verdict e = fault-keep (acceptChecks b room) cs (sym q ∙ e)
 
--- where a question told its own verdict w and a number m
-told-number : (n m : ℕ) (w : Verdict) → (w ≡ Accepted → m ≡ n) → answered w 0 n ≡ answered w 0 m
-unfolding answered
-told-number n m Accepted f = ap (answered Accepted 0) (sym (f refl))
-told-number n m (Refused a p) f = refl
+  own-verdict : {w : Verdict} → v ≡ Accepted → w ≡ firstFault cs → firstFault (acceptChecks b room ++ cs) ≡ w
+  unfolding verdictOf
+  own-verdict e f = fault-append (acceptChecks b room) cs (sym q ∙ e) ∙ sym f
 
-module _ (b : List ℕ) (room : ℕ) (cs : List Check) (n : ℕ) (after : Verdict → List ℕ) where
-  filled-by : {w : Verdict} {m : ℕ} {r : Answer} {l : List ℕ} → firstFault (acceptChecks b room ++ cs) ≡ w → (w ≡ Accepted → m ≡ n) → r ≡ answered w 0 m
-      → l ≡ after w → Filled b room cs n after r l
-  filled-by {w} {m} e f h g = (
-    h ∙ sym (told-number n m w f) ∙ sym (ap (λ (x : Verdict). answered x 0 n) e),
-    g ∙ sym (ap after e),
-  )
-
-  module _ {v : Verdict} (q : v ≡ verdictOf b room) where
+  module _ (k n : ℕ) {r : Answer} where
     -- acceptance refused
-    pub first-refused : {a p : ℕ} {r : Answer} {l : List ℕ} → v ≡ Refused a p → r ≡ answered (Refused a p) 0 0 → l ≡ after (Refused a p)
-        → Filled b room cs n after r l
-    unfolding verdictOf
-    first-refused {a} {p} e h g =
-        filled-by (fault-keep (acceptChecks b room) cs (sym q ∙ e)) (λ z. refl) (h ∙ same-refused a p 0 n) g
+    pub first-answer : {a p : ℕ} → v ≡ Refused a p → r ≡ answered v 0 0 → r ≡ answered (firstFault (acceptChecks b room ++ cs)) k n
+    first-answer e h = answer-by (first-verdict e ∙ sym e) (λ z. absurd (never e z)) h
 
     -- the file is accepted, and w is the question's own verdict
-    module _ (e : v ≡ Accepted) {w : Verdict} (k : w ≡ firstFault cs) where
-      own-verdict : firstFault (acceptChecks b room ++ cs) ≡ w
-      unfolding verdictOf
-      own-verdict = fault-append (acceptChecks b room) cs (sym q ∙ e) ∙ sym k
+    pub own-answer : {w : Verdict} {l m : ℕ} → v ≡ Accepted → w ≡ firstFault cs → (w ≡ Accepted → (l ≡ k) × (m ≡ n)) → r ≡ answered w l m
+        → r ≡ answered (firstFault (acceptChecks b room ++ cs)) k n
+    own-answer e f g h = answer-by (own-verdict e f) g h
 
-      pub then-refused : {a p : ℕ} {r : Answer} {l : List ℕ} → w ≡ Refused a p → r ≡ answered (Refused a p) 0 0 → l ≡ after w → Filled b room cs n after r l
-      then-refused {a} {p} z h g = filled-by own-verdict (λ x. refl) (h ∙ same-refused a p 0 n ∙ sym (ap (λ (x : Verdict). answered x 0 n) z)) g
+-- what code that holds the view and asks is told, and what it leaves in a buffer
+pub own-told : (b : List ℕ) (room : ℕ) (cs : List Check) (n : ℕ) (after : Verdict → List ℕ) {w : Verdict} {m : ℕ}
+    → verdictOf b room ≡ Accepted → w ≡ firstFault cs → (w ≡ Accepted → m ≡ n)
+    → (answered (firstFault (acceptChecks b room ++ cs)) 0 n ≡ answered w 0 m) × (after (firstFault (acceptChecks b room ++ cs)) ≡ after w)
+own-told b room cs n after e f g = (
+  sym (own-answer b room cs refl 0 n e f (λ z. (refl, g z)) refl),
+  ap after (own-verdict b room cs refl e f),
+)
 
-      pub then-told : {m : ℕ} {r : Answer} {l : List ℕ} → w ≡ Accepted → m ≡ n → r ≡ answered Accepted 0 m → l ≡ after w → Filled b room cs n after r l
-      then-told {m} z u h g = filled-by own-verdict (λ x. u) (h ∙ sym (ap (λ (x : Verdict). answered x 0 m) z)) g
+-- the answer, the workspace, and the buffer, which is left by the verdict as `after` says
+abbrev Filled : List ℕ → List ℕ → List Check → ℕ → (Verdict → List ℕ) → Answer → List ℕ → List ℕ → Type 0
+Filled b ws cs n after r ws′ l =
+    let v = firstFault (acceptChecks b (length ws) ++ cs) in (r ≡ answered v 0 n) × ((ws′ ≡ workspaceLeft b ws) × (l ≡ after v))
 
-      -- the same, of code that holds the view and asks
-      pub own-told : {m : ℕ} → (w ≡ Accepted → m ≡ n)
-          → (answered (firstFault (acceptChecks b room ++ cs)) 0 n ≡ answered w 0 m) × (after (firstFault (acceptChecks b room ++ cs)) ≡ after w)
-      own-told {m} f = (ap (λ (x : Verdict). answered x 0 n) own-verdict ∙ told-number n m w f, ap after own-verdict)
+module _ {b ws ws′ : List ℕ} {a : Acceptance} (j : Judged b ws a × (ws′ ≡ workspaceAfter b ws (verdictOf b (length ws)))) (cs : List Check)
+    (n : ℕ) (after : Verdict → List ℕ) {r : Answer} {l : List ℕ} where
+  pub first-filled : {m p : ℕ} → a .answer ≡ Refused m p → r ≡ answered (a .answer) 0 0 → l ≡ after (Refused m p)
+      → Filled b ws cs n after r ws′ l
+  unfolding workspaceLeft
+  first-filled e h g =
+      let q = j .0 .answer in
+      (first-answer b (length ws) cs q 0 n e h, (j .1, g ∙ sym (ap after (first-verdict b (length ws) cs q e))))
+
+  pub own-filled : {w : Verdict} {m : ℕ} → a .answer ≡ Accepted → w ≡ firstFault cs → (w ≡ Accepted → m ≡ n) → r ≡ answered w 0 m
+      → l ≡ after w → Filled b ws cs n after r ws′ l
+  unfolding workspaceLeft
+  own-filled e f u h g =
+      let q = j .0 .answer in
+      (own-answer b (length ws) cs q 0 n e f (λ z. (refl, u z)) h, (j .1, g ∙ sym (ap after (own-verdict b (length ws) cs q e f))))

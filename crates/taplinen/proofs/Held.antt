@@ -11,6 +11,7 @@ use Rattle.layout.specs.Table.{Table}
 use Rattle.strings.specs.Held.{heldTable}
 use Rattle.nodes.specs.Held.{valueStrings}
 use Rattle.lookup.specs.Lookup.{textFrom, indexOfText, addressOfText}
+use Rattle.lookup.specs.Asked.{textChecks}
 use Rattle.lookup.specs.Kinds.{toldIn, tableOf, kindOf, numberOf}
 use Rattle.lookup.specs.declared.Kind.{Kind}
 use Rattle.lookup.specs.declared.Kind.the-variants.{Name, Value}
@@ -27,17 +28,17 @@ use Rattle.outline.specs.declared.Outlined.{Outlined}
 use Rattle.accept.specs.Verdict.{verdictOf}
 use Rattle.accept.specs.Held.{nameStrings}
 use Rattle.taplinen.specs.Answers.{answered}
-use Rattle.taplinen.specs.Questions.{textAnswer, nameAnswer, valueAnswer, pathVerdict, pathAnswer, pathListing, outlineVerdict, outlineAnswer, outlineBuffer}
+use Rattle.taplinen.specs.Questions.{textVerdict, textAnswer, nameAnswer, valueAnswer, pathVerdict, pathAnswer, pathListing, outlineVerdict, outlineAnswer, outlineBuffer}
 use Rattle.taplinen.specs.Batches.{batchVerdict, batchAnswer, batchPlaces, namePlaces, valuePlaces}
-use Rattle.taplinen.proofs.Laws.{asked-told}
+use Rattle.taplinen.proofs.Laws.{text-even}
 use Rattle.taplinen.proofs.Tables.{name-table, value-table}
-use Rattle.taplinen.proofs.Filled.{own-told}
+use Rattle.taplinen.proofs.Filled.{own-answer, own-told}
 
 -- an accepted file asked for a text of an even number of bytes
 pub text-told : (k : Kind) (b : List ℕ) (room : ℕ) (q : List ℕ) → verdictOf b room ≡ Accepted → length q % 2 ≡ 0
     → let l = toldIn k (tableOf k b) (textFrom q) in textAnswer k b room q ≡ answered Accepted (kindOf l) (numberOf l)
-unfolding textAnswer
-text-told k b room q e even = sym (asked-told b room refl q (toldIn k (tableOf k b) (textFrom q)) e even refl)
+unfolding textAnswer textVerdict
+text-told k b room q e even = sym (own-answer b room (textChecks q) refl _ _ e (text-even q even) (λ z. (refl, refl)) refl)
 
 module _ (b : List ℕ) (room : ℕ) (v : View) (f : Fits b v) (e : verdictOf b room ≡ Accepted) where
   -- lookup::find_name and lookup::find_value
@@ -61,13 +62,13 @@ module _ (b : List ℕ) (room : ℕ) (v : View) (f : Fits b v) (e : verdictOf b 
   pub held-path : (path list : List ℕ) {r : Listing} → PathListed b path (length list) r
       → (pathAnswer b room path (length list) ≡ answered (r .answer) 0 (r .matches)) × (pathListing b room path list ≡ listingAfter b path list (r .answer))
   unfolding pathAnswer pathListing pathVerdict
-  held-path path list h = own-told b room _ _ (listingAfter b path list) refl e (h .answer) (h .many)
+  held-path path list h = own-told b room _ _ (listingAfter b path list) e (h .answer) (h .many)
 
   -- outline::write_outline
   pub held-outline : (out : List ℕ) {r : Outlined} → OutlineWritten b (length out) r
       → (outlineAnswer b room (length out) ≡ answered (r .answer) 0 (r .length)) × (outlineBuffer b room out ≡ outlineAfter b out (r .answer))
   unfolding outlineAnswer outlineBuffer outlineVerdict
-  held-outline out h = own-told b room _ _ (outlineAfter b out) refl e (h .answer) (h .long)
+  held-outline out h = own-told b room _ _ (outlineAfter b out) e (h .answer) (h .long)
 
   -- batch::find_each
   module _ (texts d : List ℕ) {r : Batch} (h : Answered texts (length d) r) where
@@ -75,7 +76,7 @@ module _ (b : List ℕ) (room : ℕ) (v : View) (f : Fits b v) (e : verdictOf b 
         → (batchAnswer b room texts (length d) ≡ answered (r .answer) 0 (r .texts)) × (batchPlaces k b room texts d ≡ answersAfter (toldIn k t) texts d (r .answer))
     unfolding batchAnswer batchPlaces batchVerdict
     each-by k s =
-        let w = own-told b room _ _ (answersAfter (toldIn k (tableOf k b)) texts d) refl e (h .answer) (h .many) in
+        let w = own-told b room _ _ (answersAfter (toldIn k (tableOf k b)) texts d) e (h .answer) (h .many) in
         (w .0, w .1 ∙ sym (ap (λ (y : Table). answersAfter (toldIn k y) texts d (r .answer)) s))
 
     pub held-names : (batchAnswer b room texts (length d) ≡ answered (r .answer) 0 (r .texts))

@@ -1,23 +1,21 @@
 -- Answers by the ways out of a question. Assumes nothing.
-use Prim.Native.Nat.{ℕ, _+_, _%_, _^_, _<_}
-use native.Mathlib.Omega.{arith}
+use Prim.Native.Nat.{ℕ, _%_}
 use mathlib.Core.Path.{_≡_, refl, ap, sym, _∙_}
 use mathlib.Core.List.{List}
-use lib.ListN.{length, getD}
+use lib.ListN.{length}
+use Rattle.verdict.specs.Checks.{firstFault}
 use Rattle.verdict.specs.declared.Verdict.{Verdict}
 use Rattle.verdict.specs.declared.Verdict.the-variants.{Accepted, Refused}
-use Rattle.verdict.proofs.Laws.{pass, stop, fault-none, fault-append, fault-keep}
-use Rattle.le.specs.Le.{u32At}
+use Rattle.verdict.proofs.Laws.{pass, stop, fault-none}
 use Rattle.layout.specs.Header.{headerOf}
 use Rattle.layout.specs.declared.Header.{Header}
 use Rattle.lookup.specs.declared.Lookup.{Lookup}
 use Rattle.lookup.specs.declared.Lookup.the-variants.{Found, Absent}
 use Rattle.lookup.specs.Asked.{textChecks}
 use Rattle.lookup.specs.Kinds.{kindOf, numberOf}
-use Rattle.tree.specs.File.{usedNodes}
-use Rattle.accept.specs.Verdict.{acceptChecks, verdictOf}
+use Rattle.accept.specs.Verdict.{verdictOf}
 use Rattle.taplinen.specs.Answers.{answered, reported}
-use Rattle.taplinen.specs.Questions.{acceptAnswer, headerAnswer, textVerdict}
+use Rattle.taplinen.specs.Questions.{headerAnswer}
 use Rattle.taplinen.specs.declared.answer.Answer.{Answer}
 use Rattle.taplinen.specs.declared.header.HeaderReport.{HeaderReport}
 
@@ -30,27 +28,17 @@ pub told-absent : (l : Lookup) → l ≡ Absent → answered Accepted 1 0 ≡ an
 unfolding kindOf numberOf
 told-absent l e = rw e
 
--- a refusal's answer has neither kind nor value
-pub same-refused : (n p k m : ℕ) → answered (Refused n p) 0 0 ≡ answered (Refused n p) k m
+-- a refusal leaves out the kind and the value
+answer-same : (w : Verdict) {k m j n : ℕ} → (w ≡ Accepted → (k ≡ j) × (m ≡ n)) → answered w k m ≡ answered w j n
 unfolding answered
-same-refused n p k m = refl
+answer-same Accepted f = let g = f refl in cc
+answer-same (Refused a p) f = refl
 
--- four bytes make a word
-pub word-low : (b : List ℕ) → ((i : ℕ) → getD b i 0 < 256) → (at : ℕ) → u32At b at < 2 ^ 32
-unfolding u32At
-word-low b f at = omega (arith, f at, f (at + 1), f (at + 2), f (at + 3))
+pub answer-by : {w u : Verdict} {k m j n : ℕ} {r : Answer} → u ≡ w → (w ≡ Accepted → (k ≡ j) × (m ≡ n)) → r ≡ answered w k m
+    → r ≡ answered u j n
+answer-by {w} {j = j} {n = n} e f h = h ∙ answer-same w f ∙ sym (ap (λ (x : Verdict). answered x j n) e)
 
 module _ (b : List ℕ) (room : ℕ) {v : Verdict} (q : v ≡ verdictOf b room) where
-  pub accept-refused : {n p : ℕ} {r : Answer} → v ≡ Refused n p → r ≡ answered (Refused n p) 0 0 → r ≡ acceptAnswer b room
-  unfolding acceptAnswer
-  accept-refused {n} {p} e h =
-      h ∙ same-refused n p 0 (usedNodes b) ∙ sym (ap (λ (x : Verdict). answered x 0 (usedNodes b)) (sym q ∙ e))
-
-  pub accept-number : {n : ℕ} {r : Answer} → v ≡ Accepted → n ≡ usedNodes b → r ≡ answered Accepted 0 n → r ≡ acceptAnswer b room
-  unfolding acceptAnswer
-  accept-number e u h =
-      h ∙ ap (answered Accepted 0) u ∙ sym (ap (λ (x : Verdict). answered x 0 (usedNodes b)) (sym q ∙ e))
-
   pub header-refused : {n p : ℕ} {r : HeaderReport} → v ≡ Refused n p → r ≡ reported (Refused n p) (headerOf b) → r ≡ headerAnswer b room
   unfolding headerAnswer
   header-refused e h = h ∙ sym (ap (λ (x : Verdict). reported x (headerOf b)) (sym q ∙ e))
@@ -59,24 +47,12 @@ module _ (b : List ℕ) (room : ℕ) {v : Verdict} (q : v ≡ verdictOf b room) 
   unfolding headerAnswer
   header-told e g h = h ∙ ap (reported Accepted) g ∙ sym (ap (λ (x : Verdict). reported x (headerOf b)) (sym q ∙ e))
 
-  -- a question with a text: acceptance's refusals, then 24, then what the lookup tells
-  module _ (x : List ℕ) (l : Lookup) where
-    pub asked-refused : {n p : ℕ} {r : Answer} → v ≡ Refused n p → r ≡ answered (Refused n p) 0 0
-        → r ≡ answered (textVerdict b room x) (kindOf l) (numberOf l)
-    unfolding textVerdict verdictOf
-    asked-refused {n} {p} e h =
-        h ∙ same-refused n p (kindOf l) (numberOf l)
-        ∙ sym (ap (λ (w : Verdict). answered w (kindOf l) (numberOf l)) (fault-keep (acceptChecks b room) (textChecks x) (sym q ∙ e)))
+-- 24 of a text
+module _ (x : List ℕ) where
+  pub text-odd : (length x % 2 ≡ 0 → ⊥) → Refused 24 (length x) ≡ firstFault (textChecks x)
+  unfolding textChecks
+  text-odd o = sym (stop _ _ _ _ _ o)
 
-    pub asked-odd : {r : Answer} → v ≡ Accepted → (length x % 2 ≡ 0 → ⊥) → r ≡ answered (Refused 24 (length x)) 0 0
-        → r ≡ answered (textVerdict b room x) (kindOf l) (numberOf l)
-    unfolding textVerdict verdictOf textChecks
-    asked-odd e o h =
-        h ∙ same-refused 24 (length x) (kindOf l) (numberOf l)
-        ∙ sym (ap (λ (w : Verdict). answered w (kindOf l) (numberOf l)) (fault-append (acceptChecks b room) (textChecks x) (sym q ∙ e) ∙ stop _ _ _ _ _ o))
-
-    pub asked-told : {r : Answer} → v ≡ Accepted → length x % 2 ≡ 0 → r ≡ answered Accepted (kindOf l) (numberOf l)
-        → r ≡ answered (textVerdict b room x) (kindOf l) (numberOf l)
-    unfolding textVerdict verdictOf textChecks
-    asked-told e o h =
-        h ∙ sym (ap (λ (w : Verdict). answered w (kindOf l) (numberOf l)) (fault-append (acceptChecks b room) (textChecks x) (sym q ∙ e) ∙ pass _ _ _ _ _ o ∙ fault-none))
+  pub text-even : length x % 2 ≡ 0 → Accepted ≡ firstFault (textChecks x)
+  unfolding textChecks
+  text-even o = sym (pass _ _ _ _ _ o ∙ fault-none)

@@ -1,9 +1,10 @@
 // The answer that crosses to C.
 ghost use mathlib.Core.Path.{_≡_};
-ghost use Rattle.verdict.specs.declared.Verdict.the-variants.{Accepted, Refused};
+ghost use Rattle.verdict.specs.declared.Verdict.the-variants.{Accepted};
 ghost use Rattle.lookup.specs.Kinds.{kindOf, numberOf};
 ghost use Rattle.taplinen.specs.Answers.{answered};
 use lookup::Lookup;
+use verdict::Verdict;
 
 // refusal 0: answered, value is the answer; otherwise 01's number, value its place. kind, for lookups: 0 found, 1 absent.
 #[repr(C)]
@@ -13,25 +14,21 @@ pub struct Answer {
     pub value: u64,
 }
 
-// A refusal.
-pub fn refused(num: u32, place: usize) -> Answer
-    ensures { λ r. ⌜ r ≡ answered (Refused num place) 0 0 ⌝ }
+// An answer by its verdict: a refusal leaves out the kind and the value that come with it.
+pub fn answered(v: Verdict, kind: u32, value: usize) -> Answer
+    ensures { λ r. ⌜ r ≡ answered v kind value ⌝ }
 {
-    Answer {
-        refusal: num,
-        kind: 0,
-        value: place as u64,
-    }
-}
-
-// A number that is the answer.
-pub fn number(n: usize) -> Answer
-    ensures { λ r. ⌜ r ≡ answered Accepted 0 n ⌝ }
-{
-    Answer {
-        refusal: 0,
-        kind: 0,
-        value: n as u64,
+    match v {
+        Verdict::Accepted => Answer {
+            refusal: 0,
+            kind,
+            value: value as u64,
+        },
+        Verdict::Refused(num, place) => Answer {
+            refusal: num,
+            kind: 0,
+            value: place as u64,
+        },
     }
 }
 
@@ -40,15 +37,7 @@ pub fn told(l: Lookup) -> Answer
     ensures { λ r. ⌜ r ≡ answered Accepted (kindOf l) (numberOf l) ⌝ }
 {
     match l {
-        Lookup::Found(n) => Answer {
-            refusal: 0,
-            kind: 0,
-            value: n as u64,
-        },
-        Lookup::Absent => Answer {
-            refusal: 0,
-            kind: 1,
-            value: 0,
-        },
+        Lookup::Found(n) => answered(Verdict::Accepted, 0, n),
+        Lookup::Absent => answered(Verdict::Accepted, 1, 0),
     }
 }

@@ -17,16 +17,13 @@ fn ask_each(file: &[u8], ws: &mut [u8], kind: Kind, texts: &[u8], answers: &mut 
 {
     let a = accept::accept(file, ws);
     let v = a.answer;
-    if let Verdict::Refused(num, place) = v {
-        return answer::refused(num, place);
+    if let Verdict::Refused(_, _) = v {
+        return answer::answered(v, 0, 0);
     }
     let view = a.view;
     let r = lookups::find_each(file, view, kind, texts, answers);
     let w = r.answer;
-    match w {
-        Verdict::Refused(num, place) => answer::refused(num, place),
-        Verdict::Accepted => answer::number(r.texts),
-    }
+    answer::answered(w, 0, r.texts)
 }
 
 // The indices of many names.

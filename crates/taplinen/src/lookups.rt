@@ -1,5 +1,5 @@
 // Lookups in a file that is accepted and whose view is held: nothing is checked a second time. The view is handed over whole once a
-// question; its arrays are lent from here on.
+// question; its arrays are lent from here on. Of one view only one array can be lent at a time, so the starts are copied first.
 ghost use mathlib.Core.Path.{_≡_};
 ghost use lib.ListN.{length};
 ghost use Rattle.layout.specs.View.{Fits};
@@ -15,66 +15,62 @@ use lookup::Lookup;
 use strings::Strings;
 
 // What one text is told.
-pub fn find(file: &[u8], view: View, kind: Kind, text: &[u8]) -> Lookup
-    requires { ⌜ Fits (now file) view × FileRules (now file) ⌝ }
+pub fn find(file: &[u8], v: View, kind: Kind, text: &[u8]) -> Lookup
+    requires { ⌜ Fits (now file) v × FileRules (now file) ⌝ }
     ensures { λ r. ⌜ r ≡ toldIn kind (tableOf kind (now (file .entry))) (textFrom (now (text .entry))) ⌝ }
 {
     let t = hash::tables();
-    let p = view.places;
+    let p = v.places;
     let n = text.len() / 2;
     match kind {
         Kind::Name => {
-            let samples = view.name_starts;
-            let buckets = view.name_buckets;
+            let starts = v.name_starts;
             let chars = p.name_chars;
             let s = Strings {
                 chars,
                 list: p.name_list,
             };
-            lookup::find_name(file, &t, s, &samples, &buckets, text, 0, n)
+            lookup::find_name(file, &t, s, &starts, &v.name_buckets, text, 0, n)
         }
         Kind::Value => {
-            let samples = view.value_starts;
-            let buckets = view.value_buckets;
+            let starts = v.value_starts;
             let chars = p.value_chars;
             let s = Strings {
                 chars,
                 list: p.value_list,
             };
-            lookup::find_value(file, &t, s, &samples, &buckets, text, 0, n)
+            lookup::find_value(file, &t, s, &starts, &v.value_buckets, text, 0, n)
         }
     }
 }
 
 // What each of many texts is told.
-pub fn find_each(file: &[u8], view: View, kind: Kind, texts: &[u8], answers: &mut [u8]) -> Batch
-    requires { ⌜ Fits (now file) view × FileRules (now file) ⌝ }
+pub fn find_each(file: &[u8], v: View, kind: Kind, texts: &[u8], answers: &mut [u8]) -> Batch
+    requires { ⌜ Fits (now file) v × FileRules (now file) ⌝ }
     ensures answer { λ r. ⌜ Answered (now (texts .entry)) (length (now (answers .entry))) r ⌝ }
     ensures answers { λ r. ⌜ now (answers .exit)
         ≡ answersAfter (toldIn kind (tableOf kind (now (file .entry)))) (now (texts .entry)) (now (answers .entry)) (r .answer) ⌝ }
 {
     let t = hash::tables();
-    let p = view.places;
+    let p = v.places;
     match kind {
         Kind::Name => {
-            let samples = view.name_starts;
-            let buckets = view.name_buckets;
+            let starts = v.name_starts;
             let chars = p.name_chars;
             let s = Strings {
                 chars,
                 list: p.name_list,
             };
-            batch::find_each(file, &t, s, &samples, &buckets, kind, texts, answers)
+            batch::find_each(file, &t, s, &starts, &v.name_buckets, kind, texts, answers)
         }
         Kind::Value => {
-            let samples = view.value_starts;
-            let buckets = view.value_buckets;
+            let starts = v.value_starts;
             let chars = p.value_chars;
             let s = Strings {
                 chars,
                 list: p.value_list,
             };
-            batch::find_each(file, &t, s, &samples, &buckets, kind, texts, answers)
+            batch::find_each(file, &t, s, &starts, &v.value_buckets, kind, texts, answers)
         }
     }
 }

@@ -15,8 +15,8 @@ pub extern "C" fn taplinen_outline(file: &[u8], ws: &mut [u8], out: &mut [u8]) -
 {
     let a = accept::accept(file, ws);
     let v = a.answer;
-    if let Verdict::Refused(num, place) = v {
-        return answer::refused(num, place);
+    if let Verdict::Refused(_, _) = v {
+        return answer::answered(v, 0, 0);
     }
     let view = a.view;
     let p = view.places;
@@ -34,8 +34,5 @@ pub extern "C" fn taplinen_outline(file: &[u8], ws: &mut [u8], out: &mut [u8]) -
         out,
     );
     let w = r.answer;
-    match w {
-        Verdict::Refused(num, place) => answer::refused(num, place),
-        Verdict::Accepted => answer::number(r.length),
-    }
+    answer::answered(w, 0, r.length)
 }

@@ -9,7 +9,8 @@ use lookup::Kind;
 use strings::Strings;
 use verdict::Verdict;
 
-// Accepts a file: the number of used nodes, which is the workspace that every question needs.
+// Accepts a file: the number of used nodes, which is the workspace that every question needs. Where the file is refused, the view means
+// nothing, and the answer leaves its number out.
 #[no_mangle]
 pub extern "C" fn taplinen_accept(file: &[u8], ws: &mut [u8]) -> Answer
     ensures answer { λ r. ⌜ r ≡ acceptAnswer (now (file .entry)) (length (now (ws .entry))) ⌝ }
@@ -17,14 +18,9 @@ pub extern "C" fn taplinen_accept(file: &[u8], ws: &mut [u8]) -> Answer
 {
     let a = accept::accept(file, ws);
     let v = a.answer;
-    match v {
-        Verdict::Refused(num, place) => answer::refused(num, place),
-        Verdict::Accepted => {
-            let view = a.view;
-            let p = view.places;
-            answer::number(p.used_nodes)
-        }
-    }
+    let view = a.view;
+    let p = view.places;
+    answer::answered(v, 0, p.used_nodes)
 }
 
 // Asks for a text in either table.
@@ -34,12 +30,12 @@ fn ask(file: &[u8], ws: &mut [u8], kind: Kind, text: &[u8]) -> Answer
 {
     let a = accept::accept(file, ws);
     let v = a.answer;
-    if let Verdict::Refused(num, place) = v {
-        return answer::refused(num, place);
+    if let Verdict::Refused(_, _) = v {
+        return answer::answered(v, 0, 0);
     }
     let n = text.len();
     if n % 2 != 0 {
-        return answer::refused(24, n);
+        return answer::answered(Verdict::Refused(24, n), 0, 0);
     }
     let view = a.view;
     answer::told(lookups::find(file, view, kind, text))
@@ -72,13 +68,12 @@ pub extern "C" fn taplinen_path(file: &[u8], ws: &mut [u8], path: &[u8], list: &
 {
     let a = accept::accept(file, ws);
     let v = a.answer;
-    if let Verdict::Refused(num, place) = v {
-        return answer::refused(num, place);
+    if let Verdict::Refused(_, _) = v {
+        return answer::answered(v, 0, 0);
     }
     let view = a.view;
     let p = view.places;
     let samples = view.name_starts;
-    let buckets = view.name_buckets;
     let starts = view.node_starts;
     let chars = p.name_chars;
     let s = Strings {
@@ -91,15 +86,12 @@ pub extern "C" fn taplinen_path(file: &[u8], ws: &mut [u8], path: &[u8], list: &
         &t,
         s,
         &samples,
-        &buckets,
+        &view.name_buckets,
         p.nodes,
         &starts,
         path,
         list,
     );
     let w = r.answer;
-    match w {
-        Verdict::Refused(num, place) => answer::refused(num, place),
-        Verdict::Accepted => answer::number(r.matches),
-    }
+    answer::answered(w, 0, r.matches)
 }

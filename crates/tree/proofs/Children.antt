@@ -1,12 +1,13 @@
 -- What the code reads of a used node and of its children, in a file that is ready for the tree's checks. Assumes nothing.
 use mathlib.Core.Path.{_≡_, sym, ap, subst, _∙_}
+use mathlib.Core.Logic.{⊎-elim}
 use mathlib.Core.List.{List}
-use Prim.Native.Nat.{ℕ, _+_, _*_, _≤_, _<_}
+use Prim.Native.Nat.{ℕ, _+_, _*_, _/_, _%_, _≤_, _<_}
 use native.Mathlib.Omega.{arith}
 use borrow.Author.Tests.{eq-eqb, ne-eqb}
 use lib.ListN.{length}
 use Rattle.le.specs.Le.{u16At}
-use Rattle.region.specs.Region.{Ranges, rangeAt}
+use Rattle.region.specs.Region.{rangeAt}
 use Rattle.region.specs.Samples.{Mapped, Starts}
 use Rattle.region.specs.declared.Region.{Region}
 use Rattle.region.specs.declared.Place.the-variants.{At, Nowhere}
@@ -15,16 +16,15 @@ use Rattle.layout.specs.Layout.{nodeSize, nodesAt}
 use Rattle.nodes.specs.Node.{nodeName, childField, childSegment, childElement, childCount, nodeAt}
 use Rattle.nodes.specs.Rules.{NodesRules}
 use Rattle.nodes.proofs.Accepted.{nodes-iff}
-use Rattle.tree.specs.File.{address, nodeOf, Used, treeOf}
-use Rattle.tree.specs.Outcome.{TreeReady}
-use Rattle.tree.proofs.Addresses.{range-of, child-used, child-place}
+use Rattle.tree.specs.File.{nodeOf, Used, treeOf}
+use Rattle.tree.specs.Outcome.{TreeReady, Reached}
+use Rattle.tree.specs.Children.{Row, ChildrenOf}
+use Rattle.tree.specs.declared.ranges.Children.{Children}
+use Rattle.tree.proofs.Addresses.{child-used, child-place}
 
--- the children of node a: how many, at which address, at which offset
-pub record Children (b : List ℕ) (a n seg el q : ℕ) : Type 0 where
-  pub count : n ≡ treeOf b .count a
-  pub first : address seg el ≡ treeOf b .first a
-  pub range : Ranges nodeSize b (nodesAt b) seg el n
-  pub place : q ≡ nodeAt b seg el
+-- x was read from a field, and is its number y
+abbrev Field : ℕ → ℕ → Type 0
+Field x y = (x ≡ y) × (x < 65536)
 
 -- the child count, as the code reads it
 module _ (b : List ℕ) (p : ℕ) where
@@ -36,15 +36,6 @@ module _ (b : List ℕ) (p : ℕ) where
   unfolding childCount nodeName childField
   count-field f = rw (ne-eqb (u16At b p) 0 f)
 
-  module _ (a : ℕ) (q : p ≡ nodeOf b a) where
-    pub no-name : u16At b p ≡ 0 → treeOf b .count a ≡ 0
-    unfolding treeOf
-    no-name z = ap (childCount b) (sym q) ∙ none-nameless z
-
-    pub count-read : (n : ℕ) → (u16At b p ≡ 0 → ⊥) → n ≡ u16At b (p + 6) → n ≡ treeOf b .count a
-    unfolding treeOf
-    count-read n f h = h ∙ sym (count-field f) ∙ ap (childCount b) q
-
 module _ {b : List ℕ} {r : Region} {starts : List ℕ} (g : TreeReady b r starts) where
   pub own-region : Mapped 24 b (r .at) r × Starts 24 b (r .at) (r .shift) starts
   unfolding nodeSize
@@ -53,44 +44,68 @@ module _ {b : List ℕ} {r : Region} {starts : List ℕ} (g : TreeReady b r star
   pub rules-hold : NodesRules b
   rules-hold = nodes-iff b .0 (g .accepted)
 
-  pub node-fits : (a p : ℕ) → Used b a → p ≡ nodeOf b a → p + 24 ≤ length b
-  unfolding nodeOf nodeAt nodeSize
-  node-fits a p u q = omega (arith, place-fits nodeSize b (nodesAt b) (g .laid .nodes) _ _ u)
+  -- a used node lies in the file, and its child range resolves
+  module _ (a p : ℕ) (u : Used b a) (q : p ≡ nodeOf b a) where
+    pub node-fits : p + 24 ≤ length b
+    unfolding nodeOf nodeAt nodeSize
+    node-fits = omega (arith, place-fits nodeSize b (nodesAt b) (g .laid .nodes) _ _ u)
 
-  module _ (a p n seg el : ℕ) (q : p ≡ nodeOf b a) (c : n ≡ treeOf b .count a) (s : seg ≡ u16At b (p + 16)) (e : el ≡ u16At b (p + 18)) where
-    segment-is : seg ≡ childSegment b (nodeOf b a)
+    pub node-reached : Reached b p
+    unfolding nodeOf
+    node-reached = rw q (rules-hold .each (a / 65536) (a % 65536) u .children .reach)
+
+  -- the child range by its fields
+  module _ (p : ℕ) {seg el n : ℕ} (s : Field seg (u16At b (p + 16))) (e : Field el (u16At b (p + 18))) (c : n ≡ childCount b p) where
+    segment-is : seg ≡ childSegment b p
     unfolding childSegment
-    segment-is = s ∙ ap (λ (x : ℕ). u16At b (x + 16)) q
+    segment-is = s .0
 
-    element-is : el ≡ childElement b (nodeOf b a)
+    element-is : el ≡ childElement b p
     unfolding childElement
-    element-is = e ∙ ap (λ (x : ℕ). u16At b (x + 18)) q
+    element-is = e .0
+
+    row : (q : ℕ) → Row b (seg * 65536 + el) q n → ChildrenOf b p (record { first = seg * 65536 + el; place = q; count = n })
+    row q h = record { first = rw (segment-is, element-is); count = c; row = h }
+
+    pub no-children : n ≡ 0 → ChildrenOf b p (record { first = seg * 65536 + el; place = 0; count = n })
+    no-children z = row 0 (record { low = omega (arith, s .1, e .1); few = omega arith; node = λ j l. absurd (omega arith) })
 
     -- the code finds the range, for it resolves
-    pub found-range : Used b a → (n ≡ 0 → ⊥) → rangeAt 24 b (r .at) seg el n ≡ Nowhere → ⊥
-    unfolding treeOf nodeSize
-    found-range u z w =
+    pub found-range : Reached b p → (n ≡ 0 → ⊥) → rangeAt 24 b (r .at) seg el n ≡ Nowhere → ⊥
+    unfolding nodeSize
+    found-range h z w =
         range-at-out 24 b (r .at) seg el n w
-        (rw (g .nodes .at-is, segment-is, element-is, c) (range-of b (g .laid .nodes) rules-hold a u 0 (omega arith)))
+        (rw (g .nodes .at-is, segment-is, element-is, c) (⊎-elim (λ y. absurd (z (c ∙ y))) (λ y. y) h))
 
-    pub children-at : {x : ℕ} → rangeAt 24 b (r .at) seg el n ≡ At x → Children b a n seg el x
-    unfolding treeOf nodeSize nodeAt
-    children-at h =
+    pub children-at : n < 65536 → {x : ℕ} → rangeAt 24 b (r .at) seg el n ≡ At x
+        → ChildrenOf b p (record { first = seg * 65536 + el; place = x; count = n })
+    unfolding nodeSize nodeAt
+    children-at f {x} h =
         let w = range-at-in 24 b (nodesAt b) seg el n (ap (λ (y : ℕ). rangeAt 24 b y seg el n) (sym (g .nodes .at-is)) ∙ h) in
-        record { count = c; first = rw (segment-is, element-is); range = w .0; place = w .1 }
+        row x (record {
+          low = omega (arith, s .1, e .1);
+          few = f;
+          node = λ j l. (
+            child-used b (g .laid .nodes) seg el n j (w .0) l,
+            ap (λ (y : ℕ). y + j * 24) (w .1) ∙ sym (child-place b (g .laid .nodes) seg el n j (w .0) l),
+          );
+        })
 
   -- the children stand in a row, each a used node
-  module _ {a n seg el q : ℕ} (k : Children b a n seg el q) (j : ℕ) (l : j < n) where
-    pub child-there : Used b (seg * 65536 + el + j) × (q + j * 24 ≡ nodeOf b (seg * 65536 + el + j))
-    unfolding nodeSize
-    child-there = (
-      child-used b (g .laid .nodes) seg el n j (k .range) l,
-      ap (λ (x : ℕ). x + j * 24) (k .place) ∙ sym (child-place b (g .laid .nodes) seg el n j (k .range) l),
-    )
-
-    pub child-name : {x : ℕ} → x ≡ u16At b (q + j * 24) → x ≡ treeOf b .name (seg * 65536 + el + j)
+  module _ {p : ℕ} {k : Children} (h : ChildrenOf b p k) (j : ℕ) (l : j < k .count) where
+    pub child-name : {x : ℕ} → x ≡ u16At b (k .place + j * 24) → x ≡ treeOf b .name (k .first + j)
     unfolding treeOf nodeName
-    child-name h = h ∙ ap (u16At b) (child-there .1)
+    child-name e = e ∙ ap (u16At b) (h .row .node j l .1)
 
-    pub child-fits : q + j * 24 + 24 ≤ length b
-    child-fits = node-fits _ _ (child-there .0) (child-there .1)
+    pub child-fits : k .place + j * 24 + 24 ≤ length b
+    child-fits = let w = h .row .node j l in node-fits _ _ (w .0) (w .1)
+
+-- they are the node's in the tree
+module _ {b : List ℕ} (a : ℕ) {p : ℕ} (q : p ≡ nodeOf b a) {k : Children} (h : ChildrenOf b p k) where
+  pub first-is : k .first ≡ treeOf b .first a
+  unfolding treeOf
+  first-is = rw q at (h .first)
+
+  pub count-is : k .count ≡ treeOf b .count a
+  unfolding treeOf
+  count-is = rw q at (h .count)

@@ -52,9 +52,6 @@ module _ (b : List ℕ) where
   unfolding deepFrom firstPlace
   deep-end left c n h = rw (ranged-none (endsBelow (treeOf b) left) c n h)
 
-  pub deep-leaf : (left a n : ℕ) → (left ≡ 0 → ⊥) → n ≡ treeOf b .count a → n ≡ 0 → firstPlace b (ends (treeOf b) left a) ≡ Nothing
-  deep-leaf left a n h e z = deep-open left a (treeOf b .first a) n h refl e ∙ deep-end (left - 1) _ (n - 0) (omega arith)
-
   module _ (left first n j : ℕ) (h : j < n) where
     next : ranged (endsBelow (treeOf b) left) (first + j) (n - j)
         ≡ endsBelow (treeOf b) left (first + j) ++ ranged (endsBelow (treeOf b) left) (first + (j + 1)) (n - (j + 1))

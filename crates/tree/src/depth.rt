@@ -4,7 +4,7 @@ ghost use Prim.Native.Nat.{_≤_};
 ghost use Rattle.tree.specs.Chain.{ends};
 ghost use Rattle.tree.specs.File.{Used, nodeOf, treeOf};
 ghost use Rattle.tree.specs.Outcome.{TreeReady, firstPlace};
-use region::Place;
+use crate::ranges;
 use region::Region;
 
 pub enum Found {
@@ -27,24 +27,12 @@ pub fn find_deep(
     if left == 0 {
         return Found::At(p);
     }
-    if le::u16_at(b, p) == 0 {
-        return Found::Nothing;
-    }
-    let n = le::u16_at(b, p + 6);
-    if n == 0 {
-        return Found::Nothing;
-    }
-    let seg = le::u16_at(b, p + 16);
-    let el = le::u16_at(b, p + 18);
-    let Place::At(q) = region::range_at(b, nodes, 24, starts, seg, el, n) else {
-        return Found::Nothing;
-    };
-    let first = seg * 65536 + el;
+    let k = ranges::children_of(b, nodes, starts, p);
     let mut j = 0;
-    while j < n {
-        let c = q + j * 24;
+    while j < k.count {
+        let c = k.place + j * 24;
         if le::u16_at(b, c) != 0 {
-            if let Found::At(x) = find_deep(b, nodes, starts, first + j, c, left - 1) {
+            if let Found::At(x) = find_deep(b, nodes, starts, k.first + j, c, left - 1) {
                 return Found::At(x);
             }
         }

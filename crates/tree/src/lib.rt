@@ -9,6 +9,7 @@ ghost use Rattle.tree.specs.Outcome.{TreeReady, treeChecks, workspaceAft
 
 pub mod depth;
 pub mod marks;
+pub mod ranges;
 
 use depth::Found;
 use region::Region;

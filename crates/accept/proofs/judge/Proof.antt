@@ -40,18 +40,12 @@ keys-done c = sym (c .before .before .check-keys .ensures) ∙ c .enum-told4 .gi
 nodes-done : (c : tie.After-enum-told5) → firstFault (allNodeChecks (c .before .before .before .before .before .before .before .before .before .before .before .before .before .before .before .before .before .before .before .before .before .before .before .before .before .before .before .before .before .before .before .before .before .before .before .before .before .before .before .before .before .before .args .b .now)) ≡ Accepted
 nodes-done c = sym (c .before .before .check-nodes .ensures) ∙ c .enum-told5 .given .1
 
-tables-requires : tie.Need-tables-requires
-tables-requires c κs = search needs
-
 slice-aggregate-check-table : tie.Need-slice-aggregate-check-table
 slice-aggregate-check-table c = let s = c .before .before .before .before .before .before .before .before .before .before .before .before .before in values-long (s .args .b .now) (s .args .v) (s .pre)
 
 check-table-requires : tie.Need-check-table-requires
 unfolding valueStrings
 check-table-requires c κs = let s = c .before .before .before .before .before .before .before .before .before .before .before .before .before in (c .before .before .before .before .before .before .before .before .before .before .tables .ensures, values-held (s .args .b .now) (s .args .v) (s .pre))
-
-enum-known-a : tie.Need-enum-known-a
-enum-known-a c = search needs
 
 returns : tie.Need-returns
 unfolding valueStrings
@@ -60,9 +54,6 @@ returns c =
     settled _ _ _ _ (left-values _ (s .args .v) (s .pre) _) (calm-strings _)
     (values-told (s .args .b .now) (s .args .v) (s .pre) (c .before .before .before .check-table .ensures) (c .before .a .given .1))
 
-enum-told : tie.Need-enum-told
-enum-told c = search needs
-
 slice-aggregate-check-table-2 : tie.Need-slice-aggregate-check-table-2
 slice-aggregate-check-table-2 c = let s = c .before .before .before .before .before .before .before .before .before .before .before .before .before .before .before .before .before .before .before in names-long (s .args .b .now) (s .args .v) (s .pre)
 
@@ -70,18 +61,12 @@ check-table-requires-2 : tie.Need-check-table-requires-2
 unfolding nameStrings
 check-table-requires-2 c κs = let s = c .before .before .before .before .before .before .before .before .before .before .before .before .before .before .before .before .before .before .before in (c .before .before .before .before .before .before .before .before .before .before .before .before .before .before .before .before .tables .ensures, names-held (s .args .b .now) (s .args .v) (s .pre))
 
-enum-known-c : tie.Need-enum-known-c
-enum-known-c c = search needs
-
 returns-2 : tie.Need-returns-2
 unfolding nameStrings
 returns-2 c =
     let s = c .before .before .before .before .before .before .before .before .before .before .before .before .before .before .before .before .before .before .before .before .before .before .before in
     settled _ _ _ _ (left-names _ (s .args .v) (s .pre) _ (values-done (c .before .before .before .before .before .before .before))) (calm-strings _)
     (names-told (s .args .b .now) (s .args .v) (s .pre) (c .before .before .before .check-table2 .ensures) (c .before .c .given .1))
-
-enum-told-2 : tie.Need-enum-told-2
-enum-told-2 c = search needs
 
 slice-aggregate-check-special : tie.Need-slice-aggregate-check-special
 slice-aggregate-check-special c = let s = c .before .before .before .before .before .before .before .before .before .before .before .before .before .before .before .before .before .before .before .before .before .before .before .before in names-long (s .args .b .now) (s .args .v) (s .pre)
@@ -93,24 +78,15 @@ check-special-requires c κs =
     let t = names-table (s .args .b .now) (s .args .v) (s .pre) in
     (names-held (s .args .b .now) (s .args .v) (s .pre), t, ap (λ (x : Table). firstFault (stringChecks x)) t ∙ names-done (c .before .before))
 
-enum-known-d : tie.Need-enum-known-d
-enum-known-d c = search needs
-
 returns-3 : tie.Need-returns-3
 returns-3 c =
     let s = c .before .before .before .before .before .before .before .before .before .before .before .before .before .before .before .before .before .before .before .before .before .before .before .before .before .before .before .before in
     settled _ _ _ _ (left-special _ (s .args .v) (s .pre) _ (values-done (c .before .before .before .before .before .before .before .before .before .before .before .before)) (names-done (c .before .before .before .before .before .before))) (calm-special _)
     (sym (c .before .before .before .check-special .ensures .answer) ∙ c .before .d .given .1)
 
-enum-told-3 : tie.Need-enum-told-3
-enum-told-3 c = search needs
-
 check-keys-requires : tie.Need-check-keys-requires
 check-keys-requires c κs =
     (c .before .before .before .before .before .before .before .before .before .before .before .before .before .before .before .before .before .before .before .before .before .before .before .before .before .before .before .before .pre .laid, c .before .before .before .check-special .ensures .names (c .before .enum-told3 .given .1))
-
-enum-known-e : tie.Need-enum-known-e
-enum-known-e c = search needs
 
 returns-4 : tie.Need-returns-4
 returns-4 c =
@@ -118,9 +94,6 @@ returns-4 c =
     settled _ _ _ _
     (left-keys _ (s .args .v) (s .pre) _ (values-done (c .before .before .before .before .before .before .before .before .before .before .before .before .before .before .before .before)) (names-done (c .before .before .before .before .before .before .before .before .before .before)) (special-done (c .before .before .before .before .before))) (calm-keys _)
     (sym (c .before .before .before .check-keys .ensures) ∙ c .before .e .given .1)
-
-enum-told-4 : tie.Need-enum-told-4
-enum-told-4 c = search needs
 
 slice-aggregate-check-nodes : tie.Need-slice-aggregate-check-nodes
 slice-aggregate-check-nodes c = let s = c .before .before .before .before .before .before .before .before .before .before .before .before .before .before .before .before .before .before .before .before .before .before .before .before .before .before .before .before .before .before .before .before .before .before .before .before .before .before .before in values-long (s .args .b .now) (s .args .v) (s .pre)
@@ -132,9 +105,6 @@ check-nodes-requires c κs =
       nodes-ready (s .args .b .now) (s .args .v) (s .pre) _ (c .before .before .before .before .before .before .before .before .before .before .before .before .before .before .check-special .ensures .names (c .before .before .before .before .before .before .before .before .before .before .before .before .enum-told3 .given .1)) (values-done (c .before .before .before .before .before .before .before .before .before .before .before .before .before .before .before .before .before .before .before .before .before .before .before)),
     )
 
-enum-known-f : tie.Need-enum-known-f
-enum-known-f c = search needs
-
 returns-5 : tie.Need-returns-5
 returns-5 c =
     let s = c .before .before .before .before .before .before .before .before .before .before .before .before .before .before .before .before .before .before .before .before .before .before .before .before .before .before .before .before .before .before .before .before .before .before .before .before .before .before .before .before .before .before .before in
@@ -142,16 +112,10 @@ returns-5 c =
     (left-nodes _ (s .args .v) (s .pre) _ (values-done (c .before .before .before .before .before .before .before .before .before .before .before .before .before .before .before .before .before .before .before .before .before .before .before .before .before .before .before)) (names-done (c .before .before .before .before .before .before .before .before .before .before .before .before .before .before .before .before .before .before .before .before .before)) (special-done (c .before .before .before .before .before .before .before .before .before .before .before .before .before .before .before .before)) (keys-done (c .before .before .before .before .before .before .before .before .before .before .before .before))) (calm-nodes _)
     (sym (c .before .before .before .check-nodes .ensures) ∙ c .before .f .given .1)
 
-enum-told-5 : tie.Need-enum-told-5
-enum-told-5 c = search needs
-
 check-tree-requires : tie.Need-check-tree-requires
 check-tree-requires c κs =
     let s = c .before .before .before .before .before .before .before .before .before .before .before .before .before .before .before .before .before .before .before .before .before .before .before .before .before .before .before .before .before .before .before .before .before .before .before .before .before .before .before .before .before .before .before .before .before .before in
     (tree-ready (s .args .b .now) (s .args .v) (s .pre) (nodes-done (c .before .before .before .before)), s .pre .«node_counts», used-told (s .args .b .now) (s .args .v) (s .pre))
-
-same-length : tie.Need-same-length
-same-length c = search needs
 
 returns-6 : tie.Need-returns-6
 returns-6 c =
@@ -163,32 +127,8 @@ returns-6 c =
 pub judge-spec : {M : Type 1} → statement M
 judge-spec =
     tie.close
-    (tie.spec
-    tables-requires
-    slice-aggregate-check-table
-    check-table-requires
-    enum-known-a
-    returns
-    enum-told
-    slice-aggregate-check-table-2
-    check-table-requires-2
-    enum-known-c
-    returns-2
-    enum-told-2
-    slice-aggregate-check-special
-    check-special-requires
-    enum-known-d
-    returns-3
-    enum-told-3
-    check-keys-requires
-    enum-known-e
-    returns-4
-    enum-told-4
-    slice-aggregate-check-nodes
-    check-nodes-requires
-    enum-known-f
-    returns-5
-    enum-told-5
-    check-tree-requires
-    same-length
-    returns-6)
+    (tie.spec (λ c κs. search needs) slice-aggregate-check-table check-table-requires (λ c. search needs) returns (λ c. search needs)
+    slice-aggregate-check-table-2 check-table-requires-2 (λ c. search needs) returns-2 (λ c. search needs) slice-aggregate-check-special
+    check-special-requires (λ c. search needs) returns-3 (λ c. search needs) check-keys-requires (λ c. search needs) returns-4
+    (λ c. search needs) slice-aggregate-check-nodes check-nodes-requires (λ c. search needs) returns-5 (λ c. search needs)
+    check-tree-requires (λ c. search needs) returns-6)

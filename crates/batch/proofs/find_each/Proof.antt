@@ -12,17 +12,8 @@ use Rattle.batch.proofs.find_each.Tie as tie
 formed : (c : tie.After-enum-told) → Clean (pathChecks (c .before .before .before .before .before .before .before .args .texts .now))
 formed c = sym (c .before .before .check-path .ensures) ∙ c .enum-told .given .1
 
-check-path-requires : tie.Need-check-path-requires
-check-path-requires c κs = search needs
-
-enum-known-c : tie.Need-enum-known-c
-enum-known-c c = search needs
-
 returns : tie.Need-returns
 returns c = texts-refused _ _ _ (sym (c .before .before .before .check-path .ensures) ∙ c .before .c .given .1)
-
-enum-told : tie.Need-enum-told
-enum-told c = search needs
 
 count-texts-requires : tie.Need-count-texts-requires
 count-texts-requires c κs = formed-inv _ (formed c) .0
@@ -34,22 +25,11 @@ put-places-requires : tie.Need-put-places-requires
 put-places-requires c κs =
     (c .before .before .before .before .before .before .before .before .before .before .pre, (formed (c .before .before .before), omega (arith, c .before .if1 .left, c .before .before .count-texts .ensures)))
 
-same-length : tie.Need-same-length
-same-length c = search needs
-
 returns-3 : tie.Need-returns-3
 returns-3 c = all-told _ _ _ (formed (c .before .before .before .before .before .before)) (c .before .before .before .before .before .count-texts .ensures) (c .before .before .before .before .if1 .left) (c .before .before .put-places .ensures)
 
 pub find-each-spec : {M : Type 1} → statement M
 find-each-spec =
     tie.close
-    (tie.spec
-    check-path-requires
-    enum-known-c
-    returns
-    enum-told
-    count-texts-requires
-    returns-2
-    put-places-requires
-    same-length
-    returns-3)
+    (tie.spec (λ c κs. search needs) (λ c. search needs) returns (λ c. search needs) count-texts-requires returns-2 put-places-requires
+    (λ c. search needs) returns-3)

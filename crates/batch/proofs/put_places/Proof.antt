@@ -4,9 +4,9 @@ use lib.ListN.{length}
 use Rattle.strings.specs.Held.{heldTable}
 use Rattle.strings.proofs.Accepted.{strings-parts}
 use Rattle.lookup.specs.Kinds.{toldIn}
-use Rattle.prefetch.specs.Batch.{Lengths}
+use Rattle.search.specs.Group.{Lengths}
 use Rattle.batch.proofs.Placed.{Writing, writing-start, place-room, writing-all}
-use Rattle.batch.proofs.Slots.{low-read}
+use Rattle.batch.proofs.Slots.{near-read}
 use Rattle.batch.proofs.Groupwise.{Going, going-start, going-text, going-more, going-on}
 use native.Mathlib.Omega.{arith}
 use borrow.Author.Needs.{needs}
@@ -32,8 +32,8 @@ loop-holds c = (writing-start _ _ _ (c .before .before .before .before .pre .1 .
 take-requires : tie.Need-take-requires Inv-loop2 μ-loop2 Inv-loop μ-loop
 take-requires c κs = let p = c .before .before .before .before .before .before .before .before .pre in let i = c .before .before .before .loop .inv in (p .0 .0, p .1 .0, i .0 .even, c .before .before .loop-test .taken, i .1 .first, i .1 .second)
 
-settle-requires : tie.Need-settle-requires Inv-loop2 μ-loop2 Inv-loop μ-loop
-settle-requires c κs = let p = c .before .before .before .before .before .before .before .before .before .before .before .pre .0 in let g = c .before .before .take .ensures .1 in (p .1, strings-parts _ (p .2) .0, g .few, g .hashes-long, c .before .before .before .before .before .before .loop .inv .1 .third)
+bring-near-requires : tie.Need-bring-near-requires Inv-loop2 μ-loop2 Inv-loop μ-loop
+bring-near-requires c κs = let p = c .before .before .before .before .before .before .before .before .before .before .before .pre .0 in let g = c .before .before .take .ensures .1 in (p .1, strings-parts _ (p .2) .0, g .few, g .hashes-long, c .before .before .before .before .before .before .loop .inv .1 .third)
 
 loop2-holds : tie.Need-loop2-holds Inv-loop2 μ-loop2 Inv-loop μ-loop
 loop2-holds c = going-start _ _ _ (c .before .before .before .take .ensures .1)
@@ -42,33 +42,12 @@ loop-less : tie.Need-loop-less Inv-loop2 μ-loop2 Inv-loop μ-loop
 loop-less c = let g = c .before .loop2 .inv in omega (arith, c .before .before .before .before .before .before .before .before .loop-test .taken, c .loop2-test .left, c .before .before .before .before .before .take .ensures .0, going-on g (omega (arith, c .loop2-test .left, c .before .before .before .before .before .take .ensures .0)))
 
 loop-again : tie.Need-loop-again Inv-loop2 μ-loop2 Inv-loop μ-loop
-loop-again c = let g = c .before .loop2 .inv in (g .kept _ (c .before .before .before .before .before .before .before .before .before .loop .inv .0), record { first = g .group .lengths-long; second = g .group .hashes-long; third = c .before .before .settle .ensures .long })
-
-mul-k : tie.Need-mul-k Inv-loop2 μ-loop2 Inv-loop μ-loop
-mul-k c = search needs
-
-array-read-k : tie.Need-array-read-k Inv-loop2 μ-loop2 Inv-loop μ-loop
-array-read-k c = search needs
-
-mul-wide : tie.Need-mul-wide Inv-loop2 μ-loop2 Inv-loop μ-loop
-mul-wide c = search needs
-
-array-read-wide : tie.Need-array-read-wide Inv-loop2 μ-loop2 Inv-loop μ-loop
-array-read-wide c = search needs
-
-wide-requires : tie.Need-wide-requires Inv-loop2 μ-loop2 Inv-loop μ-loop
-wide-requires c κs = search needs
-
-mul-find-from : tie.Need-mul-find-from Inv-loop2 μ-loop2 Inv-loop μ-loop
-mul-find-from c = search needs
-
-array-read-find-from : tie.Need-array-read-find-from Inv-loop2 μ-loop2 Inv-loop μ-loop
-array-read-find-from c = search needs
+loop-again c = let g = c .before .loop2 .inv in (g .kept _ (c .before .before .before .before .before .before .before .before .before .loop .inv .0), record { first = g .group .lengths-long; second = g .group .hashes-long; third = c .before .before .bring-near .ensures .long })
 
 find-from-requires : tie.Need-find-from-requires Inv-loop2 μ-loop2 Inv-loop μ-loop
 find-from-requires c κs = let p = c .before .before .before .before .before .before .before .before .before .before .before .before .before .before .before .pre .0 in
     let e = going-text (c .before .before .loop2 .inv) (c .before .before .before .before .before .before .before .before .before .before .before .before .before .before .before .pre .1 .0) (c .before .before .before .before .before .before .before .before .before .before .loop .inv .0 .even) (c .before .loop2-test .taken) in
-    ((p .1, p .2), (omega (arith, e .within), c .wide .ensures .0 ∙ e .hashed, low-read (c .before .before .before .settle .ensures) _ (c .before .loop2-test .taken) (c .wide .ensures .0) refl))
+    ((p .1, p .2), (omega (arith, e .within), c .wide .ensures .0 ∙ e .hashed, near-read (c .before .before .before .bring-near .ensures) _ (c .before .loop2-test .taken) (c .wide .ensures .0) refl))
 
 put-place-requires : tie.Need-put-place-requires Inv-loop2 μ-loop2 Inv-loop μ-loop
 put-place-requires c κs = place-room _ _ (c .before .before .before .before .loop2 .inv .kept _ (c .before .before .before .before .before .before .before .before .before .before .before .before .loop .inv .0)) (going-text (c .before .before .before .before .loop2 .inv) (c .before .before .before .before .before .before .before .before .before .before .before .before .before .before .before .before .before .pre .1 .0) (c .before .before .before .before .before .before .before .before .before .before .before .before .loop .inv .0 .even) (c .before .before .before .loop2-test .taken))
@@ -85,12 +64,6 @@ add-at c = record { fits = omega (arith, c .before .before .before .before .befo
 add-at-2 : tie.Need-add-at-2 Inv-loop2 μ-loop2 Inv-loop μ-loop
 add-at-2 c = record { fits = omega (arith, c .before .before .before .before .before .before .before .before .before .before .before .before .before .before .before .before .before .before .before .before .good .1 .1 .1 .1 .1 .1 .0 .0, (going-text (c .before .before .before .before .before .before .before .loop2 .inv) (c .before .before .before .before .before .before .before .before .before .before .before .before .before .before .before .before .before .before .before .before .pre .1 .0) (c .before .before .before .before .before .before .before .before .before .before .before .before .before .before .before .loop .inv .0 .even) (c .before .before .before .before .before .before .loop2-test .taken)) .within) }
 
-add-j : tie.Need-add-j Inv-loop2 μ-loop2 Inv-loop μ-loop
-add-j c = search needs
-
-loop2-less : tie.Need-loop2-less Inv-loop2 μ-loop2 Inv-loop μ-loop
-loop2-less c = search needs
-
 loop2-again : tie.Need-loop2-again Inv-loop2 μ-loop2 Inv-loop μ-loop
 loop2-again c = going-more (c .before .before .before .before .before .before .before .loop2 .inv) (c .before .before .before .before .before .before .loop2-test .taken) (going-text (c .before .before .before .before .before .before .before .loop2 .inv) (c .before .before .before .before .before .before .before .before .before .before .before .before .before .before .before .before .before .before .before .before .pre .1 .0) (c .before .before .before .before .before .before .before .before .before .before .before .before .before .before .before .loop .inv .0 .even) (c .before .before .before .before .before .before .loop2-test .taken)) (c .before .before .before .before .find-from .ensures) (c .before .before .put-place .ensures)
 
@@ -103,32 +76,7 @@ returns c = writing-all _ _ (c .before .loop .inv .0) (c .loop-test .left)
 pub put-places-spec : {M : Type 1} → statement M
 put-places-spec =
     tie.close
-    (tie.spec
-    Inv-loop2
-    μ-loop2
-    Inv-loop
-    μ-loop
-    loop-holds
-    take-requires
-    settle-requires
-    loop2-holds
-    loop-less
-    loop-again
-    mul-k
-    array-read-k
-    mul-wide
-    array-read-wide
-    wide-requires
-    mul-find-from
-    array-read-find-from
-    find-from-requires
-    put-place-requires
-    add-i
-    mul-at
-    add-at
-    add-at-2
-    add-j
-    loop2-less
-    loop2-again
-    same-length
-    returns)
+    (tie.spec Inv-loop2 μ-loop2 Inv-loop μ-loop loop-holds take-requires bring-near-requires loop2-holds loop-less loop-again
+    (λ c. search needs) (λ c. search needs) (λ c. search needs) (λ c. search needs) (λ c κs. search needs) (λ c. search needs)
+    (λ c. search needs) find-from-requires put-place-requires add-i mul-at add-at add-at-2 (λ c. search needs) (λ c. search needs)
+    loop2-again same-length returns)

@@ -7,45 +7,20 @@ use borrow.Author.Needs.{needs}
 use Rattle.dcdump.proofs.read_some.Statement.{statement}
 use Rattle.dcdump.proofs.read_some.Tie as tie
 
-sub-rest : tie.Need-sub-rest
-sub-rest c = search needs
-
-part-rest-start : tie.Need-part-rest-start
-part-rest-start c = search needs
-
-part-rest-end : tie.Need-part-rest-end
-part-rest-end c = search needs
-
-read-requires : tie.Need-read-requires
-read-requires c κs = search needs
-
-same-length : tie.Need-same-length
-same-length c = search needs
-
 returns : tie.Need-returns
 unfolding came
-returns c = (omega arith, take-put (c .before .before .before .before .before .before .before .before .before .args .done) (length (c .before .before .before .before .before .before .before .before .before .args .buf .now) - c .before .before .before .before .before .before .before .before .before .args .done) (c .before .before .before .before .before .before .before .before .before .args .buf .now) (c .before .before .before .before .before .read .last .1 .0) (c .before .before .before .before .before .before .before .before .before .pre))
-
-count-requires : tie.Need-count-requires
-count-requires c κs = search needs
-
-same-length-2 : tie.Need-same-length-2
-same-length-2 c = search needs
+returns c =
+    let s = c .before .before .before .before .before .before .before .before .before in
+    (omega arith, take-put (s .args .done) (length (s .args .buf .now) - s .args .done) (s .args .buf .now) (c .before .before .before .before .before .read .last .1 .0) (s .pre))
 
 returns-2 : tie.Need-returns-2
 unfolding came
-returns-2 c = (omega (arith, c .before .before .count .ensures .0 .0), take-put (c .before .before .before .before .before .before .before .before .before .before .before .args .done) (length (c .before .before .before .before .before .before .before .before .before .before .before .args .buf .now) - c .before .before .before .before .before .before .before .before .before .before .before .args .done) (c .before .before .before .before .before .before .before .before .before .before .before .args .buf .now) (c .before .before .before .before .before .before .before .read .last .1 .0) (c .before .before .before .before .before .before .before .before .before .before .before .pre))
+returns-2 c =
+    let s = c .before .before .before .before .before .before .before .before .before .before .before in
+    (omega (arith, c .before .before .count .ensures .0 .0), take-put (s .args .done) (length (s .args .buf .now) - s .args .done) (s .args .buf .now) (c .before .before .before .before .before .before .before .read .last .1 .0) (s .pre))
 
 pub read-some-spec : {M : Type 1} → statement M
 read-some-spec =
     tie.close
-    (tie.spec
-    sub-rest
-    part-rest-start
-    part-rest-end
-    read-requires
-    same-length
-    returns
-    count-requires
-    same-length-2
-    returns-2)
+    (tie.spec (λ c. search needs) (λ c. search needs) (λ c. search needs) (λ c κs. search needs) (λ c. search needs) returns
+    (λ c κs. search needs) (λ c. search needs) returns-2)

@@ -16,32 +16,14 @@ loop-holds c = count-start (c .before .pre)
 returns : tie.Need-returns Inv-loop μ-loop
 returns c = count-end (c .before .before .loop .inv) (c .if1 .taken)
 
-shared-slice-read-if2 : tie.Need-shared-slice-read-if2 Inv-loop μ-loop
-shared-slice-read-if2 c = search needs
-
 returns-2 : tie.Need-returns-2 Inv-loop μ-loop
 returns-2 c = count-newline (c .before .before .before .before .loop .inv) (c .before .before .if1 .left) (c .if2 .taken) (c .before .before .before .loop-test .taken)
-
-sub-if3 : tie.Need-sub-if3 Inv-loop μ-loop
-sub-if3 c = search needs
 
 returns-3 : tie.Need-returns-3 Inv-loop μ-loop
 returns-3 c = count-single (c .before .before .before .before .before .loop .inv) (c .before .before .before .if1 .left) (c .if3 .taken) (c .before .if2 .left)
 
-byte-requires : tie.Need-byte-requires Inv-loop μ-loop
-byte-requires c κs = search needs
-
 returns-4 : tie.Need-returns-4 Inv-loop μ-loop
 returns-4 c = count-other (c .before .before .before .before .before .before .before .loop .inv) (c .before .before .if3 .left) (c .before .before .before .if2 .left) (c .before .byte .ensures) (c .if4 .taken)
-
-add-k : tie.Need-add-k Inv-loop μ-loop
-add-k c = search needs
-
-add-at : tie.Need-add-at Inv-loop μ-loop
-add-at c = search needs
-
-loop-less : tie.Need-loop-less Inv-loop μ-loop
-loop-less c = search needs
 
 loop-again : tie.Need-loop-again Inv-loop μ-loop
 loop-again c = count-more (c .before .before .before .before .before .before .before .loop .inv) (c .before .before .before .before .before .before .loop-test .taken) (c .before .before .if3 .left) (c .before .byte .ensures) (c .if4 .left)
@@ -52,19 +34,5 @@ returns-5 c = count-all (c .before .loop .inv) (c .loop-test .left)
 pub count-spec : {M : Type 1} → statement M
 count-spec =
     tie.close
-    (tie.spec
-    Inv-loop
-    μ-loop
-    loop-holds
-    returns
-    shared-slice-read-if2
-    returns-2
-    sub-if3
-    returns-3
-    byte-requires
-    returns-4
-    add-k
-    add-at
-    loop-less
-    loop-again
-    returns-5)
+    (tie.spec Inv-loop μ-loop loop-holds returns (λ c. search needs) returns-2 (λ c. search needs) returns-3 (λ c κs. search needs)
+    returns-4 (λ c. search needs) (λ c. search needs) (λ c. search needs) loop-again returns-5)

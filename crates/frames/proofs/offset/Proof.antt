@@ -14,15 +14,6 @@ abbrev μ-loop : tie.MeasureT-loop
 loop-holds : tie.Need-loop-holds Inv-loop μ-loop
 loop-holds c = offset-start (c .before .pre)
 
-add-digit : tie.Need-add-digit Inv-loop μ-loop
-add-digit c = search needs
-
-shared-slice-read-digit : tie.Need-shared-slice-read-digit Inv-loop μ-loop
-shared-slice-read-digit c = search needs
-
-digit-requires : tie.Need-digit-requires Inv-loop μ-loop
-digit-requires c κs = search needs
-
 returns : tie.Need-returns Inv-loop μ-loop
 returns c = offset-other (c .before .before .before .before .loop .inv) (c .before .before .before .loop-test .taken) (c .before .digit .ensures .0) (c .if1 .taken)
 
@@ -32,20 +23,8 @@ mul-number c = omega (arith, offset-fits (c .before .before .before .before .loo
 add-number : tie.Need-add-number Inv-loop μ-loop
 add-number c = omega (arith, offset-fits (c .before .before .before .before .loop .inv))
 
-add-i : tie.Need-add-i Inv-loop μ-loop
-add-i c = search needs
-
-loop-less : tie.Need-loop-less Inv-loop μ-loop
-loop-less c = search needs
-
 loop-again : tie.Need-loop-again Inv-loop μ-loop
 loop-again c = offset-more (c .before .before .before .before .loop .inv) (c .before .before .before .loop-test .taken) (c .before .digit .ensures .0) (c .if1 .left)
-
-add-if2 : tie.Need-add-if2 Inv-loop μ-loop
-add-if2 c = search needs
-
-shared-slice-read-if2 : tie.Need-shared-slice-read-if2 Inv-loop μ-loop
-shared-slice-read-if2 c = search needs
 
 returns-2 : tie.Need-returns-2 Inv-loop μ-loop
 returns-2 c = offset-end (c .before .before .before .loop .inv) (c .before .before .loop-test .left) (c .if2 .taken)
@@ -56,20 +35,5 @@ returns-3 c = offset-spaceless (c .before .before .before .loop .inv) (c .before
 pub offset-spec : {M : Type 1} → statement M
 offset-spec =
     tie.close
-    (tie.spec
-    Inv-loop
-    μ-loop
-    loop-holds
-    add-digit
-    shared-slice-read-digit
-    digit-requires
-    returns
-    mul-number
-    add-number
-    add-i
-    loop-less
-    loop-again
-    add-if2
-    shared-slice-read-if2
-    returns-2
-    returns-3)
+    (tie.spec Inv-loop μ-loop loop-holds (λ c. search needs) (λ c. search needs) (λ c κs. search needs) returns mul-number add-number
+    (λ c. search needs) (λ c. search needs) loop-again (λ c. search needs) (λ c. search needs) returns-2 returns-3)

@@ -16,15 +16,6 @@ abbrev μ-loop : tie.MeasureT-loop
 loop-holds : tie.Need-loop-holds Inv-loop μ-loop
 loop-holds c = reach-start (c .before .before .pre)
 
-read-line-requires : tie.Need-read-line-requires Inv-loop μ-loop
-read-line-requires c κs = search needs
-
-enum-known-q : tie.Need-enum-known-q Inv-loop μ-loop
-enum-known-q c = search needs
-
-enum-told : tie.Need-enum-told Inv-loop μ-loop
-enum-told c = search needs
-
 same-length : tie.Need-same-length Inv-loop μ-loop
 same-length c = c .before .before .before .before .read-line .kept .1 .1 .1 .0 ∙ c .before .before .before .before .before .before .before .loop .inv .size
 
@@ -32,9 +23,6 @@ returns : tie.Need-returns Inv-loop μ-loop
 returns c = reach-other (c .before .before .before .before .before .before .before .loop .inv) (c .before .before .before .before .before .before .loop-test .taken)
     (sym (c .enum-told .given .1) ∙ c .before .before .before .before .read-line .ensures .0)
     (c .before .before .before .before .read-line .ensures .1)
-
-add-number : tie.Need-add-number Inv-loop μ-loop
-add-number c = search needs
 
 loop-less : tie.Need-loop-less Inv-loop μ-loop
 loop-less c = let p = reach-on (c .before .before .before .before .before .before .before .before .loop .inv) (c .before .before .before .before .before .before .before .loop-test .taken) (sym (c .before .q .given .1) ∙ c .before .before .before .before .before .read-line .ensures .0) in
@@ -54,17 +42,5 @@ returns-2 c = reach-end (c .before .loop .inv) (c .loop-test .left)
 pub read-frames-spec : {M : Type 1} → statement M
 read-frames-spec =
     tie.close
-    (tie.spec
-    Inv-loop
-    μ-loop
-    loop-holds
-    read-line-requires
-    enum-known-q
-    enum-told
-    same-length
-    returns
-    add-number
-    loop-less
-    loop-again
-    same-length-2
-    returns-2)
+    (tie.spec Inv-loop μ-loop loop-holds (λ c κs. search needs) (λ c. search needs) (λ c. search needs) same-length returns
+    (λ c. search needs) loop-less loop-again same-length-2 returns-2)

@@ -19,11 +19,8 @@ returns c = among _ _ 1024 (omega arith) (c .if1 .taken)
 returns-2 : tie.Need-returns-2
 returns-2 c = among _ _ 512 (omega arith) (c .if2 .taken)
 
-rem-result : tie.Need-rem-result
-rem-result c = search needs
-
 returns-3 : tie.Need-returns-3
 returns-3 c = among _ _ _ (c .before .before .pre) refl
 
 pub bucket-spec : {M : Type 1} → statement M
-bucket-spec = tie.close (tie.spec returns returns-2 rem-result returns-3)
+bucket-spec = tie.close (tie.spec returns returns-2 (λ c. search needs) returns-3)

@@ -19,9 +19,6 @@ returns-3 : tie.Need-returns-3
 unfolding folded
 returns-3 c = (sym (ap folded (c .if3 .taken)), omega arith)
 
-loses-requires : tie.Need-loses-requires
-loses-requires c κs = search needs
-
 sub-result : tie.Need-sub-result
 sub-result c = lost-room _ (sym (c .before .loses .ensures) ∙ c .if4 .taken)
 
@@ -39,4 +36,4 @@ returns-5 c =
 
 pub fold-any-spec : {M : Type 1} → statement M
 fold-any-spec =
-    tie.close (tie.spec returns returns-2 returns-3 loses-requires sub-result returns-4 returns-5)
+    tie.close (tie.spec returns returns-2 returns-3 (λ c κs. search needs) sub-result returns-4 returns-5)

@@ -9,14 +9,8 @@ use Rattle.hash.proofs.fold_pair.Tie as tie
 fold-low-requires : tie.Need-fold-low-requires
 fold-low-requires c κs = low-halves (c .before .args .w) (c .before .pre) (c .if1 .taken)
 
-returns : tie.Need-returns
-returns c = search needs
-
 fold-requires : tie.Need-fold-requires
 fold-requires c κs = mask-lt (c .before .args .w) 16
-
-fold-requires-2 : tie.Need-fold-requires-2
-fold-requires-2 c κs = search needs
 
 returns-2 : tie.Need-returns-2
 returns-2 c =
@@ -26,4 +20,4 @@ returns-2 c =
 
 pub fold-pair-spec : {M : Type 1} → statement M
 fold-pair-spec =
-    tie.close (tie.spec fold-low-requires returns fold-requires fold-requires-2 returns-2)
+    tie.close (tie.spec fold-low-requires (λ c. search needs) fold-requires (λ c κs. search needs) returns-2)

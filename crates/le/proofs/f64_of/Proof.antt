@@ -7,12 +7,9 @@ use Rattle.le.proofs.f64_of.Tie as tie
 float-from-bits-result : tie.Need-float-from-bits-result
 float-from-bits-result c = no-nan binary64 (c .before .args .bits) (c .if1 .taken)
 
-returns : tie.Need-returns
-returns c = search needs
-
 returns-2 : tie.Need-returns-2
 unfolding div ofBits
 returns-2 c = a-nan binary64 (c .before .args .bits) (c .if1 .left)
 
 pub f64-of-spec : {M : Type 1} → statement M
-f64-of-spec = tie.close (tie.spec float-from-bits-result returns returns-2)
+f64-of-spec = tie.close (tie.spec float-from-bits-result (λ c. search needs) returns-2)

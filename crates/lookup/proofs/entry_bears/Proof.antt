@@ -7,34 +7,10 @@ use borrow.Author.Needs.{needs}
 use Rattle.lookup.proofs.entry_bears.Statement.{statement}
 use Rattle.lookup.proofs.entry_bears.Tie as tie
 
-entry-at-requires : tie.Need-entry-at-requires
-entry-at-requires c κs = search needs
-
-add-u32-at : tie.Need-add-u32-at
-add-u32-at c = search needs
-
-u32-at-requires : tie.Need-u32-at-requires
-u32-at-requires c κs = search needs
-
-add-if1 : tie.Need-add-if1
-add-if1 c = search needs
-
 returns : tie.Need-returns
 returns c =
     let p = c .before .before .before .before .before .before .pre in
     tells-no (other-length _ _ _ _ _ _ (p .2) (p .1) (length-at _ _ _ _ _ (c .before .before .entry-at .ensures .0) (c .before .u32-at .ensures .0)) (length-chars _ _ _) (c .if1 .taken))
-
-add-spot-to : tie.Need-add-spot-to
-add-spot-to c = search needs
-
-spot-to-requires : tie.Need-spot-to-requires
-spot-to-requires c κs = search needs
-
-enum-known-a : tie.Need-enum-known-a
-enum-known-a c = search needs
-
-enum-told : tie.Need-enum-told
-enum-told c = search needs
 
 returns-2 : tie.Need-returns-2
 returns-2 c =
@@ -60,16 +36,5 @@ returns-3 c =
 pub entry-bears-spec : {M : Type 1} → statement M
 entry-bears-spec =
     tie.close
-    (tie.spec
-    entry-at-requires
-    add-u32-at
-    u32-at-requires
-    add-if1
-    returns
-    add-spot-to
-    spot-to-requires
-    enum-known-a
-    enum-told
-    returns-2
-    alike-requires
-    returns-3)
+    (tie.spec (λ c κs. search needs) (λ c. search needs) (λ c κs. search needs) (λ c. search needs) returns (λ c. search needs)
+    (λ c κs. search needs) (λ c. search needs) (λ c. search needs) returns-2 alike-requires returns-3)

@@ -13,12 +13,6 @@ Inv-loop b s samples starts h low q p n k m j₀ j = Searched (heldTable b s sta
 abbrev μ-loop : tie.MeasureT-loop
 μ-loop b s samples starts h low q p n k m j₀ j = m - j
 
-bucket-requires : tie.Need-bucket-requires Inv-loop μ-loop
-bucket-requires c κs = search needs
-
-entry-count-requires : tie.Need-entry-count-requires Inv-loop μ-loop
-entry-count-requires c κs = search needs
-
 loop-holds : tie.Need-loop-holds Inv-loop μ-loop
 loop-holds c = let p = c .before .before .before .before .before .pre in
     let k = c .before .bucket .ensures in
@@ -26,9 +20,6 @@ loop-holds c = let p = c .before .before .before .before .before .pre in
 
 entry-at-requires : tie.Need-entry-at-requires Inv-loop μ-loop
 entry-at-requires c κs = let i = c .before .loop .inv in (c .before .before .before .before .before .before .before .pre .0 .0, here-in _ _ _ _ (i .bucket) (i .many) (c .loop-test .taken))
-
-u32-at-requires : tie.Need-u32-at-requires Inv-loop μ-loop
-u32-at-requires c κs = search needs
 
 returns : tie.Need-returns Inv-loop μ-loop
 returns c = searched-over _ _ _ _ _ _ (c .before .before .before .before .loop .inv) (c .before .before .before .before .before .before .before .before .before .before .pre .0 .1) _ (c .before .before .before .loop-test .taken) (hash-at _ _ _ _ _ (c .before .before .entry-at .ensures .0) (c .before .u32-at .ensures .0)) (c .if1 .taken)
@@ -42,12 +33,6 @@ returns-2 : tie.Need-returns-2 Inv-loop μ-loop
 returns-2 c = let i = c .before .before .before .before .before .before .loop .inv in
     searched-found _ _ _ _ _ _ i (c .before .before .before .before .before .before .before .before .before .before .before .before .pre .0 .1) _ (here-in _ _ _ _ (i .bucket) (i .many) (c .before .before .before .before .before .loop-test .taken)) (c .before .before .before .before .entry-at .ensures .0) (c .before .entry-bears .ensures .so (c .if2 .taken))
 
-add-j : tie.Need-add-j Inv-loop μ-loop
-add-j c = search needs
-
-loop-less : tie.Need-loop-less Inv-loop μ-loop
-loop-less c = search needs
-
 loop-again : tie.Need-loop-again Inv-loop μ-loop
 loop-again c = searched-more _ _ _ _ _ _ (c .before .before .before .before .before .before .loop .inv) (c .before .entry-bears .ensures .not (c .if2 .left))
 
@@ -57,18 +42,5 @@ returns-3 c = searched-end _ _ _ _ _ _ (c .before .loop .inv) (c .before .before
 pub find-entry-spec : {M : Type 1} → statement M
 find-entry-spec =
     tie.close
-    (tie.spec
-    Inv-loop
-    μ-loop
-    bucket-requires
-    entry-count-requires
-    loop-holds
-    entry-at-requires
-    u32-at-requires
-    returns
-    entry-bears-requires
-    returns-2
-    add-j
-    loop-less
-    loop-again
-    returns-3)
+    (tie.spec Inv-loop μ-loop (λ c κs. search needs) (λ c κs. search needs) loop-holds entry-at-requires (λ c κs. search needs) returns
+    entry-bears-requires returns-2 (λ c. search needs) (λ c. search needs) loop-again returns-3)

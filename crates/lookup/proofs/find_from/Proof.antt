@@ -11,20 +11,8 @@ use Rattle.lookup.proofs.find_from.Tie as tie
 inside : (c : tie.After-known-told) → c .before .e .given .0 .0 + 16 ≤ length (c .before .before .before .before .before .before .before .args .b .now)
 inside c = let s = c .before .before .before .before .before .before .before in entry-inside _ _ (s .pre .0 .1) (c .before .before .before .find-entry .ensures) _ (c .before .e .given .1) _ (s .pre .0 .0 .laid)
 
-find-entry-requires : tie.Need-find-entry-requires
-find-entry-requires c κs = search needs
-
-enum-known-e : tie.Need-enum-known-e
-enum-known-e c = search needs
-
-enum-told : tie.Need-enum-told
-enum-told c = search needs
-
 returns : tie.Need-returns
 returns c = none-told _ _ _ (c .before .before .before .before .before .before .pre .0 .1) (c .before .before .find-entry .ensures) (c .enum-told .given .1)
-
-enum-told-2 : tie.Need-enum-told-2
-enum-told-2 c = search needs
 
 add-u32-at : tie.Need-add-u32-at
 add-u32-at c = omega (arith, inside (c .before .before))
@@ -32,26 +20,17 @@ add-u32-at c = omega (arith, inside (c .before .before))
 u32-at-requires : tie.Need-u32-at-requires
 u32-at-requires c κs = omega (arith, inside (c .before .before))
 
-enum-told-3 : tie.Need-enum-told-3
-enum-told-3 c = search needs
-
 add-u16-at : tie.Need-add-u16-at
 add-u16-at c = omega (arith, inside (c .before .before))
 
 u16-at-requires : tie.Need-u16-at-requires
 u16-at-requires c κs = omega (arith, inside (c .before .before))
 
-mul-t18 : tie.Need-mul-t18
-mul-t18 c = search needs
-
 add-u16-at-2 : tie.Need-add-u16-at-2
 add-u16-at-2 c = omega (arith, inside (c .before .before .before))
 
 u16-at-requires-2 : tie.Need-u16-at-requires-2
 u16-at-requires-2 c κs = omega (arith, inside (c .before .before .before))
-
-add-t21 : tie.Need-add-t21
-add-t21 c = search needs
 
 returns-2 : tie.Need-returns-2
 returns-2 c = name-told _ _ (c .before .enum-told2 .given .1) (index-told _ _ (c .before .before .before .before .before .before .before .before .before .before .pre .0 .1) (c .before .before .before .before .before .before .find-entry .ensures) _ (c .before .before .before .before .e .given .1) _ (c .u32-at .ensures .0))
@@ -62,20 +41,6 @@ returns-3 c = value-told _ _ (c .before .before .enum-told3 .given .1) (address-
 pub find-from-spec : {M : Type 1} → statement M
 find-from-spec =
     tie.close
-    (tie.spec
-    find-entry-requires
-    enum-known-e
-    enum-told
-    returns
-    enum-told-2
-    add-u32-at
-    u32-at-requires
-    enum-told-3
-    add-u16-at
-    u16-at-requires
-    mul-t18
-    add-u16-at-2
-    u16-at-requires-2
-    add-t21
-    returns-2
+    (tie.spec (λ c κs. search needs) (λ c. search needs) (λ c. search needs) returns (λ c. search needs) add-u32-at u32-at-requires
+    (λ c. search needs) add-u16-at u16-at-requires (λ c. search needs) add-u16-at-2 u16-at-requires-2 (λ c. search needs) returns-2
     returns-3)

@@ -7,9 +7,6 @@ use Rattle.outline.proofs.write_outline.Tie as tie
 add-root : tie.Need-add-root
 add-root c = let p = c .before .before .before .before .pre .line in omega (arith, p .placed .nodes .at-is, p .placed .nodes .short, p .placed .nodes .laid .head)
 
-slice-aggregate-write-node : tie.Need-slice-aggregate-write-node
-slice-aggregate-write-node c = search needs
-
 write-node-requires : tie.Need-write-node-requires
 write-node-requires c κs = let p = c .before .before .before .before .before .pre in (p, (root-used p, root-place p, root-live p, omega arith))
 
@@ -19,9 +16,6 @@ returns c = let p = c .before .before .before .before .before .before .before .b
 write-node-requires-2 : tie.Need-write-node-requires-2
 write-node-requires-2 c κs = let p = c .before .before .before .before .before .before .before .before .before .pre in (p, (root-used p, root-place p, root-live p, omega arith))
 
-same-length : tie.Need-same-length
-same-length c = search needs
-
 returns-2 : tie.Need-returns-2
 returns-2 c =
     let p = c .before .before .before .before .before .before .before .before .before .before .before .before .pre in
@@ -30,11 +24,4 @@ returns-2 c =
 pub write-outline-spec : {M : Type 1} → statement M
 write-outline-spec =
     tie.close
-    (tie.spec
-    add-root
-    slice-aggregate-write-node
-    write-node-requires
-    returns
-    write-node-requires-2
-    same-length
-    returns-2)
+    (tie.spec add-root (λ c. search needs) write-node-requires returns write-node-requires-2 (λ c. search needs) returns-2)

@@ -18,12 +18,6 @@ add-spot-to c = omega (arith, listed-in _ _ _ _ (c .before .before .before .pre 
 spot-to-requires : tie.Need-spot-to-requires
 spot-to-requires c κs = let p = c .before .before .before .pre in (p .1 .chars, p .1 .sampled, listed-in _ _ _ _ (p .1) _ (p .4))
 
-enum-known-a : tie.Need-enum-known-a
-enum-known-a c = search needs
-
-enum-told : tie.Need-enum-told
-enum-told c = search needs
-
 returns : tie.Need-returns
 returns c = let p = c .before .before .before .before .before .before .pre in
     tells-no (λ w. unspotted _ _ _ _ (p .1) _ (c .before .before .spot-to .ensures) (c .enum-told .given .1) (carried-in _ _ (p .2) w))
@@ -32,29 +26,15 @@ measure-requires : tie.Need-measure-requires
 measure-requires c κs = let p = c .before .before .before .before .before .before .before .pre in
     (p .0, spotted _ _ _ _ (p .1) _ (c .before .before .before .spot-to .ensures) (c .before .a .given .1) .fits)
 
-bucket-requires : tie.Need-bucket-requires
-bucket-requires c κs = search needs
-
-carries-requires : tie.Need-carries-requires
-carries-requires c κs = search needs
-
 returns-2 : tie.Need-returns-2
 unfolding listedText
-returns-2 c = let p = c .before .before .before .before .before .before .before .before .before .before .pre in
-    let w = spotted _ _ _ _ (p .1) _ (c .before .before .before .before .before .before .spot-to .ensures) (c .before .before .before .before .a .given .1) in
-    only-there _ _ (p .2) _ _ _ (c .before .before .measure .ensures .hashed ∙ ap hashText (w .text)) (c .before .bucket .ensures .0) (c .before .bucket .ensures .1) (c .carries .ensures)
+returns-2 c =
+    let p = c .before .before .before .before .before .before .before .before .before .before .before .pre in
+    let w = spotted _ _ _ _ (p .1) _ (c .before .before .before .before .before .before .before .spot-to .ensures) (c .before .before .before .before .before .a .given .1) in
+    only-there _ _ (p .2) _ _ _ (c .before .before .before .measure .ensures .hashed ∙ ap hashText (w .text)) (c .before .before .bucket .ensures .0) (c .before .before .bucket .ensures .1) (c .run-has .ensures)
 
 pub carried-spec : {M : Type 1} → statement M
 carried-spec =
     tie.close
-    (tie.spec
-    mul-spot-to
-    add-spot-to
-    spot-to-requires
-    enum-known-a
-    enum-told
-    returns
-    measure-requires
-    bucket-requires
-    carries-requires
-    returns-2)
+    (tie.spec mul-spot-to add-spot-to spot-to-requires (λ c. search needs) (λ c. search needs) returns measure-requires
+    (λ c κs. search needs) (λ c κs. search needs) (λ c κs. search needs) returns-2)

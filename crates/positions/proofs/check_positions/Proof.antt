@@ -20,15 +20,6 @@ Inv-loop b t s samples starts n i₀ i = (1 ≤ i) × (n ≡ count (heldTable b 
 abbrev μ-loop : tie.MeasureT-loop
 μ-loop b t s samples starts n i₀ i = n - i
 
-u32-at-requires : tie.Need-u32-at-requires Inv-loop μ-loop
-u32-at-requires c κs = search needs
-
-entry-total-requires : tie.Need-entry-total-requires Inv-loop μ-loop
-entry-total-requires c κs = search needs
-
-add-if1 : tie.Need-add-if1 Inv-loop μ-loop
-add-if1 c = search needs
-
 returns : tie.Need-returns Inv-loop μ-loop
 returns c = let p = c .before .before .before .before .before .pre in
     let n = list-is _ _ _ _ (p .1) _ (c .before .before .u32-at .ensures .0) in
@@ -42,22 +33,10 @@ carried-requires c κs = let p = c .before .before .before .before .before .befo
     let l = c .before .loop .inv in
     (p .0, p .1, p .2, l .0, omega (arith, l .1))
 
-mul-t13 : tie.Need-mul-t13 Inv-loop μ-loop
-mul-t13 c = search needs
-
-add-t14 : tie.Need-add-t14 Inv-loop μ-loop
-add-t14 c = search needs
-
 returns-2 : tie.Need-returns-2 Inv-loop μ-loop
 returns-2 c = let l = c .before .before .before .before .loop .inv in
     sym (l .2 ∙ left-stop _ _ _ (omega (arith, l .1)) (listed-is _ _ _ _ (c .before .before .before .before .before .before .before .before .before .before .pre .1) _)
     (c .before .before .carried .ensures .not (not-true _ (c .before .if2 .taken))))
-
-add-i : tie.Need-add-i Inv-loop μ-loop
-add-i c = search needs
-
-loop-less : tie.Need-loop-less Inv-loop μ-loop
-loop-less c = search needs
 
 loop-again : tie.Need-loop-again Inv-loop μ-loop
 loop-again c = let l = c .before .before .before .loop .inv in
@@ -69,19 +48,5 @@ returns-3 c = let l = c .before .loop .inv in sym (l .2 ∙ left-none _ _ (omega
 pub check-positions-spec : {M : Type 1} → statement M
 check-positions-spec =
     tie.close
-    (tie.spec
-    Inv-loop
-    μ-loop
-    u32-at-requires
-    entry-total-requires
-    add-if1
-    returns
-    loop-holds
-    carried-requires
-    mul-t13
-    add-t14
-    returns-2
-    add-i
-    loop-less
-    loop-again
-    returns-3)
+    (tie.spec Inv-loop μ-loop (λ c κs. search needs) (λ c κs. search needs) (λ c. search needs) returns loop-holds carried-requires
+    (λ c. search needs) (λ c. search needs) returns-2 (λ c. search needs) (λ c. search needs) loop-again returns-3)

@@ -4,17 +4,8 @@ use Rattle.positions.proofs.Laws.{table-accepted, table-refused}
 use Rattle.positions.proofs.check_table.Statement.{statement}
 use Rattle.positions.proofs.check_table.Tie as tie
 
-check-entries-requires : tie.Need-check-entries-requires
-check-entries-requires c κs = search needs
-
-enum-told : tie.Need-enum-told
-enum-told c = search needs
-
 check-positions-requires : tie.Need-check-positions-requires
 check-positions-requires c κs = let p = c .before .before .before .before .before .pre in (p .0, p .1, sym (c .before .before .check-entries .ensures) ∙ c .enum-told .given .1)
-
-enum-known-num : tie.Need-enum-known-num
-enum-known-num c = search needs
 
 returns : tie.Need-returns
 returns c = table-accepted _ (sym (c .before .before .before .check-entries .ensures) ∙ c .before .enum-told .given .1) (c .check-positions .ensures)
@@ -25,10 +16,4 @@ returns-2 c = table-refused _ (sym (c .before .before .before .check-entries .en
 pub check-table-spec : {M : Type 1} → statement M
 check-table-spec =
     tie.close
-    (tie.spec
-    check-entries-requires
-    enum-told
-    check-positions-requires
-    enum-known-num
-    returns
-    returns-2)
+    (tie.spec (λ c κs. search needs) (λ c. search needs) check-positions-requires (λ c. search needs) returns returns-2)

@@ -21,45 +21,21 @@ Inv-loop b at size n p₀ s₀ p s = (p ≤ length b) × (p ≡ startOf size b a
 abbrev μ-loop : tie.MeasureT-loop
 μ-loop b at size n p₀ s₀ p s = n - s
 
-sub-if1 : tie.Need-sub-if1 Inv-loop μ-loop
-sub-if1 c = search needs
-
 returns : tie.Need-returns Inv-loop μ-loop
 unfolding regionChecks
 returns c = fault-told _ _ (stop _ _ _ _ _ (λ h. omega arith))
-
-u32-at-requires : tie.Need-u32-at-requires Inv-loop μ-loop
-u32-at-requires c κs = search needs
 
 returns-2 : tie.Need-returns-2 Inv-loop μ-loop
 unfolding regionChecks countOf
 returns-2 c = fault-told _ _ (pass _ _ _ _ _ (omega arith) ∙ stop _ _ _ _ _ (λ h. omega arith))
 
-add-p : tie.Need-add-p Inv-loop μ-loop
-add-p c = search needs
-
 loop-holds : tie.Need-loop-holds Inv-loop μ-loop
 loop-holds c = (omega arith, start-zero _ _ _, omega arith, region-open _ _ _ _ (omega arith) (omega arith) (omega arith))
-
-segment-requires : tie.Need-segment-requires Inv-loop μ-loop
-segment-requires c κs = search needs
-
-enum-known-q : tie.Need-enum-known-q Inv-loop μ-loop
-enum-known-q c = search needs
-
-enum-known-num : tie.Need-enum-known-num Inv-loop μ-loop
-enum-known-num c = search needs
 
 returns-3 : tie.Need-returns-3 Inv-loop μ-loop
 returns-3 c =
     let t = scanned-fault _ _ (c .before .before .before .segment .ensures) (c .before .num .given .1) in
     fault-told _ _ (c .before .before .before .before .before .loop .inv .3 ∙ each-stop _ _ _ (omega arith) t)
-
-add-s : tie.Need-add-s Inv-loop μ-loop
-add-s c = search needs
-
-loop-less : tie.Need-loop-less Inv-loop μ-loop
-loop-less c = search needs
 
 loop-again : tie.Need-loop-again Inv-loop μ-loop
 loop-again c =
@@ -75,20 +51,5 @@ returns-4 c =
 pub lay-spec : {M : Type 1} → statement M
 lay-spec =
     tie.close
-    (tie.spec
-    Inv-loop
-    μ-loop
-    sub-if1
-    returns
-    u32-at-requires
-    returns-2
-    add-p
-    loop-holds
-    segment-requires
-    enum-known-q
-    enum-known-num
-    returns-3
-    add-s
-    loop-less
-    loop-again
-    returns-4)
+    (tie.spec Inv-loop μ-loop (λ c. search needs) returns (λ c κs. search needs) returns-2 (λ c. search needs) loop-holds
+    (λ c κs. search needs) (λ c. search needs) (λ c. search needs) returns-3 (λ c. search needs) (λ c. search needs) loop-again returns-4)

@@ -21,9 +21,6 @@ here c =
     c .loop .inv .1 _
     (c .before .wide .ensures .0 ∙ sample-read (s .pre .0 .stride) _ (s .args .seg) _ (s .pre .2) (s .pre .0 .count-is) (s .pre .1 .sampled))
 
-cast-wide : tie.Need-cast-wide Inv-loop μ-loop
-cast-wide c = search needs
-
 shr-wide : tie.Need-shr-wide Inv-loop μ-loop
 shr-wide c = omega (arith, c .before .before .before .pre .0 .stride .low)
 
@@ -33,9 +30,6 @@ mul-wide c = let s = c .before .before .before in record { fits = omega (arith, 
 element-copy-out-wide : tie.Need-element-copy-out-wide Inv-loop μ-loop
 element-copy-out-wide c = let s = c .before .before .before in sample-in (s .pre .0 .stride) _ (s .pre .2)
 
-wide-requires : tie.Need-wide-requires Inv-loop μ-loop
-wide-requires c κs = search needs
-
 loop-holds : tie.Need-loop-holds Inv-loop μ-loop
 loop-holds c = (mask-le (c .before .before .before .before .before .pre .0 .stride) _, λ at h. h)
 
@@ -43,12 +37,6 @@ next-start-requires : tie.Need-next-start-requires Inv-loop μ-loop
 next-start-requires c κs =
     let s = c .before .before .before .before .before .before .before in
     segment-fits _ _ _ (s .pre .0) (s .args .seg - c .before .loop .left) _ (omega arith) (here (c .before))
-
-sub-left : tie.Need-sub-left Inv-loop μ-loop
-sub-left c = search needs
-
-loop-less : tie.Need-loop-less Inv-loop μ-loop
-loop-less c = search needs
 
 loop-again : tie.Need-loop-again Inv-loop μ-loop
 loop-again c = (omega arith, λ at h. start-more _ _ at _ _ _ _ (omega arith) (c .before .before .loop .inv .1 at h) (c .next-start .ensures))
@@ -62,17 +50,5 @@ returns c =
 pub locate-spec : {M : Type 1} → statement M
 locate-spec =
     tie.close
-    (tie.spec
-    Inv-loop
-    μ-loop
-    cast-wide
-    shr-wide
-    mul-wide
-    element-copy-out-wide
-    wide-requires
-    loop-holds
-    next-start-requires
-    sub-left
-    loop-less
-    loop-again
-    returns)
+    (tie.spec Inv-loop μ-loop (λ c. search needs) shr-wide mul-wide element-copy-out-wide (λ c κs. search needs) loop-holds
+    next-start-requires (λ c. search needs) (λ c. search needs) loop-again returns)

@@ -17,27 +17,6 @@ abbrev μ-loop : tie.MeasureT-loop
 u32-at-requires : tie.Need-u32-at-requires Inv-loop μ-loop
 u32-at-requires c κs = omega (arith, c .before .pre .3 .head)
 
-loop-holds : tie.Need-loop-holds Inv-loop μ-loop
-loop-holds c = search needs
-
-add-loop : tie.Need-add-loop Inv-loop μ-loop
-add-loop c = search needs
-
-mul-loop : tie.Need-mul-loop Inv-loop μ-loop
-mul-loop c = search needs
-
-mul-mask : tie.Need-mul-mask Inv-loop μ-loop
-mul-mask c = search needs
-
-add-mask : tie.Need-add-mask Inv-loop μ-loop
-add-mask c = search needs
-
-add-shift : tie.Need-add-shift Inv-loop μ-loop
-add-shift c = search needs
-
-loop-less : tie.Need-loop-less Inv-loop μ-loop
-loop-less c = search needs
-
 loop-again : tie.Need-loop-again Inv-loop μ-loop
 unfolding countOf
 loop-again c =
@@ -63,16 +42,5 @@ returns c =
 pub mapped-spec : {M : Type 1} → statement M
 mapped-spec =
     tie.close
-    (tie.spec
-    Inv-loop
-    μ-loop
-    u32-at-requires
-    loop-holds
-    add-loop
-    mul-loop
-    mul-mask
-    add-mask
-    add-shift
-    loop-less
-    loop-again
-    returns)
+    (tie.spec Inv-loop μ-loop u32-at-requires (λ c. search needs) (λ c. search needs) (λ c. search needs) (λ c. search needs)
+    (λ c. search needs) (λ c. search needs) (λ c. search needs) loop-again returns)

@@ -10,12 +10,6 @@ use Rattle.region.proofs.next_start.Tie as tie
 bytes : (c : tie.After-u32-at) → let s = c .before .before in c .u32-at .result * s .args .size ≡ u32At (s .args .b .now) (s .args .p) * s .args .size
 bytes c = ap (λ (x : ℕ). x * c .before .before .args .size) (c .u32-at .ensures .0)
 
-add-result : tie.Need-add-result
-add-result c = search needs
-
-u32-at-requires : tie.Need-u32-at-requires
-u32-at-requires c κs = search needs
-
 mul-result : tie.Need-mul-result
 mul-result c = omega (arith, bytes c)
 
@@ -26,4 +20,4 @@ returns : tie.Need-returns
 returns c = omega (arith, bytes c)
 
 pub next-start-spec : {M : Type 1} → statement M
-next-start-spec = tie.close (tie.spec add-result u32-at-requires mul-result add-result-2 returns)
+next-start-spec = tie.close (tie.spec (λ c. search needs) (λ c κs. search needs) mul-result add-result-2 returns)

@@ -44,9 +44,6 @@ low c =
     let s = c .before .before .before .before .before .before .before .before in
     count-low _ _ _ (s .pre .0 .0) (s .args .seg - c .loop .left) _ (omega arith) (here c .1)
 
-cast-k : tie.Need-cast-k Inv-loop μ-loop
-cast-k c = search needs
-
 shr-k : tie.Need-shr-k Inv-loop μ-loop
 shr-k c = omega (arith, c .before .before .pre .0 .0 .stride .low)
 
@@ -56,17 +53,11 @@ mul-wide c = let s = c .before .before .before in record { fits = omega (arith, 
 element-copy-out-wide : tie.Need-element-copy-out-wide Inv-loop μ-loop
 element-copy-out-wide c = let s = c .before .before .before in sample-in (s .pre .0 .0 .stride) _ (s .pre .1 .0)
 
-wide-requires : tie.Need-wide-requires Inv-loop μ-loop
-wide-requires c κs = search needs
-
 mul-wide-2 : tie.Need-mul-wide-2 Inv-loop μ-loop
 mul-wide-2 c = mul-wide (c .before .before)
 
 element-copy-out-wide-2 : tie.Need-element-copy-out-wide-2 Inv-loop μ-loop
 element-copy-out-wide-2 c = element-copy-out-wide (c .before .before)
-
-wide-requires-2 : tie.Need-wide-requires-2 Inv-loop μ-loop
-wide-requires-2 c κs = search needs
 
 loop-holds : tie.Need-loop-holds Inv-loop μ-loop
 loop-holds c = (mask-le (c .before .before .before .before .before .before .before .pre .0 .0 .stride) _, λ at h. h)
@@ -82,12 +73,6 @@ add-n c = record { fits = omega (arith, low (c .before .before)) }
 
 next-start-requires : tie.Need-next-start-requires Inv-loop μ-loop
 next-start-requires c κs = fits (c .before)
-
-sub-left : tie.Need-sub-left Inv-loop μ-loop
-sub-left c = search needs
-
-loop-less : tie.Need-loop-less Inv-loop μ-loop
-loop-less c = search needs
 
 loop-again : tie.Need-loop-again Inv-loop μ-loop
 loop-again c = (
@@ -112,24 +97,6 @@ returns c =
 pub number-spec : {M : Type 1} → statement M
 number-spec =
     tie.close
-    (tie.spec
-    Inv-loop
-    μ-loop
-    cast-k
-    shr-k
-    mul-wide
-    element-copy-out-wide
-    wide-requires
-    mul-wide-2
-    element-copy-out-wide-2
-    wide-requires-2
-    loop-holds
-    add-u32-at
-    u32-at-requires
-    add-n
-    next-start-requires
-    sub-left
-    loop-less
-    loop-again
-    add-result
-    returns)
+    (tie.spec Inv-loop μ-loop (λ c. search needs) shr-k mul-wide element-copy-out-wide (λ c κs. search needs) mul-wide-2
+    element-copy-out-wide-2 (λ c κs. search needs) loop-holds add-u32-at u32-at-requires add-n next-start-requires (λ c. search needs)
+    (λ c. search needs) loop-again add-result returns)

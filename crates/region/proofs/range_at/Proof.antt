@@ -18,12 +18,6 @@ fits c = let s = c .before .before .before .before in segment-fits _ _ _ (s .pre
 returns : tie.Need-returns
 returns c = let s = c .before .before .before in sym (range-at-no _ _ _ _ _ _ (λ h. omega (arith, h .seg-in, s .pre .0 .0 .count-is)))
 
-locate-requires : tie.Need-locate-requires
-locate-requires c κs = search needs
-
-add-if2 : tie.Need-add-if2
-add-if2 c = search needs
-
 add-u32-at : tie.Need-add-u32-at
 add-u32-at c = record { fits = omega (arith, fits c) }
 
@@ -57,14 +51,4 @@ returns-3 c =
 pub range-at-spec : {M : Type 1} → statement M
 range-at-spec =
     tie.close
-    (tie.spec
-    returns
-    locate-requires
-    add-if2
-    add-u32-at
-    u32-at-requires
-    returns-2
-    add-t10
-    mul-t11
-    add-t12
-    returns-3)
+    (tie.spec returns (λ c κs. search needs) (λ c. search needs) add-u32-at u32-at-requires returns-2 add-t10 mul-t11 add-t12 returns-3)

@@ -27,17 +27,11 @@ fits c = let l = c .before .before .loop in segment-fits _ _ _ (c .before .befor
 low : (c : tie.Then1 Inv-loop μ-loop) → c .before .before .loop .n < 2 ^ 32
 low c = let l = c .before .before .loop in count-low _ _ _ (c .before .before .before .before .before .pre .0) (l .s) _ (l .inv .0) (l .inv .2)
 
-add-p : tie.Need-add-p Inv-loop μ-loop
-add-p c = search needs
-
 loop-holds : tie.Need-loop-holds Inv-loop μ-loop
 loop-holds c = (omega arith, start-zero _ _ _, before-zero _ _ _, sampled-none _ _ _, c .before .before .pre .1)
 
 cast-counts : tie.Need-cast-counts Inv-loop μ-loop
 cast-counts c = record { fits = low (c .before) }
-
-cast-counts-2 : tie.Need-cast-counts-2 Inv-loop μ-loop
-cast-counts-2 c = search needs
 
 shr-counts : tie.Need-shr-counts Inv-loop μ-loop
 shr-counts c = omega (arith, c .before .before .before .before .before .before .before .pre .0 .stride .low)
@@ -61,12 +55,6 @@ add-n c = record { fits = omega (arith, low (c .before .before)) }
 
 next-start-requires : tie.Need-next-start-requires Inv-loop μ-loop
 next-start-requires c κs = fits (c .before .before)
-
-add-s : tie.Need-add-s Inv-loop μ-loop
-add-s c = search needs
-
-loop-less : tie.Need-loop-less Inv-loop μ-loop
-loop-less c = search needs
 
 loop-again : tie.Need-loop-again Inv-loop μ-loop
 loop-again c =
@@ -92,21 +80,5 @@ returns c =
 pub sample-counts-spec : {M : Type 1} → statement M
 sample-counts-spec =
     tie.close
-    (tie.spec
-    Inv-loop
-    μ-loop
-    add-p
-    loop-holds
-    cast-counts
-    cast-counts-2
-    shr-counts
-    mul-counts
-    element-write-counts
-    add-u32-at
-    u32-at-requires
-    add-n
-    next-start-requires
-    add-s
-    loop-less
-    loop-again
-    returns)
+    (tie.spec Inv-loop μ-loop (λ c. search needs) loop-holds cast-counts (λ c. search needs) shr-counts mul-counts element-write-counts
+    add-u32-at u32-at-requires add-n next-start-requires (λ c. search needs) (λ c. search needs) loop-again returns)

@@ -24,17 +24,11 @@ fits : (c : tie.Then1 Inv-loop μ-loop)
     p + 8 + u32At (s .args .b .now) p * s .args .size ≤ length (s .args .b .now)
 fits c = let l = c .before .before .loop in segment-fits _ _ _ (c .before .before .before .before .before .pre .0) (l .s) _ (c .if1 .taken) (l .inv .1)
 
-add-p : tie.Need-add-p Inv-loop μ-loop
-add-p c = search needs
-
 loop-holds : tie.Need-loop-holds Inv-loop μ-loop
 loop-holds c = (omega arith, start-zero _ _ _, sampled-none _ _ _, c .before .before .pre .1)
 
 cast-starts : tie.Need-cast-starts Inv-loop μ-loop
 cast-starts c = record { fits = omega (arith, fits (c .before), c .before .before .before .before .before .before .pre .0 .short) }
-
-cast-starts-2 : tie.Need-cast-starts-2 Inv-loop μ-loop
-cast-starts-2 c = search needs
 
 shr-starts : tie.Need-shr-starts Inv-loop μ-loop
 shr-starts c = omega (arith, c .before .before .before .before .before .before .before .pre .0 .stride .low)
@@ -49,12 +43,6 @@ element-write-starts c = sample-in (c .before .before .before .before .before .b
 
 next-start-requires : tie.Need-next-start-requires Inv-loop μ-loop
 next-start-requires c κs = fits (c .before)
-
-add-s : tie.Need-add-s Inv-loop μ-loop
-add-s c = search needs
-
-loop-less : tie.Need-loop-less Inv-loop μ-loop
-loop-less c = search needs
 
 loop-again : tie.Need-loop-again Inv-loop μ-loop
 loop-again c =
@@ -74,18 +62,5 @@ returns c =
 pub sample-starts-spec : {M : Type 1} → statement M
 sample-starts-spec =
     tie.close
-    (tie.spec
-    Inv-loop
-    μ-loop
-    add-p
-    loop-holds
-    cast-starts
-    cast-starts-2
-    shr-starts
-    mul-starts
-    element-write-starts
-    next-start-requires
-    add-s
-    loop-less
-    loop-again
-    returns)
+    (tie.spec Inv-loop μ-loop (λ c. search needs) loop-holds cast-starts (λ c. search needs) shr-starts mul-starts element-write-starts
+    next-start-requires (λ c. search needs) (λ c. search needs) loop-again returns)

@@ -10,25 +10,13 @@ use Rattle.region.proofs.Samples.{product-small}
 use Rattle.region.proofs.segment.Statement.{statement}
 use Rattle.region.proofs.segment.Tie as tie
 
-sub-if1 : tie.Need-sub-if1
-sub-if1 c = search needs
-
 returns : tie.Need-returns
 unfolding scanned
 returns c = segment-told _ _ _ _ _ (c .before .before .pre .1) _ (stop _ _ _ _ _ (λ h. omega arith))
 
-u32-at-requires : tie.Need-u32-at-requires
-u32-at-requires c κs = search needs
-
 returns-2 : tie.Need-returns-2
 unfolding scanned
 returns-2 c = segment-told _ _ _ _ _ (c .before .before .before .before .pre .1) _ (pass _ _ _ _ _ (omega arith) ∙ stop _ _ _ _ _ (λ h. omega arith))
-
-add-u : tie.Need-add-u
-add-u c = search needs
-
-sub-if3 : tie.Need-sub-if3
-sub-if3 c = search needs
 
 returns-3 : tie.Need-returns-3
 unfolding scanned
@@ -36,23 +24,14 @@ returns-3 c =
     segment-told _ _ _ _ _ (c .before .before .before .before .before .pre .1) _
     (pass _ _ _ _ _ (omega arith) ∙ pass _ _ _ _ _ (omega arith) ∙ stop _ _ _ _ _ (λ h. omega arith))
 
-u32-at-requires-2 : tie.Need-u32-at-requires-2
-u32-at-requires-2 c κs = search needs
-
 returns-4 : tie.Need-returns-4
 unfolding scanned
 returns-4 c =
     segment-told _ _ _ _ _ (c .before .before .before .before .before .before .before .pre .1) _
     (pass _ _ _ _ _ (omega arith) ∙ pass _ _ _ _ _ (omega arith) ∙ pass _ _ _ _ _ (omega arith) ∙ stop _ _ _ _ _ (λ h. omega arith))
 
-add-e : tie.Need-add-e
-add-e c = search needs
-
 mul-bytes : tie.Need-mul-bytes
 mul-bytes c = record { fits = product-small _ _ (omega arith) (omega arith) }
-
-sub-if5 : tie.Need-sub-if5
-sub-if5 c = search needs
 
 returns-5 : tie.Need-returns-5
 unfolding scanned
@@ -62,9 +41,6 @@ returns-5 c =
     segment-told _ _ _ _ _ (s .pre .1) _
     (pass _ _ _ _ _ (omega arith) ∙ pass _ _ _ _ _ (omega arith) ∙ pass _ _ _ _ _ (omega arith) ∙ pass _ _ _ _ _ (omega arith)
     ∙ stop _ _ _ _ _ (λ h. omega arith))
-
-add-t11 : tie.Need-add-t11
-add-t11 c = search needs
 
 returns-6 : tie.Need-returns-6
 unfolding scanned
@@ -79,19 +55,5 @@ returns-6 c =
 pub segment-spec : {M : Type 1} → statement M
 segment-spec =
     tie.close
-    (tie.spec
-    sub-if1
-    returns
-    u32-at-requires
-    returns-2
-    add-u
-    sub-if3
-    returns-3
-    u32-at-requires-2
-    returns-4
-    add-e
-    mul-bytes
-    sub-if5
-    returns-5
-    add-t11
-    returns-6)
+    (tie.spec (λ c. search needs) returns (λ c κs. search needs) returns-2 (λ c. search needs) (λ c. search needs) returns-3
+    (λ c κs. search needs) returns-4 (λ c. search needs) mul-bytes (λ c. search needs) returns-5 (λ c. search needs) returns-6)

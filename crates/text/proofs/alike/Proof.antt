@@ -13,35 +13,8 @@ Inv-loop b p s q n i₀ i = (i ≤ n) × Alike b p s q i
 abbrev μ-loop : tie.MeasureT-loop
 μ-loop b p s q n i₀ i = n - i
 
-alike-few-requires : tie.Need-alike-few-requires Inv-loop μ-loop
-alike-few-requires c κs = search needs
-
-returns : tie.Need-returns Inv-loop μ-loop
-returns c = search needs
-
 loop-holds : tie.Need-loop-holds Inv-loop μ-loop
 loop-holds c = (search needs, alike-none _ _ _ _ 0)
-
-add-loop : tie.Need-add-loop Inv-loop μ-loop
-add-loop c = search needs
-
-mul-u64-at : tie.Need-mul-u64-at Inv-loop μ-loop
-mul-u64-at c = search needs
-
-add-u64-at : tie.Need-add-u64-at Inv-loop μ-loop
-add-u64-at c = search needs
-
-u64-at-requires : tie.Need-u64-at-requires Inv-loop μ-loop
-u64-at-requires c κs = search needs
-
-mul-u64-at-2 : tie.Need-mul-u64-at-2 Inv-loop μ-loop
-mul-u64-at-2 c = search needs
-
-add-u64-at-2 : tie.Need-add-u64-at-2 Inv-loop μ-loop
-add-u64-at-2 c = search needs
-
-u64-at-requires-2 : tie.Need-u64-at-requires-2 Inv-loop μ-loop
-u64-at-requires-2 c κs = search needs
 
 returns-2 : tie.Need-returns-2 Inv-loop μ-loop
 returns-2 c =
@@ -51,35 +24,11 @@ returns-2 c =
     ∙ four-number _ _ _ _ _ (λ j l m. chars-alike _ _ _ _ _ e j (omega (arith, c .before .before .before .loop-test .taken)))
     ∙ sym (c .before .u64-at2 .ensures)))
 
-add-i : tie.Need-add-i Inv-loop μ-loop
-add-i c = search needs
-
-loop-less : tie.Need-loop-less Inv-loop μ-loop
-loop-less c = search needs
-
 loop-again : tie.Need-loop-again Inv-loop μ-loop
 loop-again c =
     let e = sym (c .before .before .u64-at .ensures) ∙ c .if2 .left ∙ c .before .u64-at2 .ensures in
     let f = four-chars _ _ _ _ _ (λ k. omega (arith, c .before .before .before .before .before .before .before .shared-slice-known .given k)) (λ k. omega (arith, c .before .before .before .before .before .before .shared-slice-known2 .given k)) e in
     (search needs, alike-four _ _ _ _ _ _ (omega arith) _ (omega arith) (c .before .before .before .before .loop .inv .1) f)
-
-mul-u64-at-3 : tie.Need-mul-u64-at-3 Inv-loop μ-loop
-mul-u64-at-3 c = search needs
-
-add-u64-at-3 : tie.Need-add-u64-at-3 Inv-loop μ-loop
-add-u64-at-3 c = search needs
-
-u64-at-requires-3 : tie.Need-u64-at-requires-3 Inv-loop μ-loop
-u64-at-requires-3 c κs = search needs
-
-mul-u64-at-4 : tie.Need-mul-u64-at-4 Inv-loop μ-loop
-mul-u64-at-4 c = search needs
-
-add-u64-at-4 : tie.Need-add-u64-at-4 Inv-loop μ-loop
-add-u64-at-4 c = search needs
-
-u64-at-requires-4 : tie.Need-u64-at-requires-4 Inv-loop μ-loop
-u64-at-requires-4 c κs = search needs
 
 returns-3 : tie.Need-returns-3 Inv-loop μ-loop
 returns-3 c =
@@ -99,27 +48,7 @@ returns-3 c =
 pub alike-spec : {M : Type 1} → statement M
 alike-spec =
     tie.close
-    (tie.spec
-    Inv-loop
-    μ-loop
-    alike-few-requires
-    returns
-    loop-holds
-    add-loop
-    mul-u64-at
-    add-u64-at
-    u64-at-requires
-    mul-u64-at-2
-    add-u64-at-2
-    u64-at-requires-2
-    returns-2
-    add-i
-    loop-less
-    loop-again
-    mul-u64-at-3
-    add-u64-at-3
-    u64-at-requires-3
-    mul-u64-at-4
-    add-u64-at-4
-    u64-at-requires-4
-    returns-3)
+    (tie.spec Inv-loop μ-loop (λ c κs. search needs) (λ c. search needs) loop-holds (λ c. search needs) (λ c. search needs)
+    (λ c. search needs) (λ c κs. search needs) (λ c. search needs) (λ c. search needs) (λ c κs. search needs) returns-2
+    (λ c. search needs) (λ c. search needs) loop-again (λ c. search needs) (λ c. search needs) (λ c κs. search needs) (λ c. search needs)
+    (λ c. search needs) (λ c κs. search needs) returns-3)

@@ -17,9 +17,6 @@ abbrev μ-loop : tie.MeasureT-loop
 loop-holds : tie.Need-loop-holds Inv-loop μ-loop
 loop-holds c = (search needs, same-start (text-start _ _ _) (chars-start _ _ _))
 
-char-or-end-requires : tie.Need-char-or-end-requires Inv-loop μ-loop
-char-or-end-requires c κs = search needs
-
 returns : tie.Need-returns Inv-loop μ-loop
 returns c =
     tells-no
@@ -28,26 +25,11 @@ returns c =
     (chars-next _ _ _ _ _ (c .before .before .loop-test .taken) refl)
     (c .before .before .before .loop .inv .1 .0 e))
 
-mul-u16-at : tie.Need-mul-u16-at Inv-loop μ-loop
-mul-u16-at c = search needs
-
-add-u16-at : tie.Need-add-u16-at Inv-loop μ-loop
-add-u16-at c = search needs
-
-u16-at-requires : tie.Need-u16-at-requires Inv-loop μ-loop
-u16-at-requires c κs = search needs
-
 returns-2 : tie.Need-returns-2 Inv-loop μ-loop
 returns-2 c =
     let w = c .before .before .before .before .before .loop .inv .1 .0 in
     let t = chars-next _ _ _ _ _ (c .before .before .before .before .loop-test .taken) (c .before .u16-at .ensures .0) in
     tells-no (λ e. c .if2 .taken (sym (char-head _ _ _ _ _ (c .before .before .before .char-or-end .ensures) _ (w e ∙ t))))
-
-add-i : tie.Need-add-i Inv-loop μ-loop
-add-i c = search needs
-
-loop-less : tie.Need-loop-less Inv-loop μ-loop
-loop-less c = search needs
 
 loop-again : tie.Need-loop-again Inv-loop μ-loop
 loop-again c =
@@ -55,9 +37,6 @@ loop-again c =
     let t = chars-next _ _ _ _ _ (c .before .before .before .before .loop-test .taken) (c .before .u16-at .ensures .0) in
     let u = char-next _ _ _ _ _ (c .before .before .before .char-or-end .ensures) (c .before .before .if1 .left) in
     (search needs, same-next w u t (c .if2 .left))
-
-char-or-end-requires-2 : tie.Need-char-or-end-requires-2 Inv-loop μ-loop
-char-or-end-requires-2 c κs = search needs
 
 returns-3 : tie.Need-returns-3 Inv-loop μ-loop
 returns-3 c =
@@ -67,18 +46,5 @@ returns-3 c =
 pub bears-spec : {M : Type 1} → statement M
 bears-spec =
     tie.close
-    (tie.spec
-    Inv-loop
-    μ-loop
-    loop-holds
-    char-or-end-requires
-    returns
-    mul-u16-at
-    add-u16-at
-    u16-at-requires
-    returns-2
-    add-i
-    loop-less
-    loop-again
-    char-or-end-requires-2
-    returns-3)
+    (tie.spec Inv-loop μ-loop loop-holds (λ c κs. search needs) returns (λ c. search needs) (λ c. search needs) (λ c κs. search needs)
+    returns-2 (λ c. search needs) (λ c. search needs) loop-again (λ c κs. search needs) returns-3)

@@ -23,29 +23,11 @@ word c =
 loop-holds : tie.Need-loop-holds Inv-loop μ-loop
 loop-holds c = (passed-start _ _ _, folded-start _ _ _)
 
-add-loop : tie.Need-add-loop Inv-loop μ-loop
-add-loop c = search needs
-
-mul-u32-at : tie.Need-mul-u32-at Inv-loop μ-loop
-mul-u32-at c = search needs
-
-add-u32-at : tie.Need-add-u32-at Inv-loop μ-loop
-add-u32-at c = search needs
-
-u32-at-requires : tie.Need-u32-at-requires Inv-loop μ-loop
-u32-at-requires c κs = search needs
-
-value-hash-requires : tie.Need-value-hash-requires Inv-loop μ-loop
-value-hash-requires c κs = search needs
-
 returns : tie.Need-returns Inv-loop μ-loop
 returns c =
     let u = c .before .before in
     let i = u .before .before .loop .inv in
     both-hashed _ _ _ _ _ _ _ (i .0) (i .1) (two-shut (word u) (c .before .if1 .taken)) (refl, c .value-hash .ensures)
-
-with-last-requires : tie.Need-with-last-requires Inv-loop μ-loop
-with-last-requires c κs = search needs
 
 returns-2 : tie.Need-returns-2 Inv-loop μ-loop
 returns-2 c =
@@ -58,21 +40,6 @@ returns-2 c =
     (folded-next _ _ _ _ _ _ _ _ _ (i .1) t refl (refl, char-lt _ _ (i .1 .small)))
     (two-last q (c .before .if2 .taken)) (c .with-last .ensures)
 
-pair-on-requires : tie.Need-pair-on-requires Inv-loop μ-loop
-pair-on-requires c κs = search needs
-
-fold-pair-requires : tie.Need-fold-pair-requires Inv-loop μ-loop
-fold-pair-requires c κs = search needs
-
-pair-on-requires-2 : tie.Need-pair-on-requires-2 Inv-loop μ-loop
-pair-on-requires-2 c κs = search needs
-
-add-i : tie.Need-add-i Inv-loop μ-loop
-add-i c = search needs
-
-loop-less : tie.Need-loop-less Inv-loop μ-loop
-loop-less c = search needs
-
 loop-again : tie.Need-loop-again Inv-loop μ-loop
 loop-again c =
     let u = c .before .before .before .before .before in
@@ -81,12 +48,6 @@ loop-again c =
     let y = c .before .before .before .before .if1 .left in
     let z = c .before .before .before .if2 .left in
     (passed-pair q _ _ (i .0) y z (c .before .before .pair-on .ensures), folded-pair q _ _ _ (i .1) y z (c .before .fold-pair .ensures) (c .pair-on2 .ensures))
-
-char-or-end-requires : tie.Need-char-or-end-requires Inv-loop μ-loop
-char-or-end-requires c κs = search needs
-
-value-hash-requires-2 : tie.Need-value-hash-requires-2 Inv-loop μ-loop
-value-hash-requires-2 c κs = search needs
 
 returns-3 : tie.Need-returns-3 Inv-loop μ-loop
 returns-3 c =
@@ -115,26 +76,7 @@ returns-4 c =
 pub both-hashes-spec : {M : Type 1} → statement M
 both-hashes-spec =
     tie.close
-    (tie.spec
-    Inv-loop
-    μ-loop
-    loop-holds
-    add-loop
-    mul-u32-at
-    add-u32-at
-    u32-at-requires
-    value-hash-requires
-    returns
-    with-last-requires
-    returns-2
-    pair-on-requires
-    fold-pair-requires
-    pair-on-requires-2
-    add-i
-    loop-less
-    loop-again
-    char-or-end-requires
-    value-hash-requires-2
-    returns-3
-    with-last-requires-2
+    (tie.spec Inv-loop μ-loop loop-holds (λ c. search needs) (λ c. search needs) (λ c. search needs) (λ c κs. search needs)
+    (λ c κs. search needs) returns (λ c κs. search needs) returns-2 (λ c κs. search needs) (λ c κs. search needs) (λ c κs. search needs)
+    (λ c. search needs) (λ c. search needs) loop-again (λ c κs. search needs) (λ c κs. search needs) returns-3 with-last-requires-2
     returns-4)

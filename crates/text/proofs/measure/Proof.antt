@@ -23,27 +23,9 @@ word c =
 loop-holds : tie.Need-loop-holds Inv-loop μ-loop
 loop-holds c = passed-start _ _ _
 
-add-loop : tie.Need-add-loop Inv-loop μ-loop
-add-loop c = search needs
-
-mul-u32-at : tie.Need-mul-u32-at Inv-loop μ-loop
-mul-u32-at c = search needs
-
-add-u32-at : tie.Need-add-u32-at Inv-loop μ-loop
-add-u32-at c = search needs
-
-u32-at-requires : tie.Need-u32-at-requires Inv-loop μ-loop
-u32-at-requires c κs = search needs
-
 returns : tie.Need-returns Inv-loop μ-loop
 returns c =
     let u = c .before in measured _ _ _ _ _ _ (u .before .before .loop .inv) (two-shut (word u) (c .if1 .taken)) (tells-yes (omega arith))
-
-add-t12 : tie.Need-add-t12 Inv-loop μ-loop
-add-t12 c = search needs
-
-char-on-requires : tie.Need-char-on-requires Inv-loop μ-loop
-char-on-requires c κs = search needs
 
 returns-2 : tie.Need-returns-2 Inv-loop μ-loop
 returns-2 c =
@@ -53,29 +35,14 @@ returns-2 c =
     (passed-next _ _ _ _ _ _ _ _ (u .before .before .loop .inv) refl (omega arith) (two-only q (c .before .before .if1 .left) (c .before .if2 .taken)) (c .char-on .ensures))
     (two-last q (c .before .if2 .taken)) (tells-yes (u .before .loop-test .taken))
 
-pair-on-requires : tie.Need-pair-on-requires Inv-loop μ-loop
-pair-on-requires c κs = search needs
-
-add-i : tie.Need-add-i Inv-loop μ-loop
-add-i c = search needs
-
-loop-less : tie.Need-loop-less Inv-loop μ-loop
-loop-less c = search needs
-
 loop-again : tie.Need-loop-again Inv-loop μ-loop
 loop-again c =
     let u = c .before .before .before in
     passed-pair (word u) _ _ (u .before .before .loop .inv) (c .before .before .if1 .left) (c .before .if2 .left) (c .pair-on .ensures)
 
-char-or-end-requires : tie.Need-char-or-end-requires Inv-loop μ-loop
-char-or-end-requires c κs = search needs
-
 returns-3 : tie.Need-returns-3 Inv-loop μ-loop
 returns-3 c =
     measured _ _ _ _ _ _ (c .before .before .before .loop .inv) (char-end _ _ _ _ _ (c .before .char-or-end .ensures) (c .if3 .taken)) (tells-lt _ _)
-
-add-t16 : tie.Need-add-t16 Inv-loop μ-loop
-add-t16 c = search needs
 
 char-on-requires-2 : tie.Need-char-on-requires-2 Inv-loop μ-loop
 char-on-requires-2 c κs = (c .before .before .before .before .before .pre .0, c .before .before .before .loop .inv .small, c .before .char-or-end .ensures .small)
@@ -93,24 +60,6 @@ returns-4 c =
 pub measure-spec : {M : Type 1} → statement M
 measure-spec =
     tie.close
-    (tie.spec
-    Inv-loop
-    μ-loop
-    loop-holds
-    add-loop
-    mul-u32-at
-    add-u32-at
-    u32-at-requires
-    returns
-    add-t12
-    char-on-requires
-    returns-2
-    pair-on-requires
-    add-i
-    loop-less
-    loop-again
-    char-or-end-requires
-    returns-3
-    add-t16
-    char-on-requires-2
-    returns-4)
+    (tie.spec Inv-loop μ-loop loop-holds (λ c. search needs) (λ c. search needs) (λ c. search needs) (λ c κs. search needs) returns
+    (λ c. search needs) (λ c κs. search needs) returns-2 (λ c κs. search needs) (λ c. search needs) (λ c. search needs) loop-again
+    (λ c κs. search needs) returns-3 (λ c. search needs) char-on-requires-2 returns-4)

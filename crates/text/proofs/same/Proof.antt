@@ -18,12 +18,6 @@ abbrev μ-loop : tie.MeasureT-loop
 loop-holds : tie.Need-loop-holds Inv-loop μ-loop
 loop-holds c = (search needs, same-start (text-start _ _ _) (text-start _ _ _))
 
-char-or-end-requires : tie.Need-char-or-end-requires Inv-loop μ-loop
-char-or-end-requires c κs = search needs
-
-char-or-end-requires-2 : tie.Need-char-or-end-requires-2 Inv-loop μ-loop
-char-or-end-requires-2 c κs = search needs
-
 returns : tie.Need-returns Inv-loop μ-loop
 returns c =
     tells-no
@@ -57,14 +51,4 @@ loop-again c =
 pub same-spec : {M : Type 1} → statement M
 same-spec =
     tie.close
-    (tie.spec
-    Inv-loop
-    μ-loop
-    loop-holds
-    char-or-end-requires
-    char-or-end-requires-2
-    returns
-    returns-2
-    add-i
-    loop-less
-    loop-again)
+    (tie.spec Inv-loop μ-loop loop-holds (λ c κs. search needs) (λ c κs. search needs) returns returns-2 add-i loop-less loop-again)

@@ -5,18 +5,6 @@ use borrow.Author.Needs.{needs}
 use Rattle.text.proofs.with_last.Statement.{statement}
 use Rattle.text.proofs.with_last.Tie as tie
 
-char-on-requires : tie.Need-char-on-requires
-char-on-requires c κs = search needs
-
-fold-requires : tie.Need-fold-requires
-fold-requires c κs = search needs
-
-char-on-requires-2 : tie.Need-char-on-requires-2
-char-on-requires-2 c κs = search needs
-
-value-hash-requires : tie.Need-value-hash-requires
-value-hash-requires c κs = search needs
-
 returns : tie.Need-returns
 returns c =
     let d = c .before .before in
@@ -25,4 +13,4 @@ returns c =
 pub with-last-spec : {M : Type 1} → statement M
 with-last-spec =
     tie.close
-    (tie.spec char-on-requires fold-requires char-on-requires-2 value-hash-requires returns)
+    (tie.spec (λ c κs. search needs) (λ c κs. search needs) (λ c κs. search needs) (λ c κs. search needs) returns)

@@ -16,40 +16,13 @@ returns c = told-room _ _ _ (c .before .before .before .pre .2) (omega arith)
 room : (c : tie.Else1) → usedNodes (c .before .before .before .args .b .now) ≤ length (c .before .before .before .args .ws .now)
 room c = omega (arith, c .if1 .left, c .before .before .before .pre .2)
 
-mark-nodes-requires : tie.Need-mark-nodes-requires
-mark-nodes-requires c κs = search needs
-
-enum-known-m : tie.Need-enum-known-m
-enum-known-m c = search needs
-
-same-length : tie.Need-same-length
-same-length c = search needs
-
 returns-2 : tie.Need-returns-2
 returns-2 c = let m = c .before .before .before .before .before .mark-nodes .ensures in told-range _ _ (room (c .before .before .before .before .before .before .before)) _ _ (m .0) (m .1) (c .before .m .given .1)
-
-enum-told : tie.Need-enum-told
-enum-told c = search needs
-
-add-find-deep : tie.Need-add-find-deep
-add-find-deep c = search needs
 
 find-deep-requires : tie.Need-find-deep-requires
 find-deep-requires c κs =
     let s = c .before .before .before .before .before .before .before .before .before .before in
     (s .pre .0, rules-hold (s .pre .0) .root, root-place (s .args .b .now) _ (s .pre .0 .nodes .at-is), omega arith)
-
-enum-known-p : tie.Need-enum-known-p
-enum-known-p c = search needs
-
-set-range-requires : tie.Need-set-range-requires
-set-range-requires c κs = search needs
-
-enum-told-2 : tie.Need-enum-told-2
-enum-told-2 c = search needs
-
-same-length-2 : tie.Need-same-length-2
-same-length-2 c = search needs
 
 returns-3 : tie.Need-returns-3
 returns-3 c =
@@ -57,9 +30,6 @@ returns-3 c =
     let m = c .before .before .before .before .before .before .before .before .before .before .before .before .before .mark-nodes .ensures in
     told-deep _ _ (room (c .before .before .before .before .before .before .before .before .before .before .before .before .before .before .before)) _ _ (m .0) (m .1) (c .before .before .before .before .before .before .before .before .before .enum-told .given .1) _ (c .before .before .before .before .before .before .before .find-deep .ensures) (s .pre .0 .laid .nodes) _ (c .before .before .before .before .before .p .given .1)
     (rw (sym (s .pre .2)) (c .before .before .set-range .ensures))
-
-same-length-3 : tie.Need-same-length-3
-same-length-3 c = search needs
 
 returns-4 : tie.Need-returns-4
 returns-4 c =
@@ -69,19 +39,6 @@ returns-4 c =
 pub check-tree-spec : {M : Type 1} → statement M
 check-tree-spec =
     tie.close
-    (tie.spec
-    returns
-    mark-nodes-requires
-    enum-known-m
-    same-length
-    returns-2
-    enum-told
-    add-find-deep
-    find-deep-requires
-    enum-known-p
-    set-range-requires
-    enum-told-2
-    same-length-2
-    returns-3
-    same-length-3
+    (tie.spec returns (λ c κs. search needs) (λ c. search needs) (λ c. search needs) returns-2 (λ c. search needs) (λ c. search needs)
+    find-deep-requires (λ c. search needs) (λ c κs. search needs) (λ c. search needs) (λ c. search needs) returns-3 (λ c. search needs)
     returns-4)

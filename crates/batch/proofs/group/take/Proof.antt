@@ -28,26 +28,8 @@ loop-holds c = let p = c .before .pre in (group-none _ _ _ _ (p .4) (p .5), sym 
 returns : tie.Need-returns Inv-loop μ-loop
 returns c = (omega arith, c .before .before .loop .inv .0)
 
-sub-measure : tie.Need-sub-measure Inv-loop μ-loop
-sub-measure c = search needs
-
-measure-requires : tie.Need-measure-requires Inv-loop μ-loop
-measure-requires c κs = search needs
-
-mul-lengths : tie.Need-mul-lengths Inv-loop μ-loop
-mul-lengths c = search needs
-
-element-write-lengths : tie.Need-element-write-lengths Inv-loop μ-loop
-element-write-lengths c = search needs
-
 cast-hashes : tie.Need-cast-hashes Inv-loop μ-loop
 cast-hashes c = record { fits = omega (arith, read-small (read-of (c .before .measure .ensures))) }
-
-mul-hashes : tie.Need-mul-hashes Inv-loop μ-loop
-mul-hashes c = search needs
-
-element-write-hashes : tie.Need-element-write-hashes Inv-loop μ-loop
-element-write-hashes c = search needs
 
 mul-p : tie.Need-mul-p Inv-loop μ-loop
 mul-p c = record { fits = omega (arith, c .before .before .before .before .before .before .before .good .0 .0, found (c .before .before) .within) }
@@ -57,9 +39,6 @@ add-p c = record { fits = omega (arith, c .before .before .before .before .befor
 
 add-p-2 : tie.Need-add-p-2 Inv-loop μ-loop
 add-p-2 c = record { fits = omega (arith, c .before .before .before .before .before .before .before .good .0 .0, found (c .before .before) .within) }
-
-add-n : tie.Need-add-n Inv-loop μ-loop
-add-n c = search needs
 
 loop-less : tie.Need-loop-less Inv-loop μ-loop
 loop-less c = omega (arith, found (c .before .before) .within)
@@ -78,22 +57,5 @@ returns-2 c =
 pub take-spec : {M : Type 1} → statement M
 take-spec =
     tie.close
-    (tie.spec
-    Inv-loop
-    μ-loop
-    loop-holds
-    returns
-    sub-measure
-    measure-requires
-    mul-lengths
-    element-write-lengths
-    cast-hashes
-    mul-hashes
-    element-write-hashes
-    mul-p
-    add-p
-    add-p-2
-    add-n
-    loop-less
-    loop-again
-    returns-2)
+    (tie.spec Inv-loop μ-loop loop-holds returns (λ c. search needs) (λ c κs. search needs) (λ c. search needs) (λ c. search needs)
+    cast-hashes (λ c. search needs) (λ c. search needs) mul-p add-p add-p-2 (λ c. search needs) loop-less loop-again returns-2)

@@ -28,21 +28,9 @@ loop-holds c = (c .u32-at .ensures .0, keys-start _)
 key-right-requires : tie.Need-key-right-requires Inv-loop μ-loop
 key-right-requires c κs = let p = c .before .before .before .before .pre in (p .0, p .1, omega (arith, c .before .loop .inv .0))
 
-mul-t7 : tie.Need-mul-t7 Inv-loop μ-loop
-mul-t7 c = search needs
-
-add-t8 : tie.Need-add-t8 Inv-loop μ-loop
-add-t8 c = search needs
-
 returns : tie.Need-returns Inv-loop μ-loop
 returns c = let l = c .before .before .before .loop .inv in
     sym (l .1 ∙ keys-stop _ _ (omega (arith, l .0)) (c .before .key-right .ensures .not (not-true _ (c .if1 .taken))))
-
-add-k : tie.Need-add-k Inv-loop μ-loop
-add-k c = search needs
-
-loop-less : tie.Need-loop-less Inv-loop μ-loop
-loop-less c = search needs
 
 loop-again : tie.Need-loop-again Inv-loop μ-loop
 loop-again c = let l = c .before .before .before .loop .inv in
@@ -54,16 +42,5 @@ returns-2 c = let l = c .before .loop .inv in sym (l .1 ∙ keys-none _ _ (omega
 pub check-keys-spec : {M : Type 1} → statement M
 check-keys-spec =
     tie.close
-    (tie.spec
-    Inv-loop
-    μ-loop
-    u32-at-requires
-    loop-holds
-    key-right-requires
-    mul-t7
-    add-t8
-    returns
-    add-k
-    loop-less
-    loop-again
-    returns-2)
+    (tie.spec Inv-loop μ-loop u32-at-requires loop-holds key-right-requires (λ c. search needs) (λ c. search needs) returns
+    (λ c. search needs) (λ c. search needs) loop-again returns-2)

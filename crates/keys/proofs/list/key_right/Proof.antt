@@ -20,18 +20,6 @@ abbrev μ-loop : tie.MeasureT-loop
 loop-holds : tie.Need-loop-holds Inv-loop μ-loop
 loop-holds c = (search needs, below-none _)
 
-mul-u16-at : tie.Need-mul-u16-at Inv-loop μ-loop
-mul-u16-at c = search needs
-
-add-u16-at : tie.Need-add-u16-at Inv-loop μ-loop
-add-u16-at c = search needs
-
-mul-u16-at-2 : tie.Need-mul-u16-at-2 Inv-loop μ-loop
-mul-u16-at-2 c = search needs
-
-add-u16-at-2 : tie.Need-add-u16-at-2 Inv-loop μ-loop
-add-u16-at-2 c = search needs
-
 u16-at-requires : tie.Need-u16-at-requires Inv-loop μ-loop
 unfolding keyAt keysAt
 u16-at-requires c κs = omega (arith, key-fits _ (c .before .before .before .pre .0) _ (c .before .before .before .pre .2))
@@ -44,12 +32,6 @@ returns-2 c = tells-no (λ r. too-high _ _ (c .before .before .before .before .b
 
 returns-3 : tie.Need-returns-3 Inv-loop μ-loop
 returns-3 c = tells-no (λ r. is-value _ _ (c .before .before .before .before .before .before .before .before .before .pre .1) _ _ _ (c .before .before .before .before .before .u16-at .ensures .0) (c .if4 .taken) (r _ (c .before .before .before .before .before .before .loop-test .taken)))
-
-add-f : tie.Need-add-f Inv-loop μ-loop
-add-f c = search needs
-
-loop-less : tie.Need-loop-less Inv-loop μ-loop
-loop-less c = search needs
 
 loop-again : tie.Need-loop-again Inv-loop μ-loop
 loop-again c = (
@@ -65,19 +47,5 @@ returns-4 c = tells-yes (λ f h. c .before .loop .inv .1 f (omega (arith, c .loo
 pub key-right-spec : {M : Type 1} → statement M
 key-right-spec =
     tie.close
-    (tie.spec
-    Inv-loop
-    μ-loop
-    loop-holds
-    mul-u16-at
-    add-u16-at
-    mul-u16-at-2
-    add-u16-at-2
-    u16-at-requires
-    returns
-    returns-2
-    returns-3
-    add-f
-    loop-less
-    loop-again
-    returns-4)
+    (tie.spec Inv-loop μ-loop loop-holds (λ c. search needs) (λ c. search needs) (λ c. search needs) (λ c. search needs) u16-at-requires
+    returns returns-2 returns-3 (λ c. search needs) (λ c. search needs) loop-again returns-4)

@@ -5,23 +5,14 @@ use Rattle.keys.proofs.Laws.{root-chars, value-chars, name-count, named
 use Rattle.keys.proofs.special.check_special.Statement.{statement}
 use Rattle.keys.proofs.special.check_special.Tie as tie
 
-u32-at-requires : tie.Need-u32-at-requires
-u32-at-requires c κs = search needs
-
 sub-n : tie.Need-sub-n
 sub-n c = omega (arith, list-is _ _ _ _ (c .before .before .before .before .before .pre .0) _ (c .u32-at .ensures .0), c .before .before .before .before .before .pre .0 .laid .some)
 
 listed-is-requires : tie.Need-listed-is-requires
 listed-is-requires c κs = ((c .before .before .before .before .before .before .before .pre .0, c .before .before .before .before .before .before .before .pre .2), (omega arith, omega (arith, list-is _ _ _ _ (c .before .before .before .before .before .before .before .pre .0) _ (c .before .before .u32-at .ensures .0)), omega arith))
 
-sub-listed-is : tie.Need-sub-listed-is
-sub-listed-is c = search needs
-
 listed-is-requires-2 : tie.Need-listed-is-requires-2
 listed-is-requires-2 c κs = ((c .before .before .before .before .before .before .before .before .before .before .pre .0, c .before .before .before .before .before .before .before .before .before .before .pre .2), (omega arith, omega (arith, list-is _ _ _ _ (c .before .before .before .before .before .before .before .before .before .before .pre .0) _ (c .before .before .before .before .before .u32-at .ensures .0)), omega arith))
-
-sub-t21 : tie.Need-sub-t21
-sub-t21 c = search needs
 
 returns : tie.Need-returns
 returns c = root-top _ _ (c .before .before .before .before .before .before .before .before .before .before .before .before .pre .1) _ (name-count _ _ (c .before .before .before .before .before .before .before .before .before .before .before .before .pre .1) _ (list-is _ _ _ _ (c .before .before .before .before .before .before .before .before .before .before .before .before .pre .0) _ (c .before .before .before .before .before .before .before .u32-at .ensures .0))) (c .before .before .before .before .before .before .before .before .before .before .before .before .pre .2) (c .before .before .before .before .before .before .if1 .taken)
@@ -31,14 +22,8 @@ returns c = root-top _ _ (c .before .before .before .before .before .before .bef
 listed-is-requires-3 : tie.Need-listed-is-requires-3
 listed-is-requires-3 c κs = ((c .before .before .before .before .before .before .before .before .before .before .pre .0, c .before .before .before .before .before .before .before .before .before .before .pre .2), (omega arith, omega (arith, list-is _ _ _ _ (c .before .before .before .before .before .before .before .before .before .before .pre .0) _ (c .before .before .before .before .before .u32-at .ensures .0)), omega arith))
 
-sub-listed-is-2 : tie.Need-sub-listed-is-2
-sub-listed-is-2 c = search needs
-
 listed-is-requires-4 : tie.Need-listed-is-requires-4
 listed-is-requires-4 c κs = ((c .before .before .before .before .before .before .before .before .before .before .before .before .before .pre .0, c .before .before .before .before .before .before .before .before .before .before .before .before .before .pre .2), (omega arith, omega (arith, list-is _ _ _ _ (c .before .before .before .before .before .before .before .before .before .before .before .before .before .pre .0) _ (c .before .before .before .before .before .before .before .before .u32-at .ensures .0)), omega arith))
-
-sub-t31 : tie.Need-sub-t31
-sub-t31 c = search needs
 
 returns-2 : tie.Need-returns-2
 returns-2 c = value-top _ _ (c .before .before .before .before .before .before .before .before .before .before .before .before .before .before .before .pre .1) _ (name-count _ _ (c .before .before .before .before .before .before .before .before .before .before .before .before .before .before .before .pre .1) _ (list-is _ _ _ _ (c .before .before .before .before .before .before .before .before .before .before .before .before .before .before .before .pre .0) _ (c .before .before .before .before .before .before .before .before .before .before .u32-at .ensures .0))) (c .before .before .before .before .before .before .before .before .before .before .before .before .before .before .before .pre .2) (c .before .before .before .before .before .before .before .before .before .if1 .taken)
@@ -67,20 +52,5 @@ returns-6 c = not-special _ _ (c .before .before .before .before .before .before
 pub check-special-spec : {M : Type 1} → statement M
 check-special-spec =
     tie.close
-    (tie.spec
-    u32-at-requires
-    sub-n
-    listed-is-requires
-    sub-listed-is
-    listed-is-requires-2
-    sub-t21
-    returns
-    listed-is-requires-3
-    sub-listed-is-2
-    listed-is-requires-4
-    sub-t31
-    returns-2
-    returns-3
-    returns-4
-    returns-5
-    returns-6)
+    (tie.spec (λ c κs. search needs) sub-n listed-is-requires (λ c. search needs) listed-is-requires-2 (λ c. search needs) returns
+    listed-is-requires-3 (λ c. search needs) listed-is-requires-4 (λ c. search needs) returns-2 returns-3 returns-4 returns-5 returns-6)

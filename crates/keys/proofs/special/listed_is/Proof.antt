@@ -16,12 +16,6 @@ add-spot-to c = omega (arith, listed-in _ _ _ _ (c .before .before .before .befo
 spot-to-requires : tie.Need-spot-to-requires
 spot-to-requires c κs = let p = c .before .before .before .before .pre in (p .0 .0 .chars, p .0 .0 .sampled, listed-in _ _ _ _ (p .0 .0) _ (p .1 .1))
 
-enum-known-a : tie.Need-enum-known-a
-enum-known-a c = search needs
-
-enum-told : tie.Need-enum-told
-enum-told c = search needs
-
 returns : tie.Need-returns
 returns c = let p = c .before .before .before .before .before .before .before .pre in
     tells-no (λ e. unspotted _ _ _ _ (p .0 .0) _ (c .before .before .spot-to .ensures) (c .enum-told .given .1) (position-resolves _ (p .0 .1) _ (p .1 .0) (p .1 .1) .0))
@@ -37,12 +31,4 @@ returns-2 c = listed-text _ _ _ _ _
 pub listed-is-spec : {M : Type 1} → statement M
 listed-is-spec =
     tie.close
-    (tie.spec
-    mul-spot-to
-    add-spot-to
-    spot-to-requires
-    enum-known-a
-    enum-told
-    returns
-    bears-requires
-    returns-2)
+    (tie.spec mul-spot-to add-spot-to spot-to-requires (λ c. search needs) (λ c. search needs) returns bears-requires returns-2)

@@ -12,9 +12,6 @@ returns : tie.Need-returns
 unfolding scanned headerChecks
 returns c = told _ _ (stop _ _ _ _ _ (λ h. omega arith))
 
-u32-at-requires : tie.Need-u32-at-requires
-u32-at-requires c κs = search needs
-
 returns-2 : tie.Need-returns-2
 unfolding scanned headerChecks
 returns-2 c = told _ _ (pass _ _ _ _ _ (omega arith) ∙ stop _ _ _ _ _ (λ h. omega arith))
@@ -27,9 +24,6 @@ returns-4 : tie.Need-returns-4
 unfolding scanned headerChecks
 returns-4 c = told _ _ (pass _ _ _ _ _ (omega arith) ∙ pass _ _ _ _ _ (omega arith) ∙ pass _ _ _ _ _ (omega arith) ∙ stop _ _ _ _ _ (λ h. omega arith))
 
-zero-words-requires : tie.Need-zero-words-requires
-zero-words-requires c κs = search needs
-
 returns-5 : tie.Need-returns-5
 unfolding scanned headerChecks
 returns-5 c = c .zero-words .ensures ∙ told _ _ (pass _ _ _ _ _ (omega arith) ∙ pass _ _ _ _ _ (omega arith) ∙ pass _ _ _ _ _ (omega arith) ∙ pass _ _ _ _ _ (omega arith) ∙ refl)
@@ -37,4 +31,4 @@ returns-5 c = c .zero-words .ensures ∙ told _ _ (pass _ _ _ _ _ (omega arith) 
 pub header-spec : {M : Type 1} → statement M
 header-spec =
     tie.close
-    (tie.spec returns u32-at-requires returns-2 returns-3 returns-4 zero-words-requires returns-5)
+    (tie.spec returns (λ c κs. search needs) returns-2 returns-3 returns-4 (λ c κs. search needs) returns-5)

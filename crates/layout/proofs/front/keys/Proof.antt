@@ -30,21 +30,9 @@ returns-3 : tie.Need-returns-3
 unfolding scanned keysAt keyCount keyAt keyChecks
 returns-3 c = told _ _ (pass _ _ _ _ _ (omega arith) ∙ pass _ _ _ _ _ (omega arith) ∙ stop _ _ _ _ _ (λ h. omega arith))
 
-sub-if4 : tie.Need-sub-if4
-sub-if4 c = search needs
-
-mul-if4 : tie.Need-mul-if4
-mul-if4 c = search needs
-
 returns-4 : tie.Need-returns-4
 unfolding scanned keysAt keyCount keyAt keyChecks
 returns-4 c = told _ _ (pass _ _ _ _ _ (omega arith) ∙ pass _ _ _ _ _ (omega arith) ∙ pass _ _ _ _ _ (omega arith) ∙ stop _ _ _ _ _ (λ h. omega arith))
-
-mul-t3 : tie.Need-mul-t3
-mul-t3 c = search needs
-
-add-t4 : tie.Need-add-t4
-add-t4 c = search needs
 
 returns-5 : tie.Need-returns-5
 unfolding scanned keysAt keyCount keyAt keyChecks
@@ -54,15 +42,5 @@ returns-5 c =
 pub keys-spec : {M : Type 1} → statement M
 keys-spec =
     tie.close
-    (tie.spec
-    sub-if1
-    returns
-    u32-at-requires
-    returns-2
-    returns-3
-    sub-if4
-    mul-if4
-    returns-4
-    mul-t3
-    add-t4
-    returns-5)
+    (tie.spec sub-if1 returns u32-at-requires returns-2 returns-3 (λ c. search needs) (λ c. search needs) returns-4 (λ c. search needs)
+    (λ c. search needs) returns-5)

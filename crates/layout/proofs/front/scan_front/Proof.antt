@@ -23,23 +23,8 @@ attributes-done : (c : tie.After-known-told2)
     → Clean (regionChecks attributeSize (c .before .before .before .before .before .before .before .before .before .before .before .before .before .args .b .now) (attributesAt (c .before .before .before .before .before .before .before .before .before .before .before .before .before .args .b .now))) × (c .before .a .given .0 .0 ≡ nodesAt (c .before .before .before .before .before .before .before .before .before .before .before .before .before .args .b .now))
 attributes-done c = scanned-end _ _ (attributes-scanned _ (keys-done (c .before .before .before .before) .1) (c .before .before .before .lay .ensures)) (c .before .a .given .1)
 
-front-refused-requires : tie.Need-front-refused-requires
-front-refused-requires c κs = search needs
-
 returns : tie.Need-returns
 returns c = front-stop _ _ (size-stop _ (λ h. omega arith)) (c .front-refused .ensures)
-
-header-requires : tie.Need-header-requires
-header-requires c κs = search needs
-
-enum-told : tie.Need-enum-told
-enum-told c = search needs
-
-enum-told-2 : tie.Need-enum-told-2
-enum-told-2 c = search needs
-
-front-refused-requires-2 : tie.Need-front-refused-requires-2
-front-refused-requires-2 c κs = search needs
 
 returns-2 : tie.Need-returns-2
 returns-2 c =
@@ -48,15 +33,6 @@ returns-2 c =
 
 keys-requires : tie.Need-keys-requires
 keys-requires c κs = header-end _ (header-done c)
-
-enum-known-k : tie.Need-enum-known-k
-enum-known-k c = search needs
-
-enum-told-3 : tie.Need-enum-told-3
-enum-told-3 c = search needs
-
-front-refused-requires-3 : tie.Need-front-refused-requires-3
-front-refused-requires-3 c κs = search needs
 
 returns-3 : tie.Need-returns-3
 returns-3 c =
@@ -67,15 +43,6 @@ lay-requires : tie.Need-lay-requires
 lay-requires c κs =
     let k = keys-done c in
     (omega (arith, k .1, keys-end _ (k .0)), search needs)
-
-enum-known-a : tie.Need-enum-known-a
-enum-known-a c = search needs
-
-enum-told-4 : tie.Need-enum-told-4
-enum-told-4 c = search needs
-
-front-refused-requires-4 : tie.Need-front-refused-requires-4
-front-refused-requires-4 c κs = search needs
 
 returns-4 : tie.Need-returns-4
 returns-4 c =
@@ -103,23 +70,6 @@ returns-5 c =
 pub scan-front-spec : {M : Type 1} → statement M
 scan-front-spec =
     tie.close
-    (tie.spec
-    front-refused-requires
-    returns
-    header-requires
-    enum-told
-    enum-told-2
-    front-refused-requires-2
-    returns-2
-    keys-requires
-    enum-known-k
-    enum-told-3
-    front-refused-requires-3
-    returns-3
-    lay-requires
-    enum-known-a
-    enum-told-4
-    front-refused-requires-4
-    returns-4
-    lay-requires-2
-    returns-5)
+    (tie.spec (λ c κs. search needs) returns (λ c κs. search needs) (λ c. search needs) (λ c. search needs) (λ c κs. search needs)
+    returns-2 keys-requires (λ c. search needs) (λ c. search needs) (λ c κs. search needs) returns-3 lay-requires (λ c. search needs)
+    (λ c. search needs) (λ c κs. search needs) returns-4 lay-requires-2 returns-5)

@@ -24,32 +24,17 @@ abbrev μ-loop : tie.MeasureT-loop
 loop-holds : tie.Need-loop-holds Inv-loop μ-loop
 loop-holds c = (search needs, search needs, search needs, refl)
 
-sub-if1 : tie.Need-sub-if1 Inv-loop μ-loop
-sub-if1 c = search needs
-
 returns : tie.Need-returns Inv-loop μ-loop
 unfolding scanned
 returns c =
     let i = c .before .before .loop .inv in
     told _ _ (i .3 ∙ each-stop _ _ _ (omega arith) (zero-told _ _ _ (i .1) (stop _ _ _ _ _ (λ h. omega arith))))
 
-u32-at-requires : tie.Need-u32-at-requires Inv-loop μ-loop
-u32-at-requires c κs = search needs
-
 returns-2 : tie.Need-returns-2 Inv-loop μ-loop
 unfolding scanned
 returns-2 c =
     let i = c .before .before .before .before .loop .inv in
     told _ _ (i .3 ∙ each-stop _ _ _ (omega arith) (zero-told _ _ _ (i .1) (pass _ _ _ _ _ (omega arith) ∙ stop _ _ _ _ _ (λ h. omega arith))))
-
-add-p : tie.Need-add-p Inv-loop μ-loop
-add-p c = search needs
-
-add-i : tie.Need-add-i Inv-loop μ-loop
-add-i c = search needs
-
-loop-less : tie.Need-loop-less Inv-loop μ-loop
-loop-less c = search needs
 
 loop-again : tie.Need-loop-again Inv-loop μ-loop
 loop-again c =
@@ -66,16 +51,5 @@ returns-3 c =
 pub zero-words-spec : {M : Type 1} → statement M
 zero-words-spec =
     tie.close
-    (tie.spec
-    Inv-loop
-    μ-loop
-    loop-holds
-    sub-if1
-    returns
-    u32-at-requires
-    returns-2
-    add-p
-    add-i
-    loop-less
-    loop-again
-    returns-3)
+    (tie.spec Inv-loop μ-loop loop-holds (λ c. search needs) returns (λ c κs. search needs) returns-2 (λ c. search needs)
+    (λ c. search needs) (λ c. search needs) loop-again returns-3)

@@ -9,34 +9,13 @@ use Rattle.layout.proofs.Parts.{bucket-told}
 use Rattle.layout.proofs.tables.bucket.Statement.{statement}
 use Rattle.layout.proofs.tables.bucket.Tie as tie
 
-sub-if1 : tie.Need-sub-if1
-sub-if1 c = search needs
-
 returns : tie.Need-returns
 unfolding scanned
 returns c = bucket-told _ _ _ (c .before .before .pre .0) (stop _ _ _ _ _ (λ h. omega arith))
 
-u32-at-requires : tie.Need-u32-at-requires
-u32-at-requires c κs = search needs
-
-add-e : tie.Need-add-e
-add-e c = search needs
-
-sub-if2 : tie.Need-sub-if2
-sub-if2 c = search needs
-
-mul-if2 : tie.Need-mul-if2
-mul-if2 c = search needs
-
 returns-2 : tie.Need-returns-2
 unfolding scanned
 returns-2 c = bucket-told _ _ _ (c .before .before .before .before .pre .0) (pass _ _ _ _ _ (omega arith) ∙ stop _ _ _ _ _ (λ h. omega arith))
-
-mul-t8 : tie.Need-mul-t8
-mul-t8 c = search needs
-
-add-t9 : tie.Need-add-t9
-add-t9 c = search needs
 
 returns-3 : tie.Need-returns-3
 unfolding scanned
@@ -48,14 +27,5 @@ returns-3 c =
 pub bucket-spec : {M : Type 1} → statement M
 bucket-spec =
     tie.close
-    (tie.spec
-    sub-if1
-    returns
-    u32-at-requires
-    add-e
-    sub-if2
-    mul-if2
-    returns-2
-    mul-t8
-    add-t9
-    returns-3)
+    (tie.spec (λ c. search needs) returns (λ c κs. search needs) (λ c. search needs) (λ c. search needs) (λ c. search needs) returns-2
+    (λ c. search needs) (λ c. search needs) returns-3)

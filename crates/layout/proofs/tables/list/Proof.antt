@@ -9,15 +9,9 @@ use Rattle.layout.proofs.Parts.{list-told}
 use Rattle.layout.proofs.tables.list.Statement.{statement}
 use Rattle.layout.proofs.tables.list.Tie as tie
 
-sub-if1 : tie.Need-sub-if1
-sub-if1 c = search needs
-
 returns : tie.Need-returns
 unfolding scanned
 returns c = list-told _ _ _ (c .before .before .pre .0) (stop _ _ _ _ _ (λ h. omega arith))
-
-u32-at-requires : tie.Need-u32-at-requires
-u32-at-requires c κs = search needs
 
 returns-2 : tie.Need-returns-2
 unfolding scanned
@@ -27,22 +21,10 @@ returns-3 : tie.Need-returns-3
 unfolding scanned
 returns-3 c = list-told _ _ _ (c .before .before .before .before .before .pre .0) (pass _ _ _ _ _ (omega arith) ∙ pass _ _ _ _ _ (omega arith) ∙ stop _ _ _ _ _ (λ h. omega arith))
 
-add-e : tie.Need-add-e
-add-e c = search needs
-
-mul-bytes : tie.Need-mul-bytes
-mul-bytes c = search needs
-
-sub-if4 : tie.Need-sub-if4
-sub-if4 c = search needs
-
 returns-4 : tie.Need-returns-4
 unfolding scanned
 returns-4 c =
     list-told _ _ _ (c .before .before .before .before .before .before .pre .0) (pass _ _ _ _ _ (omega arith) ∙ pass _ _ _ _ _ (omega arith) ∙ pass _ _ _ _ _ (omega arith) ∙ stop _ _ _ _ _ (λ h. omega arith))
-
-add-t10 : tie.Need-add-t10
-add-t10 c = search needs
 
 returns-5 : tie.Need-returns-5
 unfolding scanned
@@ -54,15 +36,5 @@ returns-5 c =
 pub list-spec : {M : Type 1} → statement M
 list-spec =
     tie.close
-    (tie.spec
-    sub-if1
-    returns
-    u32-at-requires
-    returns-2
-    returns-3
-    add-e
-    mul-bytes
-    sub-if4
-    returns-4
-    add-t10
-    returns-5)
+    (tie.spec (λ c. search needs) returns (λ c κs. search needs) returns-2 returns-3 (λ c. search needs) (λ c. search needs)
+    (λ c. search needs) returns-4 (λ c. search needs) returns-5)

@@ -15,15 +15,6 @@ use Rattle.layout.proofs.tables.scan_table.Tie as tie
 characters-done : (c : tie.After-known-told) → Clean (regionChecks 2 (c .before .before .before .before .before .before .args .b .now) (c .before .before .before .before .before .before .args .at)) × (c .before .c .given .0 .0 ≡ endOf 2 (c .before .before .before .before .before .before .args .b .now) (c .before .before .before .before .before .before .args .at))
 characters-done c = scanned-end _ _ (c .before .before .before .lay .ensures) (c .before .c .given .1)
 
-lay-requires : tie.Need-lay-requires
-lay-requires c κs = search needs
-
-enum-known-c : tie.Need-enum-known-c
-enum-known-c c = search needs
-
-enum-told : tie.Need-enum-told
-enum-told c = search needs
-
 returns : tie.Need-returns
 returns c = table-stop _ _ _ _ (characters-stop _ _ (scanned-fault _ _ (c .before .before .lay .ensures) (c .enum-told .given .1))) (c .enum-told .given .1) refl
 
@@ -31,15 +22,6 @@ buckets-requires : tie.Need-buckets-requires
 buckets-requires c κs =
     let q = characters-done (c .before) in
     (q .1 ∙ sym (bucket-first _), omega (arith, q .1, region-end _ _ _ (q .0)), c .before .before .before .before .before .before .before .pre .1)
-
-enum-known-k : tie.Need-enum-known-k
-enum-known-k c = search needs
-
-enum-told-2 : tie.Need-enum-told-2
-enum-told-2 c = search needs
-
-same-length : tie.Need-same-length
-same-length c = search needs
 
 returns-2 : tie.Need-returns-2
 returns-2 c =
@@ -51,9 +33,6 @@ list-requires : tie.Need-list-requires
 list-requires c κs =
     let s = scanned-end _ _ (c .before .before .before .before .before .buckets .ensures .answer) (c .before .k .given .1) in
     (s .1, omega (arith, s .1, list-in _ (characters-done (c .before .before .before .before .before .before .before) .0) (s .0)))
-
-same-length-2 : tie.Need-same-length-2
-same-length-2 c = search needs
 
 returns-3 : tie.Need-returns-3
 returns-3 c =
@@ -70,16 +49,5 @@ returns-3 c =
 pub scan-table-spec : {M : Type 1} → statement M
 scan-table-spec =
     tie.close
-    (tie.spec
-    lay-requires
-    enum-known-c
-    enum-told
-    returns
-    buckets-requires
-    enum-known-k
-    enum-told-2
-    same-length
-    returns-2
-    list-requires
-    same-length-2
-    returns-3)
+    (tie.spec (λ c κs. search needs) (λ c. search needs) (λ c. search needs) returns buckets-requires (λ c. search needs)
+    (λ c. search needs) (λ c. search needs) returns-2 list-requires (λ c. search needs) returns-3)

@@ -24,18 +24,6 @@ unfolding footerAt
 names-done c =
     scanned-end _ _ (names-scanned _ (values-done (c .before .before .before .before .before .before .before) .1) (c .before .before .before .before .before .before .before .before .before .before .before .before .before .before .before .before .before .before .before .before .before .pre .1) (c .before .before .before .before .before .scan-table2 .ensures) .answer) (c .before .na .given .1)
 
-scan-front-requires : tie.Need-scan-front-requires
-scan-front-requires c κs = search needs
-
-enum-known-fa : tie.Need-enum-known-fa
-enum-known-fa c = search needs
-
-enum-known-fa-2 : tie.Need-enum-known-fa-2
-enum-known-fa-2 c = search needs
-
-walk-refused-requires : tie.Need-walk-refused-requires
-walk-refused-requires c κs = search needs
-
 returns : tie.Need-returns
 returns c =
     walk-stop _ _ _ _ (front-refused _ (scanned-fault _ _ (c .before .before .before .before .scan-front .ensures .answer) (c .before .before .fa2 .given .1))) (c .walk-refused .ensures)
@@ -45,18 +33,6 @@ scan-table-requires c κs =
     let f = front-done (c .before) in
     let e = front-end _ (f .0) in
     (omega arith, e .1)
-
-enum-known-va : tie.Need-enum-known-va
-enum-known-va c = search needs
-
-enum-known-va-2 : tie.Need-enum-known-va-2
-enum-known-va-2 c = search needs
-
-walk-refused-requires-2 : tie.Need-walk-refused-requires-2
-walk-refused-requires-2 c κs = search needs
-
-same-length : tie.Need-same-length
-same-length c = search needs
 
 returns-2 : tie.Need-returns-2
 returns-2 c =
@@ -69,21 +45,6 @@ scan-table-requires-2 c κs =
     let w = values-done (c .before) in
     (omega (arith, w .1, values-end _ (w .0)), front-end _ (front-done (c .before .before .before .before .before .before .before .before) .0) .1)
 
-enum-known-na : tie.Need-enum-known-na
-enum-known-na c = search needs
-
-enum-known-na-2 : tie.Need-enum-known-na-2
-enum-known-na-2 c = search needs
-
-walk-refused-requires-3 : tie.Need-walk-refused-requires-3
-walk-refused-requires-3 c κs = search needs
-
-same-length-2 : tie.Need-same-length-2
-same-length-2 c = search needs
-
-same-length-3 : tie.Need-same-length-3
-same-length-3 c = search needs
-
 returns-3 : tie.Need-returns-3
 returns-3 c =
     let w = values-done (c .before .before .before .before .before .before .before .before) in
@@ -94,12 +55,6 @@ footer-requires : tie.Need-footer-requires
 footer-requires c κs =
     let l = names-done c in
     (l .1, omega (arith, l .1, names-end _ (l .0)))
-
-same-length-4 : tie.Need-same-length-4
-same-length-4 c = search needs
-
-same-length-5 : tie.Need-same-length-5
-same-length-5 c = search needs
 
 returns-4 : tie.Need-returns-4
 returns-4 c =
@@ -126,26 +81,7 @@ returns-4 c =
 pub along-spec : {M : Type 1} → statement M
 along-spec =
     tie.close
-    (tie.spec
-    scan-front-requires
-    enum-known-fa
-    enum-known-fa-2
-    walk-refused-requires
-    returns
-    scan-table-requires
-    enum-known-va
-    enum-known-va-2
-    walk-refused-requires-2
-    same-length
-    returns-2
-    scan-table-requires-2
-    enum-known-na
-    enum-known-na-2
-    walk-refused-requires-3
-    same-length-2
-    same-length-3
-    returns-3
-    footer-requires
-    same-length-4
-    same-length-5
-    returns-4)
+    (tie.spec (λ c κs. search needs) (λ c. search needs) (λ c. search needs) (λ c κs. search needs) returns scan-table-requires
+    (λ c. search needs) (λ c. search needs) (λ c κs. search needs) (λ c. search needs) returns-2 scan-table-requires-2 (λ c. search needs)
+    (λ c. search needs) (λ c κs. search needs) (λ c. search needs) (λ c. search needs) returns-3 footer-requires (λ c. search needs)
+    (λ c. search needs) returns-4)

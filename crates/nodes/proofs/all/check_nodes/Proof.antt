@@ -97,18 +97,6 @@ add-x-2 c = record { fits = omega (arith, inside c) }
 check-node-requires : tie.Need-check-node-requires Inv-loop μ-loop Inv-segments μ-segments
 check-node-requires c κs = let s = c .before .before .before .before .before .before .before .before .before .before .before .before .before .before in (s .pre .0, s .pre .1, here c, place c, s .pre .2)
 
-enum-told : tie.Need-enum-told Inv-loop μ-loop Inv-segments μ-segments
-enum-told c = search needs
-
-enum-known-num : tie.Need-enum-known-num Inv-loop μ-loop Inv-segments μ-segments
-enum-known-num c = search needs
-
-add-el : tie.Need-add-el Inv-loop μ-loop Inv-segments μ-segments
-add-el c = search needs
-
-loop-less : tie.Need-loop-less Inv-loop μ-loop Inv-segments μ-segments
-loop-less c = search needs
-
 loop-again : tie.Need-loop-again Inv-loop μ-loop Inv-segments μ-segments
 loop-again c = let i = c .before .before .before .before .loop .inv in
     (omega arith, i .1, i .2 ∙ left-more _ _ _ _ _ (here (c .before .before .before) .el-in) (c .before .before .check-node .ensures) (c .enum-told .given .1))
@@ -124,12 +112,6 @@ mul-at c = record { fits = omega (arith, turn (c .before .before .before .before
 
 add-at-3 : tie.Need-add-at-3 Inv-loop μ-loop Inv-segments μ-segments
 add-at-3 c = record { fits = omega (arith, turn (c .before .before .before .before), c .u32-at3 .ensures .0) }
-
-add-seg : tie.Need-add-seg Inv-loop μ-loop Inv-segments μ-segments
-add-seg c = search needs
-
-segments-less : tie.Need-segments-less Inv-loop μ-loop Inv-segments μ-segments
-segments-less c = search needs
 
 segments-again : tie.Need-segments-again Inv-loop μ-loop Inv-segments μ-segments
 segments-again c = let q = c .before .before .before .before .before .before .segments .inv .1 in
@@ -149,35 +131,7 @@ returns-4 c = let i = c .before .before .before .before .before .loop .inv in sy
 pub check-nodes-spec : {M : Type 1} → statement M
 check-nodes-spec =
     tie.close
-    (tie.spec
-    Inv-loop
-    μ-loop
-    Inv-segments
-    μ-segments
-    returns
-    add-at
-    add-u32-at
-    u32-at-requires
-    returns-2
-    segments-holds
-    add-u32-at-2
-    u32-at-requires-2
-    loop-holds
-    add-x
-    mul-x
-    add-x-2
-    check-node-requires
-    enum-told
-    enum-known-num
-    add-el
-    loop-less
-    loop-again
-    add-at-2
-    u32-at-requires-3
-    mul-at
-    add-at-3
-    add-seg
-    segments-less
-    segments-again
-    returns-3
-    returns-4)
+    (tie.spec Inv-loop μ-loop Inv-segments μ-segments returns add-at add-u32-at u32-at-requires returns-2 segments-holds add-u32-at-2
+    u32-at-requires-2 loop-holds add-x mul-x add-x-2 check-node-requires (λ c. search needs) (λ c. search needs) (λ c. search needs)
+    (λ c. search needs) loop-again add-at-2 u32-at-requires-3 mul-at add-at-3 (λ c. search needs) (λ c. search needs) segments-again
+    returns-3 returns-4)

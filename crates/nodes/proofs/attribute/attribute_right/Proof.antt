@@ -5,9 +5,6 @@ use Rattle.nodes.proofs.Attributes.{before-in, name-zero, name-past, na
 use Rattle.nodes.proofs.attribute.attribute_right.Statement.{statement}
 use Rattle.nodes.proofs.attribute.attribute_right.Tie as tie
 
-u16-at-requires : tie.Need-u16-at-requires
-u16-at-requires c κs = search needs
-
 returns : tie.Need-returns
 returns c = name-zero _ _ (c .before .before .before .pre .0) _ _ _ (c .before .before .before .pre .1) _ (c .before .u16-at .ensures .0) (c .if1 .taken)
 
@@ -17,14 +14,8 @@ returns-2 c = name-past _ _ (c .before .before .before .before .before .pre .0) 
 sub-u16-at : tie.Need-sub-u16-at
 sub-u16-at c = before-in _ _ _ _ (c .before .before .before .before .before .before .pre .1) (c .if3 .taken)
 
-u16-at-requires-2 : tie.Need-u16-at-requires-2
-u16-at-requires-2 c κs = search needs
-
 returns-3 : tie.Need-returns-3
 returns-3 c = name-falls _ _ (c .before .before .before .before .before .before .before .before .pre .0) _ _ _ (c .before .before .before .before .before .before .before .before .pre .1) _ (c .before .before .before .before .before .before .u16-at .ensures .0) (c .before .before .if3 .taken) _ (c .before .u16-at2 .ensures .0) (c .if4 .taken)
-
-typed-requires : tie.Need-typed-requires
-typed-requires c κs = search needs
 
 returns-4 : tie.Need-returns-4
 returns-4 c = not-typed _ _ (c .before .before .before .before .before .before .before .before .pre .0) _ _ _ (c .before .before .before .before .before .before .before .before .pre .1) _ (c .before .before .before .before .before .before .u16-at .ensures .0) (c .before .typed .ensures .not (not-true _ (c .if5 .taken)))
@@ -36,15 +27,6 @@ returns-5 c =
     let above = ⊎-elim (λ w. name-rises _ _ (p .0) _ _ _ (p .1) _ u (w .0 .taken) _ (w .1 .ensures .0) (w .2 .left)) (λ w. name-first _ _ (p .0) _ _ _ (p .1) _ u (w .left)) (c .before .before .before .before .if3 .came) in
     right-other _ _ (p .0) _ _ _ (p .1) _ u (c .before .before .before .before .before .before .before .if1 .left) (c .before .before .before .before .before .if2 .left) above (c .before .before .before .typed .ensures .so (not-false _ (c .before .before .if5 .left))) (c .if6 .taken)
 
-add-u16-at : tie.Need-add-u16-at
-add-u16-at c = search needs
-
-u16-at-requires-3 : tie.Need-u16-at-requires-3
-u16-at-requires-3 c κs = search needs
-
-kind-requires : tie.Need-kind-requires
-kind-requires c κs = search needs
-
 returns-6 : tie.Need-returns-6
 returns-6 c =
     let p = c .before .before .before .before .before .before .before .before .before .before .before .before .pre in
@@ -55,17 +37,5 @@ returns-6 c =
 pub attribute-right-spec : {M : Type 1} → statement M
 attribute-right-spec =
     tie.close
-    (tie.spec
-    u16-at-requires
-    returns
-    returns-2
-    sub-u16-at
-    u16-at-requires-2
-    returns-3
-    typed-requires
-    returns-4
-    returns-5
-    add-u16-at
-    u16-at-requires-3
-    kind-requires
-    returns-6)
+    (tie.spec (λ c κs. search needs) returns returns-2 sub-u16-at (λ c κs. search needs) returns-3 (λ c κs. search needs) returns-4
+    returns-5 (λ c. search needs) (λ c κs. search needs) (λ c κs. search needs) returns-6)

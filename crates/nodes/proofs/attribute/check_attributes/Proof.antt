@@ -19,12 +19,6 @@ abbrev μ-loop : tie.MeasureT-loop
 loop-holds : tie.Need-loop-holds Inv-loop μ-loop
 loop-holds c = attributes-start _ _
 
-mul-q : tie.Need-mul-q Inv-loop μ-loop
-mul-q c = search needs
-
-add-q : tie.Need-add-q Inv-loop μ-loop
-add-q c = search needs
-
 attribute-right-requires : tie.Need-attribute-right-requires Inv-loop μ-loop
 attribute-right-requires c κs = let p = c .before .before .before .before .pre in (p .0 .1, attribute-is _ _ _ _ (p .1 .1), omega arith)
 
@@ -39,12 +33,6 @@ text-passes-requires c κs = let s = c .before .before .before .before .before .
 returns-2 : tie.Need-returns-2 Inv-loop μ-loop
 returns-2 c = sym (c .before .before .before .before .before .loop .inv ∙ refused-19 _ _ _ _ (c .before .before .before .before .before .before .before .before .pre .1 .0) (c .before .before .before .before .loop-test .taken) _ (attribute-is _ _ _ _ (c .before .before .before .before .before .before .before .before .pre .1 .1)) (c .before .before .before .attribute-right .ensures .so (not-false _ (c .before .before .if1 .left))) (c .before .text-passes .ensures .not (not-true _ (c .if2 .taken))))
 
-add-i : tie.Need-add-i Inv-loop μ-loop
-add-i c = search needs
-
-loop-less : tie.Need-loop-less Inv-loop μ-loop
-loop-less c = search needs
-
 loop-again : tie.Need-loop-again Inv-loop μ-loop
 loop-again c = c .before .before .before .before .before .loop .inv ∙ attributes-more _ _ _ _ (c .before .before .before .before .before .before .before .before .pre .1 .0) (c .before .before .before .before .loop-test .taken) _ (attribute-is _ _ _ _ (c .before .before .before .before .before .before .before .before .pre .1 .1)) (c .before .before .before .attribute-right .ensures .so (not-false _ (c .before .before .if1 .left))) (c .before .text-passes .ensures .so (not-false _ (c .if2 .left)))
 
@@ -54,17 +42,5 @@ returns-3 c = sym (c .before .loop .inv ∙ attributes-none _ _ _ _ (c .before .
 pub check-attributes-spec : {M : Type 1} → statement M
 check-attributes-spec =
     tie.close
-    (tie.spec
-    Inv-loop
-    μ-loop
-    loop-holds
-    mul-q
-    add-q
-    attribute-right-requires
-    returns
-    text-passes-requires
-    returns-2
-    add-i
-    loop-less
-    loop-again
-    returns-3)
+    (tie.spec Inv-loop μ-loop loop-holds (λ c. search needs) (λ c. search needs) attribute-right-requires returns text-passes-requires
+    returns-2 (λ c. search needs) (λ c. search needs) loop-again returns-3)

@@ -78,12 +78,6 @@ range-at-requires : tie.Need-range-at-requires
 unfolding attributeSize
 range-at-requires c κs = let y = c .before .before .before .before .before .before .before .before .before .before .pre .1 in (lent (y .placed .attributes) (y .attributes), (c .u16-at4 .ensures .1, c .before .before .before .u16-at2 .ensures .1))
 
-enum-known-r : tie.Need-enum-known-r
-enum-known-r c = search needs
-
-enum-told : tie.Need-enum-told
-enum-told c = search needs
-
 returns-3 : tie.Need-returns-3
 returns-3 c = refused-17 _ _ _ _ (c .before .before .before .before .before .before .before .before .before .before .before .before .before .pre .3) (rule (c .before .before .before .before .before .before .before .before .before))
     (attributes-nowhere _ _ _ (count (c .before .before .before .before .before .before)) _ (range (c .before .before)) (c .before .before .before .before .before .if3 .taken) (c .enum-told .given .1))
@@ -97,15 +91,9 @@ check-attributes-requires c κs = let s = c .before .before .before .before .bef
     let e = c .before .before .r .given .1 in
     ((s .pre .0, y .known, y .strings, y .table, y .accepted), (n, attributes-start _ _ _ n _ f _ e, attributes-fit _ _ _ n _ f _ e (y .laid .attributes), λ z. attributes-known _ _ _ n _ f _ e (s .pre .4 z)))
 
-enum-known-v : tie.Need-enum-known-v
-enum-known-v c = search needs
-
 returns-4 : tie.Need-returns-4
 returns-4 c = refused-attribute _ _ _ _ (c .before .before .before .before .before .before .before .before .before .before .before .before .before .before .before .before .before .before .before .pre .3) (rule (c .before .before .before .before .before .before .before .before .before .before .before .before .before .before .before)) (attributes-reach _ _ _ (count (c .before .before .before .before .before .before .before .before .before .before .before .before)) _ (range (c .before .before .before .before .before .before .before .before)) _ (c .before .before .before .before .before .before .r .given .1))
     (sym (c .before .before .before .check-attributes .ensures) ∙ c .before .v .given .1)
-
-enum-told-2 : tie.Need-enum-told-2
-enum-told-2 c = search needs
 
 children-right-requires : tie.Need-children-right-requires
 children-right-requires c κs = let s = c .before .before .before .before .before .before .before .before in ((s .pre .1 .placed .nodes, s .pre .1 .nodes), (fits s, live (c .before .before)))
@@ -119,25 +107,6 @@ returns-6 c = node-passes _ _ _ _ (c .before .before .before .before .before .be
 pub check-node-spec : {M : Type 1} → statement M
 check-node-spec =
     tie.close
-    (tie.spec
-    node-right-requires
-    returns
-    u16-at-requires
-    returns-2
-    add-u16-at
-    u16-at-requires-2
-    add-u16-at-2
-    u16-at-requires-3
-    add-u16-at-3
-    u16-at-requires-4
-    range-at-requires
-    enum-known-r
-    enum-told
-    returns-3
-    check-attributes-requires
-    enum-known-v
-    returns-4
-    enum-told-2
-    children-right-requires
-    returns-5
-    returns-6)
+    (tie.spec node-right-requires returns u16-at-requires returns-2 add-u16-at u16-at-requires-2 add-u16-at-2 u16-at-requires-3
+    add-u16-at-3 u16-at-requires-4 range-at-requires (λ c. search needs) (λ c. search needs) returns-3 check-attributes-requires
+    (λ c. search needs) returns-4 (λ c. search needs) children-right-requires returns-5 returns-6)

@@ -15,23 +15,8 @@ abbrev μ-loop : tie.MeasureT-loop
 loop-holds : tie.Need-loop-holds Inv-loop μ-loop
 loop-holds c = (omega arith, climb-none _ _)
 
-mul-u16-at : tie.Need-mul-u16-at Inv-loop μ-loop
-mul-u16-at c = search needs
-
-add-u16-at : tie.Need-add-u16-at Inv-loop μ-loop
-add-u16-at c = search needs
-
-u16-at-requires : tie.Need-u16-at-requires Inv-loop μ-loop
-u16-at-requires c κs = search needs
-
 returns : tie.Need-returns Inv-loop μ-loop
 returns c = climb-falls _ _ _ _ (c .before .before .before .before .loop .inv .1) _ (c .before .before .u16-at .ensures .0) _ (c .before .before .before .loop-test .taken) (c .before .if1 .taken) (c .if2 .taken)
-
-add-i : tie.Need-add-i Inv-loop μ-loop
-add-i c = search needs
-
-loop-less : tie.Need-loop-less Inv-loop μ-loop
-loop-less c = search needs
 
 loop-again : tie.Need-loop-again Inv-loop μ-loop
 loop-again c = let h = c .before .before .before .loop .inv .1 in
@@ -44,15 +29,5 @@ returns-2 c = climb-whole _ _ _ _ _ (omega arith) (c .before .loop .inv .1)
 pub rising-spec : {M : Type 1} → statement M
 rising-spec =
     tie.close
-    (tie.spec
-    Inv-loop
-    μ-loop
-    loop-holds
-    mul-u16-at
-    add-u16-at
-    u16-at-requires
-    returns
-    add-i
-    loop-less
-    loop-again
-    returns-2)
+    (tie.spec Inv-loop μ-loop loop-holds (λ c. search needs) (λ c. search needs) (λ c κs. search needs) returns (λ c. search needs)
+    (λ c. search needs) loop-again returns-2)

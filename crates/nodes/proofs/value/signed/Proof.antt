@@ -5,15 +5,6 @@ use Rattle.nodes.proofs.Values.{signed-low, signed-fits, signed-high}
 use Rattle.nodes.proofs.value.signed.Statement.{statement}
 use Rattle.nodes.proofs.value.signed.Tie as tie
 
-cast-result : tie.Need-cast-result
-cast-result c = search needs
-
-sub-m : tie.Need-sub-m
-sub-m c = search needs
-
-cast-d : tie.Need-cast-d
-cast-d c = search needs
-
 sub-result : tie.Need-sub-result
 sub-result c = signed-fits (0xffff_ffff - c .before .args .w) (omega arith)
 
@@ -24,4 +15,4 @@ returns-2 : tie.Need-returns-2
 returns-2 c = signed-high _ (c .if1 .left) (omega arith)
 
 pub signed-spec : {M : Type 1} → statement M
-signed-spec = tie.close (tie.spec cast-result sub-m cast-d sub-result returns returns-2)
+signed-spec = tie.close (tie.spec (λ c. search needs) (λ c. search needs) (λ c. search needs) sub-result returns returns-2)

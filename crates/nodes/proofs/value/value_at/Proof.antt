@@ -7,27 +7,6 @@ use Rattle.nodes.proofs.Values.{value-whole, value-truth, value-float, 
 use Rattle.nodes.proofs.value.value_at.Statement.{statement}
 use Rattle.nodes.proofs.value.value_at.Tie as tie
 
-add-u16-at : tie.Need-add-u16-at
-add-u16-at c = search needs
-
-u16-at-requires : tie.Need-u16-at-requires
-u16-at-requires c κs = search needs
-
-kind-requires : tie.Need-kind-requires
-kind-requires c κs = search needs
-
-add-u32-at : tie.Need-add-u32-at
-add-u32-at c = search needs
-
-u32-at-requires : tie.Need-u32-at-requires
-u32-at-requires c κs = search needs
-
-extended-requires : tie.Need-extended-requires
-extended-requires c κs = search needs
-
-signed-requires : tie.Need-signed-requires
-signed-requires c κs = search needs
-
 returns : tie.Need-returns
 returns c =
     ap Whole (toZ-ofZ {w = w32} (sfits-of (c .signed .ok)) ∙ c .signed .ensures)
@@ -37,34 +16,10 @@ returns-2 : tie.Need-returns-2
 returns-2 c =
     value-truth _ _ _ _ (c .before .before .before .before .before .u16-at .ensures .0) (c .before .before .before .before .kind .ensures .0) (c .before .before .before .if1 .taken) _ (c .before .extended .ensures) _ (c .before .before .u32-at .ensures .0) (c .if2 .left)
 
-add-u32-at-2 : tie.Need-add-u32-at-2
-add-u32-at-2 c = search needs
-
-u32-at-requires-2 : tie.Need-u32-at-requires-2
-u32-at-requires-2 c κs = search needs
-
-cast-single : tie.Need-cast-single
-cast-single c = search needs
-
-single-requires : tie.Need-single-requires
-single-requires c κs = search needs
-
 returns-3 : tie.Need-returns-3
 returns-3 c =
     ap Float (c .single .ensures)
     ∙ value-float _ _ _ _ (c .before .before .before .before .before .u16-at .ensures .0) (c .before .before .before .before .kind .ensures .0) (c .before .before .before .if1 .left) (c .before .before .if3 .taken) _ (c .before .u32-at2 .ensures .0)
-
-add-u16-at-2 : tie.Need-add-u16-at-2
-add-u16-at-2 c = search needs
-
-u16-at-requires-2 : tie.Need-u16-at-requires-2
-u16-at-requires-2 c κs = search needs
-
-add-u16-at-3 : tie.Need-add-u16-at-3
-add-u16-at-3 c = search needs
-
-u16-at-requires-3 : tie.Need-u16-at-requires-3
-u16-at-requires-3 c κs = search needs
 
 returns-4 : tie.Need-returns-4
 returns-4 c =
@@ -73,23 +28,6 @@ returns-4 c =
 pub value-at-spec : {M : Type 1} → statement M
 value-at-spec =
     tie.close
-    (tie.spec
-    add-u16-at
-    u16-at-requires
-    kind-requires
-    add-u32-at
-    u32-at-requires
-    extended-requires
-    signed-requires
-    returns
-    returns-2
-    add-u32-at-2
-    u32-at-requires-2
-    cast-single
-    single-requires
-    returns-3
-    add-u16-at-2
-    u16-at-requires-2
-    add-u16-at-3
-    u16-at-requires-3
-    returns-4)
+    (tie.spec (λ c. search needs) (λ c κs. search needs) (λ c κs. search needs) (λ c. search needs) (λ c κs. search needs)
+    (λ c κs. search needs) (λ c κs. search needs) returns returns-2 (λ c. search needs) (λ c κs. search needs) (λ c. search needs)
+    (λ c κs. search needs) returns-3 (λ c. search needs) (λ c κs. search needs) (λ c. search needs) (λ c κs. search needs) returns-4)

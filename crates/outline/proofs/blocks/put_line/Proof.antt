@@ -14,9 +14,6 @@ room s = omega arith
 mul-put-spaces : tie.Need-mul-put-spaces
 mul-put-spaces c = omega (arith, c .before .before .before .pre .2)
 
-put-spaces-requires : tie.Need-put-spaces-requires
-put-spaces-requires c κs = search needs
-
 u16-at-requires : tie.Need-u16-at-requires
 u16-at-requires c κs = omega (arith, c .before .before .before .before .before .before .pre .1 .fits)
 
@@ -26,24 +23,11 @@ put-name-requires c κs = let p = c .before .before .before .before .before .bef
 put-attributes-requires : tie.Need-put-attributes-requires
 put-attributes-requires c κs = let p = c .before .before .before .before .before .before .before .before .before .before .before .before .pre in (p .0, p .1)
 
-put-requires : tie.Need-put-requires
-put-requires c κs = search needs
-
-same-length : tie.Need-same-length
-same-length c = search needs
-
 returns : tie.Need-returns
 returns c = put-four (room (c .before .before .before .before .before .before .before .before .before .before .before .before .before .before .before .before .before .before .before)) (c .before .before .before .before .before .before .before .before .before .before .before .before .before .before .before .put-spaces .ensures) (c .before .before .before .before .before .before .before .before .before .before .put-name .ensures) (c .before .before .before .before .before .before .put-attributes .ensures) (c .before .before .put .ensures) (line-is _ _ (c .before .before .before .before .before .before .before .before .before .before .before .before .u16-at .ensures .0) (c .before .before .before .before .before .before .before .before .before .before .before .before .before .before .before .before .before .before .before .args .level))
 
 pub put-line-spec : {M : Type 1} → statement M
 put-line-spec =
     tie.close
-    (tie.spec
-    mul-put-spaces
-    put-spaces-requires
-    u16-at-requires
-    put-name-requires
-    put-attributes-requires
-    put-requires
-    same-length
-    returns)
+    (tie.spec mul-put-spaces (λ c κs. search needs) u16-at-requires put-name-requires put-attributes-requires (λ c κs. search needs)
+    (λ c. search needs) returns)

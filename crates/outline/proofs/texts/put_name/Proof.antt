@@ -31,21 +31,10 @@ u16-at-requires-2 c κs = omega (arith, there (c .before .before .before .before
 put-text-requires : tie.Need-put-text-requires
 put-text-requires c κs = let p = c .before .before .before .before .before .before .pre in name-held (p .0) (p .1) (p .3) (p .4) refl (c .before .before .u16-at .ensures .0) (c .before .u16-at2 .ensures .0) (p .2)
 
-same-length : tie.Need-same-length
-same-length c = search needs
-
 returns : tie.Need-returns
 returns c = let p = c .before .before .before .before .before .before .before .before .before .pre in put-same (ap escaped (name-text (p .0) (p .1) (p .3) (p .4) refl (c .before .before .before .before .before .u16-at .ensures .0) (c .before .before .before .before .u16-at2 .ensures .0))) (c .before .before .put-text .ensures)
 
 pub put-name-spec : {M : Type 1} → statement M
 put-name-spec =
     tie.close
-    (tie.spec
-    mul-x
-    add-x
-    u16-at-requires
-    add-u16-at
-    u16-at-requires-2
-    put-text-requires
-    same-length
-    returns)
+    (tie.spec mul-x add-x u16-at-requires add-u16-at u16-at-requires-2 put-text-requires (λ c. search needs) returns)

@@ -9,20 +9,11 @@ use Rattle.outline.proofs.texts.put_text.Tie as tie
 spot-at-requires : tie.Need-spot-at-requires
 spot-at-requires c κs = let p = c .before .before .pre in (p .mapped, p .sampled, small-element p)
 
-enum-known-q : tie.Need-enum-known-q
-enum-known-q c = search needs
-
-enum-told : tie.Need-enum-told
-enum-told c = search needs
-
 returns : tie.Need-returns
 returns c = absurd (never-lost (c .before .before .before .before .before .pre) (c .before .before .spot-at .ensures) (c .enum-told .given .1))
 
 put-chars-requires : tie.Need-put-chars-requires
 put-chars-requires c κs = found-at (c .before .before .before .before .before .before .before .pre) (c .before .before .before .before .spot-at .ensures) (c .before .before .q .given .1) .0
-
-same-length : tie.Need-same-length
-same-length c = search needs
 
 returns-2 : tie.Need-returns-2
 returns-2 c = put-same (ap escaped (found-at (c .before .before .before .before .before .before .before .before .before .before .pre) (c .before .before .before .before .before .before .before .spot-at .ensures) (c .before .before .before .before .before .q .given .1) .1)) (c .before .before .put-chars .ensures)
@@ -30,11 +21,4 @@ returns-2 c = put-same (ap escaped (found-at (c .before .before .before .before 
 pub put-text-spec : {M : Type 1} → statement M
 put-text-spec =
     tie.close
-    (tie.spec
-    spot-at-requires
-    enum-known-q
-    enum-told
-    returns
-    put-chars-requires
-    same-length
-    returns-2)
+    (tie.spec spot-at-requires (λ c. search needs) (λ c. search needs) returns put-chars-requires (λ c. search needs) returns-2)

@@ -31,37 +31,13 @@ there c =
     let l = c .before .loop in
     omega (arith, attribute-ready (l .inv .0) (l .i) (omega arith) (p .1) .fits, p .0 .rules .laid .small)
 
-add-u16-at : tie.Need-add-u16-at Inv-loop μ-loop
-add-u16-at c = search needs
-
-u16-at-requires : tie.Need-u16-at-requires Inv-loop μ-loop
-u16-at-requires c κs = search needs
-
 returns : tie.Need-returns Inv-loop μ-loop
 returns c =
     let p = c .before .before .before .before .pre in
     put-same (sym (ranged-none _ 0 _ (sym (attributes-count (p .0) (p .1) (c .before .u16-at .ensures .0)) ∙ c .if1 .taken))) (put-none _ _ (omega arith))
 
-add-u16-at-2 : tie.Need-add-u16-at-2 Inv-loop μ-loop
-add-u16-at-2 c = search needs
-
-u16-at-requires-2 : tie.Need-u16-at-requires-2 Inv-loop μ-loop
-u16-at-requires-2 c κs = search needs
-
-add-u16-at-3 : tie.Need-add-u16-at-3 Inv-loop μ-loop
-add-u16-at-3 c = search needs
-
-u16-at-requires-3 : tie.Need-u16-at-requires-3 Inv-loop μ-loop
-u16-at-requires-3 c κs = search needs
-
 range-at-requires : tie.Need-range-at-requires Inv-loop μ-loop
 range-at-requires c κs = let p = c .before .before .before .before .before .before .pre in (regions (p .0), (c .u16-at3 .ensures .1, c .before .before .before .u16-at .ensures .1))
-
-enum-known-q : tie.Need-enum-known-q Inv-loop μ-loop
-enum-known-q c = search needs
-
-enum-told : tie.Need-enum-told Inv-loop μ-loop
-enum-told c = search needs
 
 returns-2 : tie.Need-returns-2 Inv-loop μ-loop
 returns-2 c = let p = c .before .before .before .before .before .before .before .before .before .pre in absurd (attributes-lost (p .0) (p .1) (c .before .before .before .before .before .before .u16-at .ensures .0) (c .before .before .before .before .u16-at2 .ensures .0) (c .before .before .before .u16-at3 .ensures .0) (c .before .before .range-at .ensures) (c .before .before .before .before .before .if1 .left) (c .enum-told .given .1))
@@ -84,12 +60,6 @@ put-attribute-requires c κs =
     let l = c .before .before .loop in
     (p .0 .rules, p .0 .placed, p .0 .values, p .0 .names, attribute-ready (l .inv .0) (l .i) (omega arith) (p .1))
 
-add-i : tie.Need-add-i Inv-loop μ-loop
-add-i c = search needs
-
-loop-less : tie.Need-loop-less Inv-loop μ-loop
-loop-less c = search needs
-
 loop-again : tie.Need-loop-again Inv-loop μ-loop
 loop-again c =
     let l = c .before .before .before .before .before .loop in
@@ -104,26 +74,6 @@ returns-3 c = left-end (c .before .loop .inv .1 .1) (ranged-past _ 0 _ (c .befor
 pub put-attributes-spec : {M : Type 1} → statement M
 put-attributes-spec =
     tie.close
-    (tie.spec
-    Inv-loop
-    μ-loop
-    add-u16-at
-    u16-at-requires
-    returns
-    add-u16-at-2
-    u16-at-requires-2
-    add-u16-at-3
-    u16-at-requires-3
-    range-at-requires
-    enum-known-q
-    enum-told
-    returns-2
-    loop-holds
-    mul-put-attribute
-    add-put-attribute
-    put-attribute-requires
-    add-i
-    loop-less
-    loop-again
-    same-length
-    returns-3)
+    (tie.spec Inv-loop μ-loop (λ c. search needs) (λ c κs. search needs) returns (λ c. search needs) (λ c κs. search needs)
+    (λ c. search needs) (λ c κs. search needs) range-at-requires (λ c. search needs) (λ c. search needs) returns-2 loop-holds
+    mul-put-attribute add-put-attribute put-attribute-requires (λ c. search needs) (λ c. search needs) loop-again same-length returns-3)

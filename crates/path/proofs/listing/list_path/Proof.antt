@@ -1,6 +1,7 @@
 use native.Mathlib.Omega.{arith}
 use borrow.Author.Needs.{needs}
 use mathlib.Core.Path.{_≡_, sym, ap, _∙_}
+use native.Mathlib.Nat.{zero-add}
 use borrow.Author.Tests.{not-true, not-false}
 use lib.ListN.{length}
 use Rattle.verdict.proofs.Laws.{Clean}
@@ -25,17 +26,8 @@ found : (c : tie.Else1)
     matchesAt (treeOf (a .b .now)) (indicesFrom (w .indices) (w .count) 0) 0 ≡ pathMatches (a .b .now) (a .path .now)
 found c = matches-known _ _ (c .before .before .before .before .before .before .before .before .before .before .pre .4) _ (c .before .before .find-names .ensures) (not-false _ (c .if1 .left))
 
-check-path-requires : tie.Need-check-path-requires
-check-path-requires c κs = search needs
-
-enum-known-c : tie.Need-enum-known-c
-enum-known-c c = search needs
-
 returns : tie.Need-returns
 returns c = path-refused _ _ _ (sym (c .before .before .before .check-path .ensures) ∙ c .before .c .given .1)
-
-enum-told : tie.Need-enum-told
-enum-told c = search needs
 
 find-names-requires : tie.Need-find-names-requires
 find-names-requires c κs = let s = c .before .before .before .before .before .before .before in (s .pre .0, s .pre .1, s .pre .2, strings-iff _ .1 (s .pre .4 .name-table), formed c)
@@ -48,46 +40,33 @@ add-root c =
     let g = c .before .before .before .before .before .before .before .before .before .before .before .before .pre .3 in
     record { fits = omega (arith, g .nodes .short, g .nodes .at-is, g .laid .nodes .head) }
 
-count-below-requires : tie.Need-count-below-requires
-count-below-requires c κs =
-    let s = c .before .before .before .before .before .before .before .before .before .before .before .before .before in
-    let w = c .before .before .before .before .before .find-names .ensures in (
+list-below-requires : tie.Need-list-below-requires
+list-below-requires c κs =
+    let s = c .before .before .before .before .before .before .before .before .before .before .before .before .before .before in
+    let w = c .before .before .before .before .before .before .find-names .ensures in (
       (s .pre .3, s .pre .4 .nodes .root, root-place (s .pre .3)),
-      (w .long, omega arith, w .few, omega (arith, ap length (found (c .before .before .before)), few _ (s .pre .4) (s .args .path .now))),
+      (w .long, omega arith, w .few, omega (arith, ap length (found (c .before .before .before .before)), few _ (s .pre .4) (s .args .path .now))),
     )
+
+-- the number of matches
+counted : (c : tie.After-none2) → c .before .list-below .result ≡ length (pathMatches (c .before .before .before .before .before .before .before .before .before .before .before .before .before .before .before .before .args .b .now) (c .before .before .before .before .before .before .before .before .before .before .before .before .before .before .before .before .args .path .now))
+counted c = c .before .list-below .ensures .next-is ∙ zero-add _ ∙ ap length (found (c .before .before .before .before .before .before))
 
 returns-3 : tie.Need-returns-3
-returns-3 c = too-many _ _ _ (formed (c .before .before .before .before .before .before .before .before)) _ (c .before .count-below .ensures ∙ ap length (found (c .before .before .before .before .before))) (c .if2 .taken)
+returns-3 c = too-many _ _ _ (formed (c .before .before .before .before .before .before .before .before .before .before)) _ (counted (c .before)) (c .if2 .taken)
 
-write-below-requires : tie.Need-write-below-requires
-write-below-requires c κs =
-    let s = c .before .before .before .before .before .before .before .before .before .before .before .before .before .before .before .before .before in
-    let w = c .before .before .before .before .before .before .before .before .before .find-names .ensures in (
-      (s .pre .3, s .pre .4 .nodes .root, root-place (s .pre .3)),
-      (w .long, omega arith, w .few, omega (arith, c .before .before .if2 .left, c .before .before .before .count-below .ensures)),
-    )
-
-same-length : tie.Need-same-length
-same-length c = search needs
+list-below-requires-2 : tie.Need-list-below-requires-2
+list-below-requires-2 c κs = list-below-requires (c .before .before .before .before .before) κs
 
 returns-4 : tie.Need-returns-4
 returns-4 c =
-    let w = c .before .before .write-below .ensures in
-    all-listed _ _ _ (formed (c .before .before .before .before .before .before .before .before .before .before .before .before .before)) _ _ _ (found (c .before .before .before .before .before .before .before .before .before .before)) (omega (arith, c .before .before .before .before .before .if2 .left, c .before .before .before .before .before .before .count-below .ensures)) (w .0) (w .1)
+    let w = c .before .before .list-below2 .ensures in
+    let l = found (c .before .before .before .before .before .before .before .before .before .before .before .before) in
+    let h = counted (c .before .before .before .before .before .before) in
+    all-listed _ _ _ (formed (c .before .before .before .before .before .before .before .before .before .before .before .before .before .before .before)) _ _ _ l (omega (arith, c .before .before .before .before .before .if2 .left, h, ap length l)) (w .next-is) (w .bytes-are (omega (arith, c .before .before .before .before .before .if2 .left, h, ap length l, w .next-is)))
 
 pub list-path-spec : {M : Type 1} → statement M
 list-path-spec =
     tie.close
-    (tie.spec
-    check-path-requires
-    enum-known-c
-    returns
-    enum-told
-    find-names-requires
-    returns-2
-    add-root
-    count-below-requires
-    returns-3
-    write-below-requires
-    same-length
-    returns-4)
+    (tie.spec (λ c κs. search needs) (λ c. search needs) returns (λ c. search needs) find-names-requires returns-2 add-root
+    (λ c. search needs) list-below-requires returns-3 list-below-requires-2 (λ c. search needs) returns-4)

@@ -8,12 +8,6 @@ use Rattle.path.proofs.names.check_path.Tie as tie
 returns : tie.Need-returns
 returns c = sym (path-odd _ (c .if1 .taken))
 
-sub-u16-at : tie.Need-sub-u16-at
-sub-u16-at c = search needs
-
-u16-at-requires : tie.Need-u16-at-requires
-u16-at-requires c κs = search needs
-
 returns-2 : tie.Need-returns-2
 returns-2 c = sym (path-open _ (c .before .before .before .if1 .left) (c .before .before .if2 .taken) (λ z. c .if3 .taken (c .before .u16-at .ensures .0 ∙ z)))
 
@@ -25,4 +19,4 @@ returns-4 c = sym (path-formed _ (c .before .if1 .left) (inl (c .if2 .left)))
 
 pub check-path-spec : {M : Type 1} → statement M
 check-path-spec =
-    tie.close (tie.spec returns sub-u16-at u16-at-requires returns-2 returns-3 returns-4)
+    tie.close (tie.spec returns (λ c. search needs) (λ c κs. search needs) returns-2 returns-3 returns-4)

@@ -43,20 +43,11 @@ find-name-requires c κs =
     let e = c .name-end .ensures in
     (s .pre .0, s .pre .1, subst (λ (t : Table). Clean (stringChecks t)) (sym (s .pre .2)) (s .pre .3), omega (arith, e .from, e .within))
 
-enum-known-i : tie.Need-enum-known-i Inv-loop μ-loop
-enum-known-i c = search needs
-
 cast-indices : tie.Need-cast-indices Inv-loop μ-loop
 cast-indices c = let s = c .before .before .before .before .before .before .before .before .before .before .before in record { fits = index-low _ _ _ _ (s .pre .2) (s .pre .1 .laid) (bears c) }
 
-mul-indices : tie.Need-mul-indices Inv-loop μ-loop
-mul-indices c = search needs
-
 array-write-indices : tie.Need-array-write-indices Inv-loop μ-loop
 array-write-indices c = omega (arith, c .before .before .before .before .before .before .before .loop .inv .1 .few)
-
-enum-told : tie.Need-enum-told Inv-loop μ-loop
-enum-told c = search needs
 
 add-n : tie.Need-add-n Inv-loop μ-loop
 add-n c = record { fits = omega (arith, c .before .before .before .before .before .before .before .loop .inv .1 .few) }
@@ -87,22 +78,5 @@ returns-3 c =
 pub find-names-spec : {M : Type 1} → statement M
 find-names-spec =
     tie.close
-    (tie.spec
-    Inv-loop
-    μ-loop
-    loop-holds
-    name-end-requires
-    sub-find-name
-    find-name-requires
-    enum-known-i
-    cast-indices
-    mul-indices
-    array-write-indices
-    enum-told
-    add-n
-    add-at
-    loop-less
-    loop-again
-    returns
-    returns-2
-    returns-3)
+    (tie.spec Inv-loop μ-loop loop-holds name-end-requires sub-find-name find-name-requires (λ c. search needs) cast-indices
+    (λ c. search needs) array-write-indices (λ c. search needs) add-n add-at loop-less loop-again returns returns-2 returns-3)

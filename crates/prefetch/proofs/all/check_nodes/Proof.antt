@@ -9,11 +9,5 @@ texts-right-requires c κs = let s = c .before .before .before in
     let y = s .pre .1 in
     (s .pre .0, y .strings, y .table, y .accepted, y .placed .attributes)
 
-check-nodes-requires : tie.Need-check-nodes-requires
-check-nodes-requires c κs = search needs
-
-returns : tie.Need-returns
-returns c = search needs
-
 pub check-nodes-spec : {M : Type 1} → statement M
-check-nodes-spec = tie.close (tie.spec texts-right-requires check-nodes-requires returns)
+check-nodes-spec = tie.close (tie.spec texts-right-requires (λ c κs. search needs) (λ c. search needs))

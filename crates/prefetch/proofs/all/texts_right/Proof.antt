@@ -80,12 +80,6 @@ mul-at c = record { fits = omega (arith, turn (c .before .before .before .before
 add-at-3 : tie.Need-add-at-3 Inv-loop2 μ-loop2 Inv-loop μ-loop
 add-at-3 c = record { fits = omega (arith, turn (c .before .before .before .before), c .u32-at2 .ensures .0) }
 
-add-seg : tie.Need-add-seg Inv-loop2 μ-loop2 Inv-loop μ-loop
-add-seg c = search needs
-
-loop-less : tie.Need-loop-less Inv-loop2 μ-loop2 Inv-loop μ-loop
-loop-less c = search needs
-
 loop-again : tie.Need-loop-again Inv-loop2 μ-loop2 Inv-loop μ-loop
 loop-again c = let i = c .before .before .before .before .before .before .loop .inv in
     let j = c .before .before .loop2 .inv in
@@ -97,27 +91,6 @@ returns-2 c = λ z. rows-all _ _ (c .before .before .loop .inv .3) (omega (arith
 pub texts-right-spec : {M : Type 1} → statement M
 texts-right-spec =
     tie.close
-    (tie.spec
-    Inv-loop2
-    μ-loop2
-    Inv-loop
-    μ-loop
-    add-at
-    loop-holds
-    add-u32-at
-    u32-at-requires
-    loop2-holds
-    add-take
-    take-requires
-    batch-right-requires
-    returns
-    loop2-less
-    loop2-again
-    add-at-2
-    u32-at-requires-2
-    mul-at
-    add-at-3
-    add-seg
-    loop-less
-    loop-again
-    returns-2)
+    (tie.spec Inv-loop2 μ-loop2 Inv-loop μ-loop add-at loop-holds add-u32-at u32-at-requires loop2-holds add-take take-requires
+    batch-right-requires returns loop2-less loop2-again add-at-2 u32-at-requires-2 mul-at add-at-3 (λ c. search needs) (λ c. search needs)
+    loop-again returns-2)

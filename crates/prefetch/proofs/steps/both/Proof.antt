@@ -7,11 +7,5 @@ use Rattle.prefetch.proofs.steps.both.Tie as tie
 returns : tie.Need-returns
 returns c = none-hashed _ _ _ (sym (c .before .before .pre .3) ∙ c .if1 .taken)
 
-both-hashes-requires : tie.Need-both-hashes-requires
-both-hashes-requires c κs = search needs
-
-returns-2 : tie.Need-returns-2
-returns-2 c = search needs
-
 pub both-spec : {M : Type 1} → statement M
-both-spec = tie.close (tie.spec returns both-hashes-requires returns-2)
+both-spec = tie.close (tie.spec returns (λ c κs. search needs) (λ c. search needs))

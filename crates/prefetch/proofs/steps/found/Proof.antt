@@ -1,45 +1,20 @@
 use Rattle.prefetch.proofs.Rights.{entry-in}
+use mathlib.Core.Path.{refl}
+use native.Mathlib.Omega.{arith}
 use borrow.Author.Needs.{needs}
 use Rattle.prefetch.proofs.steps.found.Statement.{statement}
 use Rattle.prefetch.proofs.steps.found.Tie as tie
 
-add-u16-at : tie.Need-add-u16-at
-add-u16-at c = search needs
-
-u16-at-requires : tie.Need-u16-at-requires
-u16-at-requires c κs = search needs
-
-add-u16-at-2 : tie.Need-add-u16-at-2
-add-u16-at-2 c = search needs
-
-u16-at-requires-2 : tie.Need-u16-at-requires-2
-u16-at-requires-2 c κs = search needs
-
-bucket-requires : tie.Need-bucket-requires
-bucket-requires c κs = search needs
-
-near-requires : tie.Need-near-requires
-near-requires c κs = search needs
+run-has-requires : tie.Need-run-has-requires
+run-has-requires c κs =
+    let p = c .before .before .before .before .pre in
+    (p .0, c .before .bucket .ensures .1, p .1, rw (c .before .bucket .ensures .0) (p .2), omega arith)
 
 returns : tie.Need-returns
-returns c = λ z. entry-in _ _ _ _ _ _ (c .before .before .bucket .ensures .1) (c .before .before .before .before .u16-at .ensures .0) (c .before .before .before .u16-at2 .ensures .0) (c .before .near .ensures (c .if1 .taken))
-
-address-in-requires : tie.Need-address-in-requires
-address-in-requires c κs = search needs
-
-returns-2 : tie.Need-returns-2
-returns-2 c = λ z. entry-in _ _ _ _ _ _ (c .before .before .before .bucket .ensures .1) (c .before .before .before .before .before .u16-at .ensures .0) (c .before .before .before .before .u16-at2 .ensures .0) (c .address-in .ensures .so z)
+returns c =
+    let p = c .before .before .before .before .before .pre in
+    λ z. entry-in _ (λ i. omega (arith, c .before .before .before .before .shared-slice-known .given i)) _ _ refl _ _ (c .before .before .bucket .ensures .1) (c .before .u32-at .ensures .0) (c .run-has .ensures .so z)
 
 pub found-spec : {M : Type 1} → statement M
 found-spec =
-    tie.close
-    (tie.spec
-    add-u16-at
-    u16-at-requires
-    add-u16-at-2
-    u16-at-requires-2
-    bucket-requires
-    near-requires
-    returns
-    address-in-requires
-    returns-2)
+    tie.close (tie.spec (λ c κs. search needs) (λ c. search needs) (λ c κs. search needs) run-has-requires returns)

@@ -6,23 +6,11 @@ use Rattle.print.proofs.Puts.{sat-le, sat-ge, overlay-one, overlay-past
 use Rattle.print.proofs.bytes.put.Statement.{statement}
 use Rattle.print.proofs.bytes.put.Tie as tie
 
-slice-write-out : tie.Need-slice-write-out
-slice-write-out c = search needs
-
-add-result : tie.Need-add-result
-add-result c = search needs
-
-same-length : tie.Need-same-length
-same-length c = search needs
-
 returns : tie.Need-returns
 returns c = record {
   next-is = sym (sat-le _ (omega arith));
   bytes-are = overlay-one (c .before .args .out .now) (c .before .args .at) (c .before .args .c) (c .if1 .taken);
 }
-
-add-result-2 : tie.Need-add-result-2
-add-result-2 c = search needs
 
 returns-2 : tie.Need-returns-2
 returns-2 c = record {
@@ -39,4 +27,4 @@ returns-3 c = record {
 pub put-spec : {M : Type 1} → statement M
 put-spec =
     tie.close
-    (tie.spec slice-write-out add-result same-length returns add-result-2 returns-2 returns-3)
+    (tie.spec (λ c. search needs) (λ c. search needs) (λ c. search needs) returns (λ c. search needs) returns-2 returns-3)

@@ -4,18 +4,6 @@ use borrow.Author.Needs.{needs}
 use Rattle.print.proofs.numbers.hex_digit.Statement.{statement}
 use Rattle.print.proofs.numbers.hex_digit.Tie as tie
 
-mul-d : tie.Need-mul-d
-mul-d c = search needs
-
-shr-d : tie.Need-shr-d
-shr-d c = search needs
-
-add-result : tie.Need-add-result
-add-result c = search needs
-
-cast-result : tie.Need-cast-result
-cast-result c = search needs
-
 returns : tie.Need-returns
 returns c = digit-low (c .before .args .x) (c .before .args .i) (c .if1 .taken)
 
@@ -31,4 +19,4 @@ returns-2 c = digit-high (c .before .args .x) (c .before .args .i) (c .if1 .left
 pub hex-digit-spec : {M : Type 1} → statement M
 hex-digit-spec =
     tie.close
-    (tie.spec mul-d shr-d add-result cast-result returns add-result-2 cast-result-2 returns-2)
+    (tie.spec (λ c. search needs) (λ c. search needs) (λ c. search needs) (λ c. search needs) returns add-result-2 cast-result-2 returns-2)

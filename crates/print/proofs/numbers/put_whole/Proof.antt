@@ -10,32 +10,11 @@ use borrow.Author.Needs.{needs}
 use Rattle.print.proofs.numbers.put_whole.Statement.{statement}
 use Rattle.print.proofs.numbers.put_whole.Tie as tie
 
-upward-requires : tie.Need-upward-requires
-upward-requires c κs = search needs
-
-put-decimal-requires : tie.Need-put-decimal-requires
-put-decimal-requires c κs = search needs
-
-same-length : tie.Need-same-length
-same-length c = search needs
-
 returns : tie.Need-returns
 returns c = put-same (whole-up (c .before .before .before .upward .result) (c .before .before .before .before .before .before .before .args .z) (c .before .before .before .upward .ensures ∙ toZ-ofZ (c .before .before .before .before .before .before .before .fits .z))) (c .before .before .put-decimal .ensures)
 
-put-requires : tie.Need-put-requires
-put-requires c κs = search needs
-
 downward-requires : tie.Need-downward-requires
 downward-requires c κs = not-up (toZ w32 (ofZ w32 (c .before .before .before .before .before .before .before .args .z))) (c .before .before .before .before .before .if1 .left)
-
-add-put-decimal : tie.Need-add-put-decimal
-add-put-decimal c = search needs
-
-put-decimal-requires-2 : tie.Need-put-decimal-requires-2
-put-decimal-requires-2 c κs = search needs
-
-same-length-2 : tie.Need-same-length-2
-same-length-2 c = search needs
 
 returns-2 : tie.Need-returns-2
 returns-2 c =
@@ -45,14 +24,5 @@ returns-2 c =
 pub put-whole-spec : {M : Type 1} → statement M
 put-whole-spec =
     tie.close
-    (tie.spec
-    upward-requires
-    put-decimal-requires
-    same-length
-    returns
-    put-requires
-    downward-requires
-    add-put-decimal
-    put-decimal-requires-2
-    same-length-2
-    returns-2)
+    (tie.spec (λ c κs. search needs) (λ c κs. search needs) (λ c. search needs) returns (λ c κs. search needs) downward-requires
+    (λ c. search needs) (λ c κs. search needs) (λ c. search needs) returns-2)

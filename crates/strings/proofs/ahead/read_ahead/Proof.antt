@@ -18,49 +18,13 @@ Inv-loop b s samples starts k n j at₀ left₀ seen₀ listed₀ m i₀ at left
 abbrev μ-loop : tie.MeasureT-loop
 μ-loop b s samples starts k n j at₀ left₀ seen₀ listed₀ m i₀ at left seen listed i = m - i
 
-sub-at-most-16 : tie.Need-sub-at-most-16 Inv-loop μ-loop
-sub-at-most-16 c = search needs
-
-at-most-16-requires : tie.Need-at-most-16-requires Inv-loop μ-loop
-at-most-16-requires c κs = search needs
-
 loop-holds : tie.Need-loop-holds Inv-loop μ-loop
 loop-holds c = (search needs, refl, refl, refl, refl, below-none _)
-
-add-glance-at : tie.Need-add-glance-at Inv-loop μ-loop
-add-glance-at c = search needs
 
 glance-at-requires : tie.Need-glance-at-requires Inv-loop μ-loop
 glance-at-requires c κs =
     let p = c .before .before .before .before .before .pre in
     (p .0, here-in _ _ _ _ (p .1) (p .2) (omega (arith, c .before .before .at-most-16 .ensures .0)))
-
-mul-at : tie.Need-mul-at Inv-loop μ-loop
-mul-at c = search needs
-
-array-write-at : tie.Need-array-write-at Inv-loop μ-loop
-array-write-at c = search needs
-
-mul-left : tie.Need-mul-left Inv-loop μ-loop
-mul-left c = search needs
-
-array-write-left : tie.Need-array-write-left Inv-loop μ-loop
-array-write-left c = search needs
-
-mul-seen : tie.Need-mul-seen Inv-loop μ-loop
-mul-seen c = search needs
-
-array-write-seen : tie.Need-array-write-seen Inv-loop μ-loop
-array-write-seen c = search needs
-
-array-write-listed : tie.Need-array-write-listed Inv-loop μ-loop
-array-write-listed c = search needs
-
-add-i : tie.Need-add-i Inv-loop μ-loop
-add-i c = search needs
-
-loop-less : tie.Need-loop-less Inv-loop μ-loop
-loop-less c = search needs
 
 loop-again : tie.Need-loop-again Inv-loop μ-loop
 loop-again c =
@@ -82,22 +46,6 @@ returns c =
 pub read-ahead-spec : {M : Type 1} → statement M
 read-ahead-spec =
     tie.close
-    (tie.spec
-    Inv-loop
-    μ-loop
-    sub-at-most-16
-    at-most-16-requires
-    loop-holds
-    add-glance-at
-    glance-at-requires
-    mul-at
-    array-write-at
-    mul-left
-    array-write-left
-    mul-seen
-    array-write-seen
-    array-write-listed
-    add-i
-    loop-less
-    loop-again
-    returns)
+    (tie.spec Inv-loop μ-loop (λ c. search needs) (λ c κs. search needs) loop-holds (λ c. search needs) glance-at-requires
+    (λ c. search needs) (λ c. search needs) (λ c. search needs) (λ c. search needs) (λ c. search needs) (λ c. search needs)
+    (λ c. search needs) (λ c. search needs) (λ c. search needs) loop-again returns)

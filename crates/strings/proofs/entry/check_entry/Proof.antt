@@ -7,9 +7,6 @@ use Rattle.strings.proofs.Places.{length-at, hash-at}
 use Rattle.strings.proofs.entry.check_entry.Statement.{statement}
 use Rattle.strings.proofs.entry.check_entry.Tie as tie
 
-entry-at-requires : tie.Need-entry-at-requires
-entry-at-requires c κs = search needs
-
 returns : tie.Need-returns
 returns c = refused-7 _ _ _ _ (c .before .before .entry-at .ensures .0) (c .before .before .before .before .before .pre .4 .nowhere (c .if1 .taken))
 
@@ -24,12 +21,6 @@ returns-2 c =
     refused-8 _ _ _ _ (c .before .before .before .before .before .entry-at .ensures .0) (w .resolved)
     (not-ended _ _ _ _ _ _ (c .before .before .measure-seen .ensures) w (not-true _ (c .if2 .taken)))
 
-add-u32-at : tie.Need-add-u32-at
-add-u32-at c = search needs
-
-u32-at-requires : tie.Need-u32-at-requires
-u32-at-requires c κs = search needs
-
 add-if3 : tie.Need-add-if3
 add-if3 c =
     let w = glanced-spot _ _ _ _ _ _ _ (c .before .before .before .before .before .before .before .before .before .before .pre .1 .laid .characters) (c .before .before .before .before .before .before .before .before .before .before .pre .4) (omega (arith, c .before .before .before .before .before .if1 .left)) in
@@ -41,9 +32,6 @@ returns-3 c =
     let q = c .before .before .before .before .before .before .before .before .entry-at .ensures .0 in
     refused-8 _ _ _ _ q (w .resolved)
     (not-long _ _ _ _ _ _ (c .before .before .before .before .before .measure-seen .ensures) w _ (length-at _ _ _ _ _ q (c .before .before .u32-at .ensures .0)) (c .if3 .taken))
-
-u32-at-requires-2 : tie.Need-u32-at-requires-2
-u32-at-requires-2 c κs = search needs
 
 returns-4 : tie.Need-returns-4
 returns-4 c =
@@ -64,22 +52,8 @@ check-order-requires c κs =
     (c .before .before .before .if3 .left) _ (hash-at _ _ _ _ _ q (c .before .before .u32-at2 .ensures .0)) (c .if4 .left) in
     (p .1, p .2, p .3, r, p .4 .listed)
 
-returns-5 : tie.Need-returns-5
-returns-5 c = search needs
-
 pub check-entry-spec : {M : Type 1} → statement M
 check-entry-spec =
     tie.close
-    (tie.spec
-    entry-at-requires
-    returns
-    measure-seen-requires
-    returns-2
-    add-u32-at
-    u32-at-requires
-    add-if3
-    returns-3
-    u32-at-requires-2
-    returns-4
-    check-order-requires
-    returns-5)
+    (tie.spec (λ c κs. search needs) returns measure-seen-requires returns-2 (λ c. search needs) (λ c κs. search needs) add-if3 returns-3
+    (λ c κs. search needs) returns-4 check-order-requires (λ c. search needs))

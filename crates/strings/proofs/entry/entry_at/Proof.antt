@@ -4,18 +4,6 @@ use Rattle.strings.proofs.Places.{entry-is, inside}
 use Rattle.strings.proofs.entry.entry_at.Statement.{statement}
 use Rattle.strings.proofs.entry.entry_at.Tie as tie
 
-mul-wide : tie.Need-mul-wide
-mul-wide c = search needs
-
-shared-slice-read-wide : tie.Need-shared-slice-read-wide
-shared-slice-read-wide c = search needs
-
-wide-requires : tie.Need-wide-requires
-wide-requires c κs = search needs
-
-add-result : tie.Need-add-result
-add-result c = search needs
-
 mul-result : tie.Need-mul-result
 mul-result c = omega (arith, inside _ _ _ _ (c .before .before .before .before .pre .0) _ _ (c .before .before .before .before .pre .1))
 
@@ -28,11 +16,4 @@ returns c = let p = c .before .before .before .before .pre in (entry-is _ _ _ _ 
 pub entry-at-spec : {M : Type 1} → statement M
 entry-at-spec =
     tie.close
-    (tie.spec
-    mul-wide
-    shared-slice-read-wide
-    wide-requires
-    add-result
-    mul-result
-    add-result-2
-    returns)
+    (tie.spec (λ c. search needs) (λ c. search needs) (λ c κs. search needs) (λ c. search needs) mul-result add-result-2 returns)

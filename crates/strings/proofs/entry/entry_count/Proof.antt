@@ -4,15 +4,6 @@ use Rattle.strings.proofs.Places.{count-in, count-is}
 use Rattle.strings.proofs.entry.entry_count.Statement.{statement}
 use Rattle.strings.proofs.entry.entry_count.Tie as tie
 
-mul-wide : tie.Need-mul-wide
-mul-wide c = search needs
-
-shared-slice-read-wide : tie.Need-shared-slice-read-wide
-shared-slice-read-wide c = search needs
-
-wide-requires : tie.Need-wide-requires
-wide-requires c κs = search needs
-
 u32-at-requires : tie.Need-u32-at-requires
 u32-at-requires c κs = omega (arith, count-in _ _ _ _ (c .before .before .before .before .pre .0) _ (c .before .before .before .before .pre .1))
 
@@ -21,4 +12,4 @@ returns c = count-is _ _ _ _ (c .before .before .before .before .before .pre .0)
 
 pub entry-count-spec : {M : Type 1} → statement M
 entry-count-spec =
-    tie.close (tie.spec mul-wide shared-slice-read-wide wide-requires u32-at-requires returns)
+    tie.close (tie.spec (λ c. search needs) (λ c. search needs) (λ c κs. search needs) u32-at-requires returns)

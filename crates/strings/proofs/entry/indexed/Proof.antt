@@ -5,56 +5,23 @@ use Rattle.strings.proofs.Places.{index-at, segment-at, element-at, lis
 use Rattle.strings.proofs.entry.indexed.Statement.{statement}
 use Rattle.strings.proofs.entry.indexed.Tie as tie
 
-entry-at-requires : tie.Need-entry-at-requires
-entry-at-requires c κs = search needs
-
-add-u32-at : tie.Need-add-u32-at
-add-u32-at c = search needs
-
-u32-at-requires : tie.Need-u32-at-requires
-u32-at-requires c κs = search needs
-
 returns : tie.Need-returns
 returns c = indexed-zero _ _ _ _ (index-at _ _ _ _ _ (c .before .before .entry-at .ensures .0) (c .before .u32-at .ensures .0)) (c .if1 .taken)
-
-u32-at-requires-2 : tie.Need-u32-at-requires-2
-u32-at-requires-2 c κs = search needs
 
 returns-2 : tie.Need-returns-2
 returns-2 c = indexed-high _ _ _ _ (index-at _ _ _ _ _ (c .before .before .before .before .entry-at .ensures .0) (c .before .before .before .u32-at .ensures .0)) _
     (list-is _ _ _ _ (c .before .before .before .before .before .before .before .pre .0) _ (c .before .u32-at2 .ensures .0)) (c .if2 .taken)
 
-mul-p : tie.Need-mul-p
-mul-p c = search needs
-
-add-p : tie.Need-add-p
-add-p c = search needs
-
 u16-at-requires : tie.Need-u16-at-requires
 u16-at-requires c κs = omega (arith, position-in _ _ _ _ (c .before .before .before .before .before .before .before .before .pre .0) _ _ (c .before .before .u32-at2 .ensures .0) (c .before .if2 .left))
-
-add-u16-at : tie.Need-add-u16-at
-add-u16-at c = search needs
-
-u16-at-requires-2 : tie.Need-u16-at-requires-2
-u16-at-requires-2 c κs = search needs
 
 returns-3 : tie.Need-returns-3
 returns-3 c = let q = c .before .before .before .before .before .before .before .before .entry-at .ensures .0 in
     indexed-segment _ _ _ _ (index-at _ _ _ _ _ q (c .before .before .before .before .before .before .before .u32-at .ensures .0)) _ _
     (listed-segment-at _ _ _ _ (c .before .before .before .before .before .before .before .before .before .before .before .pre .0) _ _ (c .before .before .u16-at .ensures .0)) (segment-at _ _ _ _ _ q (c .before .u16-at2 .ensures .0)) (c .if3 .taken)
 
-add-u16-at-2 : tie.Need-add-u16-at-2
-add-u16-at-2 c = search needs
-
 u16-at-requires-3 : tie.Need-u16-at-requires-3
 u16-at-requires-3 c κs = omega (arith, position-in _ _ _ _ (c .before .before .before .before .before .before .before .before .before .before .before .pre .0) _ _ (c .before .before .before .before .before .u32-at2 .ensures .0) (c .before .before .before .before .if2 .left))
-
-add-u16-at-3 : tie.Need-add-u16-at-3
-add-u16-at-3 c = search needs
-
-u16-at-requires-4 : tie.Need-u16-at-requires-4
-u16-at-requires-4 c κs = search needs
 
 returns-4 : tie.Need-returns-4
 returns-4 c = let h = c .before .before .before .before .before .before .before .before .before .before .before .before .before .pre .0 in
@@ -67,21 +34,6 @@ returns-4 c = let h = c .before .before .before .before .before .before .before 
 pub indexed-spec : {M : Type 1} → statement M
 indexed-spec =
     tie.close
-    (tie.spec
-    entry-at-requires
-    add-u32-at
-    u32-at-requires
-    returns
-    u32-at-requires-2
-    returns-2
-    mul-p
-    add-p
-    u16-at-requires
-    add-u16-at
-    u16-at-requires-2
-    returns-3
-    add-u16-at-2
-    u16-at-requires-3
-    add-u16-at-3
-    u16-at-requires-4
-    returns-4)
+    (tie.spec (λ c κs. search needs) (λ c. search needs) (λ c κs. search needs) returns (λ c κs. search needs) returns-2
+    (λ c. search needs) (λ c. search needs) u16-at-requires (λ c. search needs) (λ c κs. search needs) returns-3 (λ c. search needs)
+    u16-at-requires-3 (λ c. search needs) (λ c κs. search needs) returns-4)

@@ -7,11 +7,5 @@ use Rattle.strings.proofs.entry.measure_seen.Tie as tie
 returns : tie.Need-returns
 returns c = let p = c .before .before .pre in empty-measured _ _ _ _ (p .1) (sym (p .3) ∙ c .if1 .taken) refl refl refl
 
-measure-requires : tie.Need-measure-requires
-measure-requires c κs = search needs
-
-returns-2 : tie.Need-returns-2
-returns-2 c = search needs
-
 pub measure-seen-spec : {M : Type 1} → statement M
-measure-seen-spec = tie.close (tie.spec returns measure-requires returns-2)
+measure-seen-spec = tie.close (tie.spec returns (λ c κs. search needs) (λ c. search needs))

@@ -4,15 +4,6 @@ use Rattle.strings.proofs.Places.{hash-at, before-in, before-is}
 use Rattle.strings.proofs.entry.placed.Statement.{statement}
 use Rattle.strings.proofs.entry.placed.Tie as tie
 
-entry-at-requires : tie.Need-entry-at-requires
-entry-at-requires c κs = search needs
-
-u32-at-requires : tie.Need-u32-at-requires
-u32-at-requires c κs = search needs
-
-bucket-requires : tie.Need-bucket-requires
-bucket-requires c κs = search needs
-
 returns : tie.Need-returns
 returns c = placed-elsewhere _ _ _ _ (hash-at _ _ _ _ _ (c .before .before .before .entry-at .ensures .0) (c .before .before .u32-at .ensures .0)) _ (c .before .bucket .ensures .0) (c .if1 .taken)
 
@@ -22,9 +13,6 @@ returns-2 c = placed-first _ _ _ _ (hash-at _ _ _ _ _ (c .before .before .before
 sub-u32-at : tie.Need-sub-u32-at
 sub-u32-at c = before-in _ _ _ _ (c .before .before .before .before .entry-at .ensures .0) (c .if2 .left)
 
-u32-at-requires-2 : tie.Need-u32-at-requires-2
-u32-at-requires-2 c κs = search needs
-
 returns-3 : tie.Need-returns-3
 returns-3 c = let q = c .before .before .before .before .before .entry-at .ensures .0 in
     placed-later _ _ _ _ (hash-at _ _ _ _ _ q (c .before .before .before .before .u32-at .ensures .0)) _ (c .before .before .before .bucket .ensures .0) (c .before .before .if1 .left) _
@@ -33,12 +21,5 @@ returns-3 c = let q = c .before .before .before .before .before .entry-at .ensur
 pub placed-spec : {M : Type 1} → statement M
 placed-spec =
     tie.close
-    (tie.spec
-    entry-at-requires
-    u32-at-requires
-    bucket-requires
-    returns
-    returns-2
-    sub-u32-at
-    u32-at-requires-2
+    (tie.spec (λ c κs. search needs) (λ c κs. search needs) (λ c κs. search needs) returns returns-2 sub-u32-at (λ c κs. search needs)
     returns-3)

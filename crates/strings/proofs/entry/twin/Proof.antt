@@ -14,23 +14,11 @@ Inv-loop b s samples starts k j e h i₀ i = (i ≤ j) × Alone (heldTable b s s
 abbrev μ-loop : tie.MeasureT-loop
 μ-loop b s samples starts k j e h i₀ i = i
 
-entry-at-requires : tie.Need-entry-at-requires Inv-loop μ-loop
-entry-at-requires c κs = search needs
-
-u32-at-requires : tie.Need-u32-at-requires Inv-loop μ-loop
-u32-at-requires c κs = search needs
-
 loop-holds : tie.Need-loop-holds Inv-loop μ-loop
 loop-holds c = (search needs, alone-start _ _ _)
 
-sub-entry-at : tie.Need-sub-entry-at Inv-loop μ-loop
-sub-entry-at c = search needs
-
 entry-at-requires-2 : tie.Need-entry-at-requires-2 Inv-loop μ-loop
 entry-at-requires-2 c κs = let p = c .before .before .before .before .before .before .pre in (p .0, earlier _ _ _ _ (p .1) (omega arith))
-
-u32-at-requires-2 : tie.Need-u32-at-requires-2 Inv-loop μ-loop
-u32-at-requires-2 c κs = search needs
 
 returns : tie.Need-returns Inv-loop μ-loop
 returns c = let l = c .before .before .before .before .loop .inv in
@@ -38,21 +26,12 @@ returns c = let l = c .before .before .before .before .loop .inv in
     (alone-over _ _ _ (c .before .before .before .before .before .before .before .before .before .pre .2) _ _ _ _ (omega arith) (l .0) (l .1) (hash-at _ _ _ _ _ (c .before .before .before .before .before .before .entry-at .ensures .0) (c .before .before .before .before .before .u32-at .ensures .0))
     (hash-at _ _ _ _ _ (c .before .before .entry-at2 .ensures .0) (c .before .u32-at2 .ensures .0)) (c .if1 .taken))
 
-sub-same-text : tie.Need-sub-same-text Inv-loop μ-loop
-sub-same-text c = search needs
-
 same-text-requires : tie.Need-same-text-requires Inv-loop μ-loop
 same-text-requires c κs = let p = c .before .before .before .before .before .before .before .before .before .pre in
     (p .0, earlier _ _ _ _ (p .1) (omega arith), p .2 .resolved _ (omega arith), p .1, p .2 .resolved _ (omega arith))
 
 returns-2 : tie.Need-returns-2 Inv-loop μ-loop
 returns-2 c = let l = c .before .before .before .before .before .before .loop .inv in tells-yes (twin-found _ _ _ _ _ (omega arith) (l .0) (c .before .same-text .ensures .so (c .if2 .taken)))
-
-sub-i : tie.Need-sub-i Inv-loop μ-loop
-sub-i c = search needs
-
-loop-less : tie.Need-loop-less Inv-loop μ-loop
-loop-less c = search needs
 
 loop-again : tie.Need-loop-again Inv-loop μ-loop
 loop-again c = let l = c .before .before .before .before .before .before .loop .inv in (omega arith, alone-more _ _ _ _ _ (omega arith) (l .1) (c .before .same-text .ensures .not (c .if2 .left)))
@@ -63,20 +42,6 @@ returns-3 c = tells-no (alone-none _ _ _ _ (omega arith) (c .before .loop .inv .
 pub twin-spec : {M : Type 1} → statement M
 twin-spec =
     tie.close
-    (tie.spec
-    Inv-loop
-    μ-loop
-    entry-at-requires
-    u32-at-requires
-    loop-holds
-    sub-entry-at
-    entry-at-requires-2
-    u32-at-requires-2
-    returns
-    sub-same-text
-    same-text-requires
-    returns-2
-    sub-i
-    loop-less
-    loop-again
+    (tie.spec Inv-loop μ-loop (λ c κs. search needs) (λ c κs. search needs) loop-holds (λ c. search needs) entry-at-requires-2
+    (λ c κs. search needs) returns (λ c. search needs) same-text-requires returns-2 (λ c. search needs) (λ c. search needs) loop-again
     returns-3)

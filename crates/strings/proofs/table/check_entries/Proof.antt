@@ -44,27 +44,6 @@ loop-holds c =
     let b = c .before .before .before .buckets .inv in
     (search needs, c .before .entry-count .ensures, b .1, b .2 ∙ left-open _ _ (c .before .before .buckets-test .taken), below-none _, near-first _ _ _ _ refl (c .read-ahead .ensures))
 
-mul-t19 : tie.Need-mul-t19 Inv-loop μ-loop Inv-buckets μ-buckets
-mul-t19 c = search needs
-
-element-copy-out-t22 : tie.Need-element-copy-out-t22 Inv-loop μ-loop Inv-buckets μ-buckets
-element-copy-out-t22 c = search needs
-
-mul-t23 : tie.Need-mul-t23 Inv-loop μ-loop Inv-buckets μ-buckets
-mul-t23 c = search needs
-
-element-copy-out-t26 : tie.Need-element-copy-out-t26 Inv-loop μ-loop Inv-buckets μ-buckets
-element-copy-out-t26 c = search needs
-
-mul-t27 : tie.Need-mul-t27 Inv-loop μ-loop Inv-buckets μ-buckets
-mul-t27 c = search needs
-
-element-copy-out-t30 : tie.Need-element-copy-out-t30 Inv-loop μ-loop Inv-buckets μ-buckets
-element-copy-out-t30 c = search needs
-
-element-copy-out-if1 : tie.Need-element-copy-out-if1 Inv-loop μ-loop Inv-buckets μ-buckets
-element-copy-out-if1 c = search needs
-
 check-entry-requires : tie.Need-check-entry-requires Inv-loop μ-loop Inv-buckets μ-buckets
 check-entry-requires c κs =
     let p = c .before .before .before .before .before .before .before .before .before .before .before .before .pre in
@@ -72,20 +51,8 @@ check-entry-requires c κs =
     let h = c .before .before .before .before .loop-test .taken in
     (p .0, p .1, here-in _ _ _ _ (c .before .before .before .before .before .before .before .before .buckets-test .taken) (l .1) h, l .4, near-at _ _ _ _ (l .5) (omega (arith, l .1, h)))
 
-enum-told : tie.Need-enum-told Inv-loop μ-loop Inv-buckets μ-buckets
-enum-told c = search needs
-
-enum-known-num : tie.Need-enum-known-num Inv-loop μ-loop Inv-buckets μ-buckets
-enum-known-num c = search needs
-
-add-j : tie.Need-add-j Inv-loop μ-loop Inv-buckets μ-buckets
-add-j c = search needs
-
 read-ahead-requires-2 : tie.Need-read-ahead-requires-2 Inv-loop μ-loop Inv-buckets μ-buckets
 read-ahead-requires-2 c κs = (c .before .before .before .before .before .before .before .before .before .before .before .before .before .before .before .before .pre .1, c .before .before .before .before .before .before .before .before .before .before .before .before .buckets-test .taken, c .before .before .before .before .before .before .before .before .before .loop .inv .1, omega (arith, c .before .before .before .before .before .before .before .before .loop-test .taken))
-
-loop-less : tie.Need-loop-less Inv-loop μ-loop Inv-buckets μ-buckets
-loop-less c = search needs
 
 loop-again : tie.Need-loop-again Inv-loop μ-loop Inv-buckets μ-buckets
 loop-again c =
@@ -93,20 +60,11 @@ loop-again c =
     let e = sym (c .before .before .before .before .check-entry .ensures) ∙ c .before .before .enum-told .given .1 in
     (omega arith, l .1, l .2, l .3 ∙ left-more _ _ _ (omega (arith, l .1)) e, below-more _ _ (l .4) e, near-first _ _ _ _ (c .before .if1 .taken) (c .read-ahead2 .ensures))
 
-loop-less-2 : tie.Need-loop-less-2 Inv-loop μ-loop Inv-buckets μ-buckets
-loop-less-2 c = search needs
-
 loop-again-2 : tie.Need-loop-again-2 Inv-loop μ-loop Inv-buckets μ-buckets
 loop-again-2 c =
     let l = c .before .before .before .before .before .before .before .before .before .loop .inv in
     let e = sym (c .before .before .before .check-entry .ensures) ∙ c .before .enum-told .given .1 in
     (omega arith, l .1, l .2, l .3 ∙ left-more _ _ _ (omega (arith, l .1)) e, below-more _ _ (l .4) e, near-next _ _ _ _ (c .if1 .left) (l .5))
-
-add-k : tie.Need-add-k Inv-loop μ-loop Inv-buckets μ-buckets
-add-k c = search needs
-
-buckets-less : tie.Need-buckets-less Inv-loop μ-loop Inv-buckets μ-buckets
-buckets-less c = search needs
 
 buckets-again : tie.Need-buckets-again Inv-loop μ-loop Inv-buckets μ-buckets
 buckets-again c = let l = c .before .loop .inv in (omega arith, l .2, l .3 ∙ left-next _ _ _ (omega (arith, l .1)))
@@ -122,33 +80,7 @@ returns-2 c =
 pub check-entries-spec : {M : Type 1} → statement M
 check-entries-spec =
     tie.close
-    (tie.spec
-    Inv-loop
-    μ-loop
-    Inv-buckets
-    μ-buckets
-    buckets-holds
-    entry-count-requires
-    read-ahead-requires
-    loop-holds
-    mul-t19
-    element-copy-out-t22
-    mul-t23
-    element-copy-out-t26
-    mul-t27
-    element-copy-out-t30
-    element-copy-out-if1
-    check-entry-requires
-    enum-told
-    enum-known-num
-    add-j
-    read-ahead-requires-2
-    loop-less
-    loop-again
-    loop-less-2
-    loop-again-2
-    add-k
-    buckets-less
-    buckets-again
-    returns
-    returns-2)
+    (tie.spec Inv-loop μ-loop Inv-buckets μ-buckets buckets-holds entry-count-requires read-ahead-requires loop-holds (λ c. search needs)
+    (λ c. search needs) (λ c. search needs) (λ c. search needs) (λ c. search needs) (λ c. search needs) (λ c. search needs)
+    check-entry-requires (λ c. search needs) (λ c. search needs) (λ c. search needs) read-ahead-requires-2 (λ c. search needs) loop-again
+    (λ c. search needs) loop-again-2 (λ c. search needs) (λ c. search needs) buckets-again returns returns-2)

@@ -4,18 +4,9 @@ use borrow.Author.Needs.{needs}
 use Rattle.taplinen.proofs.batches.taplinen_values.Statement.{statement}
 use Rattle.taplinen.proofs.batches.taplinen_values.Tie as tie
 
-ask-each-requires : tie.Need-ask-each-requires
-ask-each-requires c κs = search needs
-
-same-length : tie.Need-same-length
-same-length c = search needs
-
-same-length-2 : tie.Need-same-length-2
-same-length-2 c = search needs
-
 returns : tie.Need-returns
 unfolding valuePlaces batchPlaces toldIn tableOf
 returns c = c .before .before .before .before .ask-each .ensures
 
 pub taplinen-values-spec : {M : Type 1} → statement M
-taplinen-values-spec = tie.close (tie.spec ask-each-requires same-length same-length-2 returns)
+taplinen-values-spec = tie.close (tie.spec (λ c κs. search needs) (λ c. search needs) (λ c. search needs) returns)

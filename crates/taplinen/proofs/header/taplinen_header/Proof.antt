@@ -3,42 +3,28 @@ use Rattle.layout.specs.Header.{headerOf}
 use Rattle.layout.specs.declared.Header.{Header}
 use Rattle.taplinen.specs.Answers.{reported}
 use Rattle.taplinen.specs.Questions.{workspaceLeft}
-use Rattle.taplinen.proofs.Laws.{word-low, header-refused, header-told}
+use Rattle.le.proofs.Numbers.{word-lt}
+use Rattle.taplinen.proofs.Laws.{header-refused, header-told}
 use native.Mathlib.Omega.{arith}
 use borrow.Author.Needs.{needs}
 use Rattle.taplinen.proofs.header.taplinen_header.Statement.{statement}
 use Rattle.taplinen.proofs.header.taplinen_header.Tie as tie
 
-accept-requires : tie.Need-accept-requires
-accept-requires c κs = search needs
-
-enum-known-v : tie.Need-enum-known-v
-enum-known-v c = search needs
-
-enum-told : tie.Need-enum-told
-enum-told c = search needs
-
 cast-t14 : tie.Need-cast-t14
 unfolding headerOf
 cast-t14 c =
     let h = c .before .before .before .before .before .before .before .before .accept .ensures .0 .view (c .before .before .before .before .enum-told .given .1) .header in
-    omega (arith, word-low (c .before .before .before .before .before .before .before .before .before .before .before .before .args .file .now) (λ i. omega (arith, c .before .before .before .before .before .before .before .before .before .before .before .shared-slice-known .given i)) 0, ap (λ (x : Header). x .version) h)
+    omega (arith, word-lt (c .before .before .before .before .before .before .before .before .before .before .before .before .args .file .now) (λ i. omega (arith, c .before .before .before .before .before .before .before .before .before .before .before .shared-slice-known .given i)) 0, ap (λ (x : Header). x .version) h)
 
 cast-t15 : tie.Need-cast-t15
 unfolding headerOf
 cast-t15 c =
     let h = c .before .before .before .before .before .before .before .before .before .accept .ensures .0 .view (c .before .before .before .before .before .enum-told .given .1) .header in
-    omega (arith, word-low (c .before .before .before .before .before .before .before .before .before .before .before .before .before .args .file .now) (λ i. omega (arith, c .before .before .before .before .before .before .before .before .before .before .before .before .shared-slice-known .given i)) 12, ap (λ (x : Header). x .revision) h)
-
-same-length : tie.Need-same-length
-same-length c = search needs
+    omega (arith, word-lt (c .before .before .before .before .before .before .before .before .before .before .before .before .before .args .file .now) (λ i. omega (arith, c .before .before .before .before .before .before .before .before .before .before .before .before .shared-slice-known .given i)) 12, ap (λ (x : Header). x .revision) h)
 
 returns : tie.Need-returns
 unfolding workspaceLeft reported
 returns c = let k = c .before .before .before .before .before .accept .ensures in (header-refused _ _ (k .0 .answer) (c .before .v .given .1) refl, k .1)
-
-same-length-2 : tie.Need-same-length-2
-same-length-2 c = search needs
 
 returns-2 : tie.Need-returns-2
 unfolding workspaceLeft reported
@@ -50,13 +36,5 @@ returns-2 c =
 pub taplinen-header-spec : {M : Type 1} → statement M
 taplinen-header-spec =
     tie.close
-    (tie.spec
-    accept-requires
-    enum-known-v
-    enum-told
-    cast-t14
-    cast-t15
-    same-length
-    returns
-    same-length-2
-    returns-2)
+    (tie.spec (λ c κs. search needs) (λ c. search needs) (λ c. search needs) cast-t14 cast-t15 (λ c. search needs) returns
+    (λ c. search needs) returns-2)

@@ -4,15 +4,9 @@ use borrow.Author.Needs.{needs}
 use Rattle.taplinen.proofs.questions.taplinen_value.Statement.{statement}
 use Rattle.taplinen.proofs.questions.taplinen_value.Tie as tie
 
-ask-requires : tie.Need-ask-requires
-ask-requires c κs = search needs
-
-same-length : tie.Need-same-length
-same-length c = search needs
-
 returns : tie.Need-returns
 unfolding valueAnswer textAnswer toldIn tableOf
 returns c = c .before .before .ask .ensures
 
 pub taplinen-value-spec : {M : Type 1} → statement M
-taplinen-value-spec = tie.close (tie.spec ask-requires same-length returns)
+taplinen-value-spec = tie.close (tie.spec (λ c κs. search needs) (λ c. search needs) returns)

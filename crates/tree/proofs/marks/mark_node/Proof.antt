@@ -9,17 +9,8 @@ use Rattle.tree.proofs.OneRange.{own-counts, marked-none, segment-there
 use Rattle.tree.proofs.marks.mark_node.Statement.{statement}
 use Rattle.tree.proofs.marks.mark_node.Tie as tie
 
-u16-at-requires : tie.Need-u16-at-requires
-u16-at-requires c κs = search needs
-
 returns : tie.Need-returns
 returns c = marked-none _ _ _ (none-nameless _ _ (sym (c .before .u16-at .ensures .0) ∙ c .if1 .taken))
-
-add-u16-at : tie.Need-add-u16-at
-add-u16-at c = search needs
-
-u16-at-requires-2 : tie.Need-u16-at-requires-2
-u16-at-requires-2 c κs = search needs
 
 -- what the code has read: the child count and the first child's number
 counted : (c : tie.After-u16-at2) → c .u16-at2 .result ≡ childCount (c .before .before .before .before .before .args .b .now) (c .before .before .before .before .before .args .p)
@@ -32,18 +23,6 @@ numbered c =
 returns-2 : tie.Need-returns-2
 returns-2 c = marked-none _ _ _ (sym (counted (c .before)) ∙ c .if2 .taken)
 
-add-u16-at-2 : tie.Need-add-u16-at-2
-add-u16-at-2 c = search needs
-
-u16-at-requires-3 : tie.Need-u16-at-requires-3
-u16-at-requires-3 c κs = search needs
-
-add-u16-at-3 : tie.Need-add-u16-at-3
-add-u16-at-3 c = search needs
-
-u16-at-requires-4 : tie.Need-u16-at-requires-4
-u16-at-requires-4 c κs = search needs
-
 number-requires : tie.Need-number-requires
 number-requires c κs =
     let s = c .before .before .before .before .before .before .before .before in
@@ -55,9 +34,6 @@ range-free-requires c κs =
     let s = c .before .before .before .before .before .before .before .before .before .before in
     range-there (s .args .b .now) (s .args .p) _ _ (s .args .ws .now) (numbered (c .before)) (counted (c .before .before .before .before .before)) (c .before .before .before .before .if2 .left) (s .pre .1) (s .pre .0 .3)
 
-same-length : tie.Need-same-length
-same-length c = search needs
-
 returns-3 : tie.Need-returns-3
 returns-3 c = marked-not _ _ _ _ _ (numbered (c .before .before .before)) (counted (c .before .before .before .before .before .before .before)) (c .before .range-free .ensures) (not-true _ (c .if3 .taken))
 
@@ -66,9 +42,6 @@ set-range-requires c κs =
     let s = c .before .before .before .before .before .before .before .before .before .before .before .before .before in
     range-there (s .args .b .now) (s .args .p) _ _ (s .args .ws .now) (numbered (c .before .before .before .before)) (counted (c .before .before .before .before .before .before .before .before)) (c .before .before .before .before .before .before .before .if2 .left) (s .pre .1) (s .pre .0 .3)
 
-same-length-2 : tie.Need-same-length-2
-same-length-2 c = search needs
-
 returns-4 : tie.Need-returns-4
 returns-4 c =
     marked-now _ _ _ _ _ (numbered (c .before .before .before .before .before .before .before)) (counted (c .before .before .before .before .before .before .before .before .before .before .before)) (c .before .before .before .before .before .range-free .ensures) _ (not-false _ (c .before .before .before .before .if3 .left)) (c .before .before .set-range .ensures)
@@ -76,20 +49,6 @@ returns-4 c =
 pub mark-node-spec : {M : Type 1} → statement M
 mark-node-spec =
     tie.close
-    (tie.spec
-    u16-at-requires
-    returns
-    add-u16-at
-    u16-at-requires-2
-    returns-2
-    add-u16-at-2
-    u16-at-requires-3
-    add-u16-at-3
-    u16-at-requires-4
-    number-requires
-    range-free-requires
-    same-length
-    returns-3
-    set-range-requires
-    same-length-2
-    returns-4)
+    (tie.spec (λ c κs. search needs) returns (λ c. search needs) (λ c κs. search needs) returns-2 (λ c. search needs)
+    (λ c κs. search needs) (λ c. search needs) (λ c κs. search needs) number-requires range-free-requires (λ c. search needs) returns-3
+    set-range-requires (λ c. search needs) returns-4)

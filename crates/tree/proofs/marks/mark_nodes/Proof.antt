@@ -27,9 +27,6 @@ Inv-segments b nodes starts counts used ws₀ fault₀ at₀ seg₀ ws fault at 
 abbrev μ-segments : tie.MeasureT-segments
 μ-segments b nodes starts counts used ws₀ fault₀ at₀ seg₀ ws fault at seg = countOf b (nodesAt b) - seg
 
-set-range-requires : tie.Need-set-range-requires Inv-loop μ-loop Inv-segments μ-segments
-set-range-requires c κs = search needs
-
 add-at : tie.Need-add-at Inv-loop μ-loop Inv-segments μ-segments
 add-at c = let s = c .before .before .before .before .before .before .before in omega (arith, s .pre .0 .nodes .at-is, s .pre .0 .laid .nodes .head)
 
@@ -94,12 +91,6 @@ mark-node-requires c κs =
       rw (standing (c .before)) (rules-hold (s .pre .0) .each _ _ (there (c .before)) .children .reach),
     )
 
-add-el : tie.Need-add-el Inv-loop μ-loop Inv-segments μ-segments
-add-el c = search needs
-
-loop-less : tie.Need-loop-less Inv-loop μ-loop Inv-segments μ-segments
-loop-less c = search needs
-
 loop-again : tie.Need-loop-again Inv-loop μ-loop Inv-segments μ-segments
 loop-again c =
     let s = c .before .before .before .before .before .before .before .before .before .before .before .before .before .before .before .before .before .before in
@@ -140,9 +131,6 @@ segments-again c =
           (omega (arith, c .before .loop-test .left, l .inv .0)) (c .before .before .before .before .before .before .segments .inv .1) (l .inv .2)),
     )
 
-enum-told : tie.Need-enum-told Inv-loop μ-loop Inv-segments μ-segments
-enum-told c = search needs
-
 -- where the ways out of the segments meet
 passed : (c : tie.Joined1 Inv-loop μ-loop Inv-segments μ-segments) → Passed (c .before .before .before .before .before .before .before .before .before .before .args .b .now) (c .before .before .before .before .before .before .set-range .last .0) (c .if1 .fault) (c .if1 .ws)
 passed c =
@@ -161,9 +149,6 @@ passed c =
 
 set-range-requires-2 : tie.Need-set-range-requires-2 Inv-loop μ-loop Inv-segments μ-segments
 set-range-requires-2 c κs = omega (arith, passed (c .before .before .before) .long, room-from (c .before .before .before .before .before), c .before .before .before .before .before .before .before .before .before .before .before .before .before .pre .2)
-
-enum-told-2 : tie.Need-enum-told-2 Inv-loop μ-loop Inv-segments μ-segments
-enum-told-2 c = search needs
 
 same-length : tie.Need-same-length Inv-loop μ-loop Inv-segments μ-segments
 same-length c = omega (arith, passed (c .before .before .before .before .before .before) .long)
@@ -189,35 +174,7 @@ returns-2 c =
 pub mark-nodes-spec : {M : Type 1} → statement M
 mark-nodes-spec =
     tie.close
-    (tie.spec
-    Inv-loop
-    μ-loop
-    Inv-segments
-    μ-segments
-    set-range-requires
-    add-at
-    segments-holds
-    add-u32-at
-    u32-at-requires
-    loop-holds
-    add-p
-    mul-p
-    add-p-2
-    mark-node-requires
-    add-el
-    loop-less
-    loop-again
-    add-at-2
-    u32-at-requires-2
-    mul-at
-    add-at-3
-    add-seg
-    segments-less
-    segments-again
-    enum-told
-    set-range-requires-2
-    enum-told-2
-    same-length
-    returns
-    same-length-2
+    (tie.spec Inv-loop μ-loop Inv-segments μ-segments (λ c κs. search needs) add-at segments-holds add-u32-at u32-at-requires loop-holds
+    add-p mul-p add-p-2 mark-node-requires (λ c. search needs) (λ c. search needs) loop-again add-at-2 u32-at-requires-2 mul-at add-at-3
+    add-seg segments-less segments-again (λ c. search needs) set-range-requires-2 (λ c. search needs) same-length returns same-length-2
     returns-2)

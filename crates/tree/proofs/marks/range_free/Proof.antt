@@ -24,20 +24,8 @@ returns-2 c = tells-no (λ f. f .rootless 0 (omega arith) (omega arith))
 loop-holds : tie.Need-loop-holds Inv-loop μ-loop
 loop-holds c = (search needs, λ k h. absurd (omega arith))
 
-add-if3 : tie.Need-add-if3 Inv-loop μ-loop
-add-if3 c = search needs
-
-shared-slice-read-if3 : tie.Need-shared-slice-read-if3 Inv-loop μ-loop
-shared-slice-read-if3 c = search needs
-
 returns-3 : tie.Need-returns-3 Inv-loop μ-loop
 returns-3 c = tells-no (λ f. c .if3 .taken (f .unmarked _ (omega arith)))
-
-add-j : tie.Need-add-j Inv-loop μ-loop
-add-j c = search needs
-
-loop-less : tie.Need-loop-less Inv-loop μ-loop
-loop-less c = search needs
 
 loop-again : tie.Need-loop-again Inv-loop μ-loop
 loop-again c = (omega arith, below-more _ _ (c .before .before .before .loop .inv .1) (omega arith))
@@ -48,16 +36,5 @@ returns-4 c = tells-yes (record { rootless = λ j h e. omega arith; unmarked = �
 pub range-free-spec : {M : Type 1} → statement M
 range-free-spec =
     tie.close
-    (tie.spec
-    Inv-loop
-    μ-loop
-    returns
-    returns-2
-    loop-holds
-    add-if3
-    shared-slice-read-if3
-    returns-3
-    add-j
-    loop-less
-    loop-again
-    returns-4)
+    (tie.spec Inv-loop μ-loop returns returns-2 loop-holds (λ c. search needs) (λ c. search needs) returns-3 (λ c. search needs)
+    (λ c. search needs) loop-again returns-4)

@@ -1,0 +1,74 @@
+-- How the arrays of a group are filled, place by place. Assumes nothing.
+use Prim.Native.Nat.{ℕ, _+_, _≤_, _<_}
+use native.Mathlib.Omega.{arith}
+use mathlib.Core.Path.{_≡_, sym, _∙_}
+use mathlib.Core.List.{List}
+use borrow.Author.Count.{below-none, below-more}
+use lib.ListN.{length, getD, set, length-set}
+use lib.Seq.{getD-set-same, getD-set-other}
+use Rattle.hash.specs.Hash.{bucketOf}
+use Rattle.layout.specs.Table.{Table, bucketAt, listAt}
+use Rattle.layout.proofs.Laws.{bucket-order}
+use Rattle.strings.specs.Held.{Held, heldTable}
+use Rattle.strings.specs.declared.Strings.{Strings}
+use Rattle.search.specs.Lower.{Lower}
+use Rattle.search.specs.Group.{AllLow, Within, Aimed}
+
+-- ---- where the buckets stand
+
+-- the first bucket stands before the address count, by what is read as its start
+pub buckets-held : (b : List ℕ) (s : Strings) (samples starts : List ℕ) → Held b s samples starts → {x : ℕ} → x ≡ getD starts 0 0
+    → (x ≡ bucketAt (heldTable b s starts) 0) × (x ≤ s .list)
+unfolding listAt
+buckets-held b s samples starts h {x} e =
+    let z : x ≡ bucketAt (heldTable b s starts) 0 = e ∙ h .buckets .at 0 (h .some-bucket) in
+    (z, omega (arith, z, h .list, bucket-order (heldTable b s starts) 0 (length starts) (h .some-bucket)))
+
+-- ---- offsets to look at
+
+pub within-at : (b at : List ℕ) (n j x : ℕ) → Within b n at → j < n → x ≡ getD at j 0 → x + 4 ≤ length b
+within-at b at n j x w l e = rw e (w .each j l)
+
+pub aimed-none : (b guess at : List ℕ) → length guess ≡ 64 → length at ≡ 64 → Aimed b 0 guess at
+aimed-none b guess at e f = record { guesses = e; within = record { long = f; each = below-none _ } }
+
+pub aimed-more : (b guess at : List ℕ) (j g x : ℕ) → Aimed b j guess at → j < 64 → x + 4 ≤ length b → Aimed b (j + 1) (set guess j g) (set at j x)
+aimed-more b guess at j g x a l h = record {
+  guesses = length-set guess j g ∙ a .guesses;
+  within = record {
+    long = length-set at j x ∙ a .within .long;
+    each =
+        below-more (λ (i : ℕ). getD (set at j x) i 0 + 4 ≤ length b) j
+        (λ i c. rw (getD-set-other at j i x 0 (omega arith)) (a .within .each i c))
+        (rw (getD-set-same at j x 0 (omega (arith, a .within .long))) h);
+  };
+}
+
+pub aimed-upto : (b guess at : List ℕ) (j n : ℕ) → Aimed b j guess at → n ≤ j → Aimed b n guess at
+aimed-upto b guess at j n a l = record {
+  guesses = a .guesses;
+  within = record { long = a .within .long; each = λ i h. a .within .each i (omega arith) };
+}
+
+-- ---- places of hashes
+
+pub low-none : (t : Table) (hashes low : List ℕ) → length low ≡ 64 → AllLow t hashes 0 low
+low-none t hashes low e = record { long = e; each = below-none _ }
+
+pub low-upto : {t : Table} {hashes low : List ℕ} {j n : ℕ} → n ≤ j → AllLow t hashes j low → AllLow t hashes n low
+low-upto {j = j} {n = n} l a = record { long = a .long; each = λ i h. a .each i (omega arith) }
+
+pub low-more : {t : Table} {hashes low : List ℕ} {j : ℕ} → AllLow t hashes j low → j < 64 → {h : ℕ} (r : ℕ) → h ≡ getD hashes j 0
+    → Lower t (bucketOf (t .buckets) h) h r → AllLow t hashes (j + 1) (set low j r)
+low-more {t} {hashes} {low} {j} a l {h} r e w = record {
+  long = length-set low j r ∙ a .long;
+  each =
+      below-more (λ (i : ℕ). Lower t (bucketOf (t .buckets) (getD hashes i 0)) (getD hashes i 0) (getD (set low j r) i 0)) j
+      (λ i c. rw (getD-set-other low j i r 0 (omega arith)) (a .each i c))
+      (rw (getD-set-same low j r 0 (omega (arith, a .long)), sym e) w);
+}
+
+-- what is read of one
+pub low-read : {t : Table} {hashes low : List ℕ} {n : ℕ} → AllLow t hashes n low → (j : ℕ) → j < n → {h r : ℕ} → h ≡ getD hashes j 0 → r ≡ getD low j 0
+    → Lower t (bucketOf (t .buckets) h) h r
+low-read a j l e f = rw (e, f) (a .each j l)

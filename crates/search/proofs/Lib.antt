@@ -1,0 +1,4 @@
+pub mod Halves
+pub mod Nearby
+pub mod Runs
+pub mod Groups

@@ -1,0 +1,30 @@
+use Prim.Native.Nat.{_-_}
+use Rattle.search.specs.Group.{Aimed}
+use Rattle.search.proofs.Groups.{aimed-none, aimed-more, aimed-upto}
+use native.Mathlib.Omega.{arith}
+use borrow.Author.Needs.{needs}
+use Rattle.search.proofs.group.aim.Statement.{statement}
+use Rattle.search.proofs.group.aim.Tie as tie
+
+abbrev Inv-loop : tie.InvT-loop
+Inv-loop b s samples starts hashes n met guess₀ at₀ j₀ guess at j = Aimed b j guess at
+
+abbrev μ-loop : tie.MeasureT-loop
+μ-loop b s samples starts hashes n met guess₀ at₀ j₀ guess at j = n - j
+
+loop-holds : tie.Need-loop-holds Inv-loop μ-loop
+loop-holds c = let p = c .before .before .pre in aimed-none _ _ _ (p .4) (p .5)
+
+loop-again : tie.Need-loop-again Inv-loop μ-loop
+loop-again c = aimed-more _ _ _ _ _ _ (c .before .before .before .before .before .before .before .before .loop .inv) (omega (arith, c .before .before .before .before .before .before .before .loop-test .taken, c .before .before .before .before .before .before .before .before .before .before .before .pre .1)) (c .aim-at .ensures)
+
+returns : tie.Need-returns Inv-loop μ-loop
+returns c = aimed-upto _ _ _ _ _ (c .before .loop .inv) (c .loop-test .left)
+
+pub aim-spec : {M : Type 1} → statement M
+aim-spec =
+    tie.close
+    (tie.spec Inv-loop μ-loop loop-holds (λ c. search needs) (λ c. search needs) (λ c κs. search needs) (λ c. search needs)
+    (λ c. search needs) (λ c κs. search needs) (λ c. search needs) (λ c. search needs) (λ c κs. search needs) (λ c κs. search needs)
+    (λ c. search needs) (λ c. search needs) (λ c. search needs) (λ c. search needs) (λ c. search needs) (λ c. search needs) loop-again
+    returns)

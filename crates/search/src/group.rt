@@ -1,0 +1,189 @@
+// The places of many hashes at once. Where a table is large, each look at an entry waits for memory; the steps here go over all hashes
+// of a group, so that the waits of different hashes overlap. A step that looks does nothing else: the fewer the instructions between two
+// looks, the more of them the processor has under way.
+ghost use mathlib.Core.Path.{_≡_};
+ghost use Prim.Native.Nat.{_+_, _≤_, _<_, _^_};
+ghost use lib.ListN.{length};
+ghost use Rattle.verdict.specs.Checks.{firstFault, Tells};
+ghost use Rattle.verdict.specs.declared.Verdict.the-variants.{Accepted};
+ghost use Rattle.layout.specs.Table.{bucketAt};
+ghost use Rattle.hash.specs.Hash.{bucketOf};
+ghost use Rattle.strings.specs.Order.{allEntryChecks};
+ghost use Rattle.strings.specs.Held.{Held, heldTable};
+ghost use Rattle.search.specs.Lower.{Lower};
+ghost use Rattle.search.specs.Group.{AllLow, Aimed, Within};
+use crate::near;
+use strings::Strings;
+use strings::entry;
+
+// Which entry of its bucket a hash is to be expected at, and where that entry stands.
+struct Target {
+    guess: u32,
+    at: u32,
+}
+
+// Whether the buckets of a table take that many bytes: where they do, most looks at what they lead to would wait for memory.
+pub fn spread(b: &[u8], s: Strings, samples: &[u32; 256], starts: &[u32], bytes: usize) -> bool
+    requires { ⌜ Held (now b) s (now samples) (now starts) ⌝ }
+    ensures { λ r. ⌜ Tells (bucketAt (heldTable (now (b .entry)) s (now (starts .entry))) 0 + bytes ≤ s .list) r ⌝ }
+{
+    if s.list - le::wide(starts[0]) < bytes {
+        return false;
+    }
+    true
+}
+
+// Where hash h is to be expected when w was met at place g of its bucket. In an empty bucket that is its count: it can be read, too.
+fn aim_at(
+    b: &[u8],
+    s: Strings,
+    samples: &[u32; 256],
+    starts: &[u32],
+    h: usize,
+    g: usize,
+    w: usize,
+) -> Target
+    requires { ⌜ Held (now b) s (now samples) (now starts) × (h < 2 ^ 32) × (g < 2 ^ 32) × (w < 2 ^ 32) ⌝ }
+    ensures { λ r. ⌜ r .at + 4 ≤ length (now (b .entry)) ⌝ }
+{
+    let k = hash::bucket(h, starts.len());
+    let n = entry::entry_count(b, s, samples, starts, k);
+    if n == 0 {
+        return Target {
+            guess: 0,
+            at: starts[k],
+        };
+    }
+    let r = crate::expected(n, h, g, w);
+    let e = entry::entry_at(b, s, samples, starts, k, r);
+    Target {
+        guess: r as u32,
+        at: e as u32,
+    }
+}
+
+// Aims at each hash, from where it was looked for before.
+fn aim(
+    b: &[u8],
+    s: Strings,
+    samples: &[u32; 256],
+    starts: &[u32],
+    hashes: &[u32; 64],
+    n: usize,
+    met: &[u32; 64],
+    guess: &mut [u32; 64],
+    at: &mut [u32; 64],
+)
+    requires { ⌜ Held (now b) s (now samples) (now starts) × (n ≤ 64) × (length (now hashes) ≡ 64) × (length (now met) ≡ 64)
+        × (length (now guess) ≡ 64) × (length (now at) ≡ 64) ⌝ }
+    ensures { λ _. ⌜ Aimed (now (b .entry)) n (now (guess .exit)) (now (at .exit)) ⌝ }
+{
+    let mut j = 0;
+    while j < n {
+        let a = aim_at(
+            b,
+            s,
+            samples,
+            starts,
+            le::wide(hashes[j]),
+            le::wide(guess[j]),
+            le::wide(met[j]),
+        );
+        guess[j] = a.guess;
+        at[j] = a.at;
+        j += 1;
+    }
+}
+
+// Looks at each.
+fn look(b: &[u8], n: usize, at: &[u32; 64], met: &mut [u32; 64])
+    requires { ⌜ (n ≤ 64) × Within (now b) n (now at) × (length (now met) ≡ 64) ⌝ }
+    ensures { λ _. ⌜ length (now (met .exit)) ≡ 64 ⌝ }
+{
+    let mut j = 0;
+    while j < n {
+        met[j] = le::u32_at(b, le::wide(at[j])) as u32;
+        j += 1;
+    }
+}
+
+// What was met of each hash's neighbours, and where: from nowhere first, and then from what was met there. In a table of less than a
+// megabyte nothing is looked at: it is near as it is.
+fn approach(
+    b: &[u8],
+    s: Strings,
+    samples: &[u32; 256],
+    starts: &[u32],
+    hashes: &[u32; 64],
+    n: usize,
+    guess: &mut [u32; 64],
+    met: &mut [u32; 64],
+)
+    requires { ⌜ Held (now b) s (now samples) (now starts) × (n ≤ 64) × (length (now hashes) ≡ 64) × (length (now guess) ≡ 64)
+        × (length (now met) ≡ 64) ⌝ }
+    ensures { λ _. ⌜ (length (now (guess .exit)) ≡ 64) × (length (now (met .exit)) ≡ 64) ⌝ }
+{
+    if !spread(b, s, samples, starts, 1048576) {
+        return;
+    }
+    let mut at = [0u32; 64];
+    aim(b, s, samples, starts, hashes, n, met, guess, &mut at);
+    look(b, n, &at, met);
+    aim(b, s, samples, starts, hashes, n, met, guess, &mut at);
+    look(b, n, &at, met);
+}
+
+// The first entry of its bucket whose hash is not below h, or the bucket's end, when w was met at place g.
+fn low_from(
+    b: &[u8],
+    s: Strings,
+    samples: &[u32; 256],
+    starts: &[u32],
+    h: usize,
+    g: usize,
+    w: usize,
+) -> usize
+    requires { ⌜ Held (now b) s (now samples) (now starts) × (firstFault (allEntryChecks (heldTable (now b) s (now starts))) ≡ Accepted)
+        × (h < 2 ^ 32) × (g < 2 ^ 32) × (w < 2 ^ 32) ⌝ }
+    ensures { λ r. ⌜ Lower (heldTable (now (b .entry)) s (now (starts .entry))) (bucketOf (length (now (starts .entry))) h) h r ⌝ }
+{
+    let k = hash::bucket(h, starts.len());
+    let n = entry::entry_count(b, s, samples, starts, k);
+    if n == 0 {
+        return 0;
+    }
+    let r = crate::expected(n, h, g, w);
+    near::lower_near(b, s, samples, starts, k, h, r)
+}
+
+// The places of the first n hashes, each in its bucket.
+pub fn settle(
+    b: &[u8],
+    s: Strings,
+    samples: &[u32; 256],
+    starts: &[u32],
+    hashes: &[u32; 64],
+    n: usize,
+    low: &mut [usize; 64],
+)
+    requires { ⌜ Held (now b) s (now samples) (now starts) × (firstFault (allEntryChecks (heldTable (now b) s (now starts))) ≡ Accepted)
+        × (n ≤ 64) × (length (now hashes) ≡ 64) × (length (now low) ≡ 64) ⌝ }
+    ensures { λ _. ⌜ AllLow (heldTable (now (b .entry)) s (now (starts .entry))) (now (hashes .entry)) n (now (low .exit)) ⌝ }
+{
+    let mut guess = [0u32; 64];
+    let mut met = [0u32; 64];
+    approach(b, s, samples, starts, hashes, n, &mut guess, &mut met);
+    let mut j = 0;
+    while j < n {
+        low[j] = low_from(
+            b,
+            s,
+            samples,
+            starts,
+            le::wide(hashes[j]),
+            le::wide(guess[j]),
+            le::wide(met[j]),
+        );
+        j += 1;
+    }
+}

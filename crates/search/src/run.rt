@@ -1,0 +1,45 @@
+// The entries of a bucket that have one hash.
+ghost use Prim.Native.Nat.{_+_, _≤_, _<_};
+ghost use mathlib.Core.Path.{_≡_};
+ghost use lib.ListN.{length};
+ghost use Rattle.verdict.specs.Checks.{firstFault};
+ghost use Rattle.verdict.specs.declared.Verdict.the-variants.{Accepted};
+ghost use Rattle.strings.specs.Order.{allEntryChecks};
+ghost use Rattle.strings.specs.Held.{Held, heldTable};
+ghost use Rattle.search.specs.Lower.{Lower};
+ghost use Rattle.search.specs.Run.{Meets};
+use strings::Strings;
+use strings::entry;
+
+// Whether an entry of bucket k with hash h has w in the field at `field`: its index, or its address. `low` is where h stands in the
+// bucket, or would. Among equal hashes all are read.
+pub fn run_has(
+    b: &[u8],
+    s: Strings,
+    samples: &[u32; 256],
+    starts: &[u32],
+    k: usize,
+    h: usize,
+    low: usize,
+    field: usize,
+    w: usize,
+) -> bool
+    requires { ⌜ Held (now b) s (now samples) (now starts) × (k < length (now starts))
+        × (firstFault (allEntryChecks (heldTable (now b) s (now starts))) ≡ Accepted)
+        × Lower (heldTable (now b) s (now starts)) k h low × (field + 4 ≤ 16) ⌝ }
+    ensures { λ r. ⌜ Meets (heldTable (now (b .entry)) s (now (starts .entry))) k h field w r ⌝ }
+{
+    let n = entry::entry_count(b, s, samples, starts, k);
+    let mut j = low;
+    while j < n {
+        let e = entry::entry_at(b, s, samples, starts, k, j);
+        if le::u32_at(b, e) != h {
+            return false;
+        }
+        if le::u32_at(b, e + field) == w {
+            return true;
+        }
+        j += 1;
+    }
+    false
+}
