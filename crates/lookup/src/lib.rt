@@ -11,7 +11,7 @@ ghost use Rattle.strings.specs.Texts.{textOf};
 ghost use Rattle.strings.specs.Order.{stringChecks};
 ghost use Rattle.strings.specs.Held.{Held, heldTable, Here};
 ghost use Rattle.search.specs.Lower.{Lower};
-ghost use Rattle.lookup.specs.Lookup.{entryOfText, indexOfText, addressOfText};
+ghost use Rattle.lookup.specs.Lookup.{entryOfText};
 ghost use Rattle.lookup.specs.Kinds.{toldIn};
 use strings::Strings;
 use strings::entry;
@@ -118,61 +118,24 @@ pub fn find_from(
     }
 }
 
-// The same for a caller that has the hash only.
-pub fn find_hashed(
+// The same for a caller that has the text only.
+pub fn find_text(
     b: &[u8],
+    t: &[u32; 1024],
     s: Strings,
     samples: &[u32; 256],
     starts: &[u32],
     kind: Kind,
-    h: usize,
     q: &[u8],
     p: usize,
     n: usize,
 ) -> Lookup
-    requires { ⌜ Held (now b) s (now samples) (now starts) × (firstFault (stringChecks (heldTable (now b) s (now starts))) ≡ Accepted) ⌝ }
-    requires { ⌜ (p + 2 * n ≤ length (now q)) × (h ≡ hashText (chars (now q) p n)) ⌝ }
+    requires { ⌜ Tables (now t) × Held (now b) s (now samples) (now starts)
+        × (firstFault (stringChecks (heldTable (now b) s (now starts))) ≡ Accepted) × (p + 2 * n ≤ length (now q)) ⌝ }
     ensures { λ r. ⌜ r ≡ toldIn kind (heldTable (now (b .entry)) s (now (starts .entry))) (chars (now (q .entry)) p n) ⌝ }
 {
+    let h = text::hash_chars(q, t, p, n);
     let k = hash::bucket(h, starts.len());
     let low = search::lower(b, s, samples, starts, k, h);
     find_from(b, s, samples, starts, kind, h, low, q, p, n)
-}
-
-// The index of a name.
-pub fn find_name(
-    b: &[u8],
-    t: &[u32; 1024],
-    s: Strings,
-    samples: &[u32; 256],
-    starts: &[u32],
-    q: &[u8],
-    p: usize,
-    n: usize,
-) -> Lookup
-    requires { ⌜ Tables (now t) × Held (now b) s (now samples) (now starts)
-        × (firstFault (stringChecks (heldTable (now b) s (now starts))) ≡ Accepted) × (p + 2 * n ≤ length (now q)) ⌝ }
-    ensures { λ r. ⌜ r ≡ indexOfText (heldTable (now (b .entry)) s (now (starts .entry))) (chars (now (q .entry)) p n) ⌝ }
-{
-    let h = text::hash_chars(q, t, p, n);
-    find_hashed(b, s, samples, starts, Kind::Name, h, q, p, n)
-}
-
-// The address of a value.
-pub fn find_value(
-    b: &[u8],
-    t: &[u32; 1024],
-    s: Strings,
-    samples: &[u32; 256],
-    starts: &[u32],
-    q: &[u8],
-    p: usize,
-    n: usize,
-) -> Lookup
-    requires { ⌜ Tables (now t) × Held (now b) s (now samples) (now starts)
-        × (firstFault (stringChecks (heldTable (now b) s (now starts))) ≡ Accepted) × (p + 2 * n ≤ length (now q)) ⌝ }
-    ensures { λ r. ⌜ r ≡ addressOfText (heldTable (now (b .entry)) s (now (starts .entry))) (chars (now (q .entry)) p n) ⌝ }
-{
-    let h = text::hash_chars(q, t, p, n);
-    find_hashed(b, s, samples, starts, Kind::Value, h, q, p, n)
 }

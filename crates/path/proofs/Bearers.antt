@@ -8,6 +8,8 @@ use Rattle.layout.specs.Table.{Table, TableLaid}
 use Rattle.layout.specs.Layout.{valuesMost, names}
 use Rattle.strings.specs.Order.{stringChecks}
 use Rattle.keys.specs.Names.{nameCount, nameText, Bears}
+use Rattle.lookup.specs.Kinds.{toldIn}
+use Rattle.lookup.specs.declared.Kind.the-variants.{Name}
 use Rattle.lookup.specs.Lookup.{indexOfText}
 use Rattle.lookup.specs.declared.Lookup.{Lookup}
 use Rattle.lookup.specs.declared.Lookup.the-variants.{Found, Absent}
@@ -25,8 +27,9 @@ module _ (b x : List ℕ) (ok : Clean (stringChecks (names b))) where
       cc
 
   -- what a lookup in that table tells
-  module _ {t : Table} {r : Lookup} (same : t ≡ names b) (told : r ≡ indexOfText t x) where
+  module _ {t : Table} {r : Lookup} (same : t ≡ names b) (told : r ≡ toldIn Name t x) where
     told-names : r ≡ indexOfText (names b) x
+    unfolding toldIn
     told-names = told ∙ ap (λ (y : Table). indexOfText y x) same
 
     pub found-bears : {i : ℕ} → r ≡ Found i → Bears b i x

@@ -10,6 +10,7 @@ ghost use Rattle.strings.specs.Order.{stringChecks};
 ghost use Rattle.strings.specs.Held.{Held, heldTable};
 ghost use Rattle.path.specs.Names.{pathChecks};
 ghost use Rattle.path.specs.Indices.{NameEnd, WantedIs};
+use lookup::Kind;
 use lookup::Lookup;
 use strings::Strings;
 use verdict::Verdict;
@@ -72,7 +73,7 @@ pub fn find_names(
             break;
         }
         let e = name_end(path, at);
-        match lookup::find_name(b, t, s, samples, starts, path, at, (e - at) / 2) {
+        match lookup::find_text(b, t, s, samples, starts, Kind::Name, path, at, (e - at) / 2) {
             Lookup::Found(i) => {
                 indices[n] = i as u32;
             }

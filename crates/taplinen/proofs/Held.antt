@@ -10,7 +10,7 @@ use Rattle.layout.specs.declared.View.{View}
 use Rattle.layout.specs.Table.{Table}
 use Rattle.strings.specs.Held.{heldTable}
 use Rattle.nodes.specs.Held.{valueStrings}
-use Rattle.lookup.specs.Lookup.{textFrom, indexOfText, addressOfText}
+use Rattle.lookup.specs.Lookup.{textFrom}
 use Rattle.lookup.specs.Asked.{textChecks}
 use Rattle.lookup.specs.Kinds.{toldIn, tableOf, kindOf, numberOf}
 use Rattle.lookup.specs.declared.Kind.{Kind}
@@ -41,19 +41,19 @@ unfolding textAnswer textVerdict
 text-told k b room q e even = sym (own-answer b room (textChecks q) refl _ _ e (text-even q even) (λ z. (refl, refl)) refl)
 
 module _ (b : List ℕ) (room : ℕ) (v : View) (f : Fits b v) (e : verdictOf b room ≡ Accepted) where
-  -- lookup::find_name and lookup::find_value
+  -- lookup::find_text
   module _ (q : List ℕ) (even : length q % 2 ≡ 0) where
     told-by : (k : Kind) {t : Table} {l : Lookup} → t ≡ tableOf k b → l ≡ toldIn k t (textFrom q) → textAnswer k b room q ≡ answered Accepted (kindOf l) (numberOf l)
     told-by k s h =
         text-told k b room q e even
         ∙ sym (ap (λ (x : Lookup). answered Accepted (kindOf x) (numberOf x)) (h ∙ ap (λ (y : Table). toldIn k y (textFrom q)) s))
 
-    pub held-name : {l : Lookup} → l ≡ indexOfText (heldTable b (nameStrings (v .places)) (v .«name_buckets»)) (textFrom q)
+    pub held-name : {l : Lookup} → l ≡ toldIn Name (heldTable b (nameStrings (v .places)) (v .«name_buckets»)) (textFrom q)
         → nameAnswer b room q ≡ answered Accepted (kindOf l) (numberOf l)
     unfolding nameAnswer textAnswer toldIn tableOf
     held-name h = told-by Name (name-table b v f refl) h
 
-    pub held-value : {l : Lookup} → l ≡ addressOfText (heldTable b (valueStrings (v .places)) (v .«value_buckets»)) (textFrom q)
+    pub held-value : {l : Lookup} → l ≡ toldIn Value (heldTable b (valueStrings (v .places)) (v .«value_buckets»)) (textFrom q)
         → valueAnswer b room q ≡ answered Accepted (kindOf l) (numberOf l)
     unfolding valueAnswer textAnswer toldIn tableOf
     held-value h = told-by Value (value-table b v f refl) h

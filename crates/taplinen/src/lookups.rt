@@ -30,7 +30,7 @@ pub fn find(file: &[u8], v: View, kind: Kind, text: &[u8]) -> Lookup
                 chars,
                 list: p.name_list,
             };
-            lookup::find_name(file, &t, s, &starts, &v.name_buckets, text, 0, n)
+            lookup::find_text(file, &t, s, &starts, &v.name_buckets, kind, text, 0, n)
         }
         Kind::Value => {
             let starts = v.value_starts;
@@ -39,7 +39,7 @@ pub fn find(file: &[u8], v: View, kind: Kind, text: &[u8]) -> Lookup
                 chars,
                 list: p.value_list,
             };
-            lookup::find_value(file, &t, s, &starts, &v.value_buckets, text, 0, n)
+            lookup::find_text(file, &t, s, &starts, &v.value_buckets, kind, text, 0, n)
         }
     }
 }

@@ -26,7 +26,7 @@ bears : (c : tie.After-known-told Inv-loop μ-loop)
     → let a = c .before .before .before .before .before .before .before .before .before .before .before .args in
     let at = c .before .before .before .before .before .before .before .loop .at in
     Bears (a .b .now) (c .before .i .given .0 .0) (chars (a .path .now) at ((c .before .before .before .before .name-end .result - at) / 2))
-bears c = let s = c .before .before .before .before .before .before .before .before .before .before .before in found-bears _ _ (s .pre .3) (s .pre .2) (c .before .before .before .find-name .ensures) (c .before .i .given .1)
+bears c = let s = c .before .before .before .before .before .before .before .before .before .before .before in found-bears _ _ (s .pre .3) (s .pre .2) (c .before .before .before .find-text .ensures) (c .before .i .given .1)
 
 loop-holds : tie.Need-loop-holds Inv-loop μ-loop
 loop-holds c = (refl, sofar-start _ _)
@@ -34,11 +34,11 @@ loop-holds c = (refl, sofar-start _ _)
 name-end-requires : tie.Need-name-end-requires Inv-loop μ-loop
 name-end-requires c κs = let l = c .before .before .loop in (c .before .before .before .before .before .before .pre .4, l .inv .1 .even, omega arith)
 
-sub-find-name : tie.Need-sub-find-name Inv-loop μ-loop
-sub-find-name c = c .name-end .ensures .from
+sub-find-text : tie.Need-sub-find-text Inv-loop μ-loop
+sub-find-text c = c .name-end .ensures .from
 
-find-name-requires : tie.Need-find-name-requires Inv-loop μ-loop
-find-name-requires c κs =
+find-text-requires : tie.Need-find-text-requires Inv-loop μ-loop
+find-text-requires c κs =
     let s = c .before .before .before .before .before .before .before in
     let e = c .name-end .ensures in
     (s .pre .0, s .pre .1, subst (λ (t : Table). Clean (stringChecks t)) (sym (s .pre .2)) (s .pre .3), omega (arith, e .from, e .within))
@@ -73,10 +73,10 @@ returns-3 : tie.Need-returns-3 Inv-loop μ-loop
 returns-3 c =
     let s = c .before .before .before .before .before .before .before .before .before .before in
     sofar-absent (s .pre .4) (c .before .before .before .before .before .before .loop .inv .1) (c .before .before .before .name-end .ensures)
-    (absent-bears _ _ (s .pre .3) (s .pre .2) (c .before .before .find-name .ensures) (c .enum-told .given .1))
+    (absent-bears _ _ (s .pre .3) (s .pre .2) (c .before .before .find-text .ensures) (c .enum-told .given .1))
 
 pub find-names-spec : {M : Type 1} → statement M
 find-names-spec =
     tie.close
-    (tie.spec Inv-loop μ-loop loop-holds name-end-requires sub-find-name find-name-requires (λ c. search needs) cast-indices
+    (tie.spec Inv-loop μ-loop loop-holds name-end-requires sub-find-text find-text-requires (λ c. search needs) cast-indices
     (λ c. search needs) array-write-indices (λ c. search needs) add-n add-at loop-less loop-again returns returns-2 returns-3)
