@@ -12,14 +12,6 @@ use Rattle.hash.specs.Fold.{loses, folded, foldText, valueHash, valueHas
 use Rattle.hash.proofs.Linear.{entry-lt}
 use Rattle.hash.proofs.Ranges.{lost-stays, fold-ways}
 
-pub hash-nil : (h : ℕ) → hashOn h [] ≡ h
-unfolding hashOn
-hash-nil h = refl
-
-pub hash-cons : (h c : ℕ) (cs : List ℕ) → hashOn h (c ∷ cs) ≡ hashOn (hashChar h c) cs
-unfolding hashOn
-hash-cons h c cs = refl
-
 -- to hash one text and go on with a second is to hash the two joined
 pub hash-append : (h : ℕ) (xs ys : List ℕ) → hashOn h (xs ++ ys) ≡ hashOn (hashOn h xs) ys
 unfolding hashOn
@@ -43,9 +35,6 @@ hash-lt h (c ∷ cs) l = hash-lt (hashChar h c) cs (char-lt h c l)
 pub folded-le : (c : ℕ) → folded c ≤ c
 folded-le c = fold-ways (λ (r : ℕ). r ≤ c) c (λ e. omega arith) (λ e. omega arith) (λ e. omega arith) (λ e. omega arith) (λ e. omega arith)
 
-pub folded-lt : (c n : ℕ) → c < n → folded c < n
-folded-lt c n l = omega (arith, folded-le c)
-
 -- to fold twice is to fold once
 pub fold-fold : (c : ℕ) → folded (folded c) ≡ folded c
 unfolding folded loses
@@ -54,10 +43,6 @@ fold-fold c = fold-ways (λ (r : ℕ). folded r ≡ r) c (λ e. refl) (λ e. ref
 pub foldText-nil : foldText [] ≡ []
 unfolding foldText
 foldText-nil = refl
-
-pub foldText-cons : (c : ℕ) (cs : List ℕ) → foldText (c ∷ cs) ≡ folded c ∷ foldText cs
-unfolding foldText
-foldText-cons c cs = refl
 
 pub foldText-append : (xs ys : List ℕ) → foldText (xs ++ ys) ≡ foldText xs ++ foldText ys
 unfolding foldText
@@ -72,7 +57,3 @@ foldText-twice (c ∷ cs) = cc (fold-fold c, foldText-twice cs)
 -- a text and its folded form have the same value hash
 pub value-hash-folded : (cs : List ℕ) → valueHash (foldText cs) ≡ valueHash cs
 value-hash-folded cs = ap (λ (ds : List ℕ). valueHashOf (hashText ds)) (foldText-twice cs)
-
-pub value-hash-lt : (h : ℕ) → valueHashOf h < 16384
-unfolding valueHashOf
-value-hash-lt h = mod-lt h (lit< tt)

@@ -18,9 +18,6 @@ module _ (z : ℤ) (f : SFits w32 z) where
   pub read-up : pos 0 ≤ℤ z → pos 0 ≤ℤ toZ w32 (ofZ w32 z)
   read-up h = subst (λ (y : ℤ). pos 0 ≤ℤ y) (sym (toZ-ofZ f)) h
 
-  pub read-down : z <ℤ pos 0 → toZ w32 (ofZ w32 z) <ℤ pos 0
-  read-down h = subst (λ (y : ℤ). y <ℤ pos 0) (sym (toZ-ofZ f)) h
-
   pub up-cast : pos 0 ≤ℤ z → T (nonNeg (toZ w32 (ofZ w32 z))) × Fits w64 (natAbs (toZ w32 (ofZ w32 z)))
   up-cast h = (
     yes-nonNeg (read-up h),

@@ -10,13 +10,10 @@ use Rattle.verdict.specs.Checks.{Check, atMost, firstFault, each}
 use Rattle.verdict.specs.Scans.{scanned}
 use Rattle.verdict.specs.declared.Verdict.{Verdict}
 use Rattle.verdict.specs.declared.Verdict.the-variants.{Accepted}
-use Rattle.verdict.specs.declared.Scan.{Scan}
-use Rattle.verdict.specs.declared.Scan.the-variants.{End}
 use Rattle.verdict.proofs.Laws.{Clean, pass, clean-inv, fault-none, each-inv, each-clean}
 use Rattle.region.specs.Region.{countOf, startOf, fullOf, usedOf, endOf, Laid}
 use Rattle.region.specs.Checks.{field, segmentChecks, regionChecks}
-use Rattle.region.proofs.Laws.{start-next, end-le}
-use Rattle.verdict.proofs.Scans.{scanned-end}
+use Rattle.region.proofs.Laws.{start-next}
 
 module _ (size : ℕ) (b : List ℕ) (r : ℕ) where
   -- what holds of one segment
@@ -58,14 +55,6 @@ module _ (size : ℕ) (b : List ℕ) (r : ℕ) where
 
   pub laid-iff : firstFault (regionChecks size b r) ≡ Accepted ↔ Laid size b r
   laid-iff = (accepted-laid, laid-accepted)
-
-  -- what an end that `lay` answers tells
-  pub lay-told : {x : Scan} {e : ℕ} → x ≡ scanned (firstFault (regionChecks size b r)) (endOf size b r) → x ≡ End e
-      → Laid size b r × (e ≡ endOf size b r) × (e ≤ length b)
-  lay-told h l =
-      let t = scanned-end _ _ h l in
-      let g = accepted-laid (t .0) in
-      (g, t .1, omega (arith, t .1, end-le size b r g))
 
 -- the checks of the segment that starts at p
 abbrev pub headChecks : ℕ → List ℕ → ℕ → List Check

@@ -1,6 +1,6 @@
 -- Laws of specs/Region.antt, on which every later proof lives. Assumes nothing.
 use Prim.Native.Nat.{ℕ, zero, suc, _+_, _-_, _*_, _^_, _≤_, _<_}
-use native.Mathlib.Nat.{mul-le-mul-right, add-mul, suc-mul, add-zero, zero-add, not-suc-le-zero}
+use native.Mathlib.Nat.{mul-le-mul-right, add-mul, add-zero, zero-add, not-suc-le-zero}
 use native.Mathlib.Numerals.{add-one}
 use mathlib.Core.Path.{_≡_, refl, ap, sym, _∙_}
 use mathlib.Core.List.{List, _++_}
@@ -16,7 +16,7 @@ use Rattle.region.specs.declared.Place.the-variants.{At, Nowhere}
 use Rattle.region.specs.Region.{countOf, startOf, fullOf, usedOf, endOf, beforeOf, totalOf, placeOf, numberOf, Resolves, Ranges, Laid, inSegment, usedFrom, allUsed, rangeAt}
 
 module _ (size : ℕ) (b : List ℕ) (r : ℕ) where
-  -- 1. the next segment starts behind this one
+  -- the next segment starts behind this one
   pub start-next : (s : ℕ) → startOf size b r (s + 1) ≡ startOf size b r s + 8 + fullOf size b r s * size
   unfolding startOf fullOf
   start-next s = rw add-one
@@ -25,26 +25,16 @@ module _ (size : ℕ) (b : List ℕ) (r : ℕ) where
   unfolding beforeOf
   before-next s = rw add-one
 
-  -- 2. segments stand one behind the other
-  pub start-apart : (i k : ℕ) → startOf size b r i + 8 + fullOf size b r i * size ≤ startOf size b r (i + 1 + k)
-  start-apart i zero = rw (add-zero (i + 1)) (omega (arith, start-next i))
-  start-apart i (suc k) =
-      let e : i + 1 + suc k ≡ i + 1 + k + 1 = omega arith in
-      rw e (omega (arith, start-next (i + 1 + k), start-apart i k))
-
   pub before-apart : (i k : ℕ) → beforeOf size b r i + usedOf size b r i ≤ beforeOf size b r (i + 1 + k)
   before-apart i zero = rw (add-zero (i + 1)) (omega (arith, before-next i))
   before-apart i (suc k) =
       let e : i + 1 + suc k ≡ i + 1 + k + 1 = omega arith in
       rw e (omega (arith, before-next (i + 1 + k), before-apart i k))
 
-  pub start-order : (i j : ℕ) → i < j → startOf size b r i + 8 + fullOf size b r i * size ≤ startOf size b r j
-  start-order i j h = let e : j ≡ i + 1 + (j - (i + 1)) = omega arith in rw e (start-apart i (j - (i + 1)))
-
   pub before-order : (i j : ℕ) → i < j → beforeOf size b r i + usedOf size b r i ≤ beforeOf size b r j
   before-order i j h = let e : j ≡ i + 1 + (j - (i + 1)) = omega arith in rw e (before-apart i (j - (i + 1)))
 
-  -- 3. an element and a range lie in the file
+  -- an element and a range lie in the file
   pub range-fits : Laid size b r → (seg el n : ℕ) → Ranges size b r seg el n → placeOf size b r seg el + n * size ≤ length b
   unfolding placeOf
   range-fits g seg el n h =
@@ -57,7 +47,7 @@ module _ (size : ℕ) (b : List ℕ) (r : ℕ) where
   pub place-fits : Laid size b r → (seg el : ℕ) → Resolves size b r seg el → placeOf size b r seg el + size ≤ length b
   place-fits g seg el h = omega (arith, range-fits g seg el 1 (one-range seg el h))
 
-  -- 4. each element of a range resolves, and stands and counts in a row
+  -- each element of a range resolves, and stands and counts in a row
   pub range-each : (seg el n j : ℕ) → Ranges size b r seg el n → j < n → Resolves size b r seg (el + j)
   range-each seg el n j h l = record { seg-in = h .seg-in; el-in = omega (arith, h .els-in) }
 
@@ -69,7 +59,7 @@ module _ (size : ℕ) (b : List ℕ) (r : ℕ) where
   unfolding numberOf
   number-row seg el j = omega arith
 
-  -- 5. a number is below the total
+  -- a number is below the total
   pub number-lt : (seg el : ℕ) → Resolves size b r seg el → numberOf size b r seg el < totalOf size b r
   unfolding numberOf totalOf
   number-lt seg el h = omega (arith, h .el-in, before-order seg (countOf b r) (h .seg-in))
@@ -78,7 +68,7 @@ module _ (size : ℕ) (b : List ℕ) (r : ℕ) where
   unfolding numberOf totalOf
   range-numbers seg el n h = omega (arith, h .els-in, before-order seg (countOf b r) (h .seg-in))
 
-  -- 6. two addresses with one number are the same
+  -- two addresses with one number are the same
   pub number-same : (s e t f : ℕ) → Resolves size b r s e → Resolves size b r t f → numberOf size b r s e ≡ numberOf size b r t f → (s ≡ t) × (e ≡ f)
   unfolding numberOf
   number-same s e t f h l q =
@@ -90,36 +80,7 @@ module _ (size : ℕ) (b : List ℕ) (r : ℕ) where
       (λ gt. absurd (omega (arith, before-order t s gt, l .el-in)))
       (le-or-lt s t)
 
-  -- 7. file order and number order agree, so two addresses with one offset are the same
-  pub place-order : Laid size b r → (s e t f : ℕ) → Resolves size b r s e → Resolves size b r t f → numberOf size b r s e < numberOf size b r t f
-      → placeOf size b r s e + size ≤ placeOf size b r t f
-  unfolding numberOf placeOf
-  place-order g s e t f h l q =
-      ⊎-elim
-      (λ le. ⊎-elim
-      (λ ge.
-      let st : s ≡ t = omega arith in
-      let zb = ap (beforeOf size b r) st in
-      let zs = ap (startOf size b r) st in
-      omega (arith, suc-mul e size, mul-le-mul-right {m = suc e} {n = f} size (omega arith)))
-      (λ lt.
-      omega (arith, start-order s t lt, suc-mul e size, mul-le-mul-right {m = suc e} {n = fullOf size b r s} size (omega (arith, h .el-in, g .used s (h .seg-in)))))
-      (le-or-lt t s))
-      (λ gt. absurd (omega (arith, before-order t s gt, l .el-in)))
-      (le-or-lt s t)
-
-  pub place-same : Laid size b r → 0 < size → (s e t f : ℕ) → Resolves size b r s e → Resolves size b r t f → placeOf size b r s e ≡ placeOf size b r t f
-      → (s ≡ t) × (e ≡ f)
-  place-same g z s e t f h l q =
-      ⊎-elim
-      (λ le. ⊎-elim
-      (λ ge. number-same s e t f h l (omega arith))
-      (λ lt. absurd (omega (arith, place-order g s e t f h l lt)))
-      (le-or-lt (numberOf size b r t f) (numberOf size b r s e)))
-      (λ gt. absurd (omega (arith, place-order g t f s e l h gt)))
-      (le-or-lt (numberOf size b r s e) (numberOf size b r t f))
-
-  -- 8. each number below the total is some address's
+  -- each number below the total is some address's
   find-from : (n i : ℕ) → n ≤ countOf b r → i < beforeOf size b r n
       → (s : ℕ) × (e : ℕ) × Resolves size b r s e × (numberOf size b r s e ≡ i)
   unfolding numberOf beforeOf
@@ -134,7 +95,7 @@ module _ (size : ℕ) (b : List ℕ) (r : ℕ) where
   unfolding totalOf
   number-found i l = find-from (countOf b r) i (omega arith) l
 
-  -- 9. the enumeration: address s:e stands at its number, and there are as many as the total
+  -- the enumeration: address s:e stands at its number, and there are as many as the total
   length-in : (s e n : ℕ) → length (inSegment s e n) ≡ n
   unfolding inSegment
   length-in s e zero = refl
@@ -185,16 +146,7 @@ module _ (size : ℕ) (b : List ℕ) (r : ℕ) where
   unfolding allUsed numberOf beforeOf
   all-at s e h = at-from 0 (countOf b r) s e _ (omega arith) (omega (arith, h .seg-in)) (h .el-in) (omega arith)
 
-  -- 10. a region ends behind its segment count, in the file
-  pub start-after : (s : ℕ) → r + 4 ≤ startOf size b r s
-  unfolding startOf
-  start-after zero = omega arith
-  start-after (suc s) = omega (arith, start-after s)
-
-  pub end-after : r + 4 ≤ endOf size b r
-  unfolding endOf
-  end-after = start-after (countOf b r)
-
+  -- a laid region lies in the file
   start-in : Laid size b r → (s : ℕ) → s ≤ countOf b r → startOf size b r s ≤ length b
   unfolding startOf fullOf
   start-in g zero h = g .head
@@ -204,7 +156,7 @@ module _ (size : ℕ) (b : List ℕ) (r : ℕ) where
   unfolding endOf
   end-le g = start-in g (countOf b r) (omega arith)
 
-  -- 11. used elements stay few
+  -- used elements stay few
   before-small : Laid size b r → (s : ℕ) → s ≤ countOf b r → beforeOf size b r s ≤ 65535 * s
   unfolding beforeOf
   before-small g zero h = omega arith
@@ -213,11 +165,7 @@ module _ (size : ℕ) (b : List ℕ) (r : ℕ) where
   pub before-low : Laid size b r → (s : ℕ) → s ≤ countOf b r → beforeOf size b r s < 2 ^ 32
   before-low g s h = omega (arith, before-small g s h, g .few)
 
-  pub total-low : Laid size b r → totalOf size b r < 2 ^ 32
-  unfolding totalOf
-  total-low g = before-low g (countOf b r) (omega arith)
-
--- 12. what a place tells, and when it is answered
+-- what a place tells, and when it is answered
 no-place : {p : ℕ} → _≡_ {A = Place} (At p) Nowhere → ⊥
 no-place z = let e : _≡_ {A = ℕ} 0 1 = cc in omega arith
 

@@ -13,7 +13,7 @@ use lib.ListN.{length, getD}
 use Rattle.laws.proofs.Order.{le-or-lt}
 use Rattle.le.specs.Le.{u16At}
 use Rattle.region.specs.Region.{Laid, Resolves, placeOf}
-use Rattle.text.specs.Text.{chars, upToZero, textIn, EndedIn, roomAt, textAt, EndedAt}
+use Rattle.text.specs.Text.{chars, upToZero, textIn, EndedIn, roomAt}
 
 -- ---- characters
 
@@ -112,25 +112,9 @@ ended-iff b p n = (
   λ h. (length (textIn b p n), h, text-end b p n h),
 )
 
--- characters that hold a 0 are no text
-pub text-no-zero : (b s : List ℕ) (p n q k : ℕ) → textIn b p n ≡ chars s q k → (i : ℕ) → i < k → u16At s (q + 2 * i) ≡ 0 → ⊥
-text-no-zero b s p n q k e i h z =
-    let l : length (textIn b p n) ≡ k = ap length e ∙ length-chars s q k in
-    let m : i < length (textIn b p n) = omega arith in
-    text-live b p n i m
-    (sym (chars-at b p (length (textIn b p n)) i m) ∙ ap (λ (t : List ℕ). getD t i 0) (sym (text-chars b p n) ∙ e) ∙ chars-at s q k i h ∙ z)
-
 -- ---- at an address
 
 module _ (b : List ℕ) (r seg el : ℕ) where
-  pub text-at : textAt b r seg el ≡ textIn b (placeOf 2 b r seg el) (roomAt b r seg el)
-  unfolding textAt
-  text-at = refl
-
-  pub ended-at : EndedAt b r seg el ≡ EndedIn b (placeOf 2 b r seg el) (roomAt b r seg el)
-  unfolding EndedAt
-  ended-at = refl
-
   -- an address that resolves has at least one character left, and all that are left lie in the file
   pub room-some : Resolves 2 b r seg el → 0 < roomAt b r seg el
   unfolding roomAt

@@ -1,13 +1,13 @@
 -- Nodes by number: segment and element of an address, and the elements of a child range. Assumes nothing.
 use Prim.Native.Nat.{ℕ, _+_, _*_, _/_, _%_, _<_}
 use native.Mathlib.Omega.{arith}
-use mathlib.Core.Path.{_≡_, sym, _∙_}
+use mathlib.Core.Path.{_≡_, _∙_}
 use mathlib.Core.Logic.{⊎-elim}
 use mathlib.Core.List.{List}
 use Rattle.region.specs.Region.{Resolves, Ranges, Laid}
 use Rattle.region.proofs.Laws.{range-each, place-row}
 use Rattle.layout.specs.Layout.{nodeSize, nodesAt}
-use Rattle.nodes.specs.Node.{childSegment, childElement, childCount, nodeAt, childAt}
+use Rattle.nodes.specs.Node.{childSegment, childElement, childCount, nodeAt}
 use Rattle.nodes.specs.Rules.{NodesRules}
 use Rattle.tree.specs.Chain.{child}
 use Rattle.tree.specs.File.{address, nodeOf, Used, treeOf}
@@ -59,7 +59,3 @@ module _ (b : List ℕ) where
       pub used-child : (j : ℕ) → j < treeOf b .count a → Used b (child (treeOf b) a j)
       unfolding treeOf
       used-child j l = child-used _ _ _ j (range-of j l) l
-
-      pub place-child : (j : ℕ) → j < treeOf b .count a → nodeOf b (child (treeOf b) a j) ≡ childAt b (nodeOf b a) j
-      unfolding treeOf childAt nodeAt
-      place-child j l = child-place _ _ _ j (range-of j l) l ∙ sym (place-row nodeSize b (nodesAt b) _ _ j)
