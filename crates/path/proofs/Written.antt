@@ -7,7 +7,8 @@ use lib.ListN.{length, length-append}
 use Rattle.laws.specs.Lists.{splice}
 use Rattle.laws.proofs.Splice.{splice-nil, splice-length, splice-append}
 use Rattle.le.specs.Le.{le4}
-use Rattle.path.specs.Listing.{encode, Wrote}
+use Rattle.path.specs.Listing.{encode}
+use Rattle.path.specs.Written.{Wrote}
 
 encode-append : (s t : List ℕ) → encode (s ++ t) ≡ encode s ++ encode t
 unfolding encode le4

@@ -1,11 +1,9 @@
 -- Path listing (01, "Questions"): the matches written out, or refusal 25.
-use Prim.Native.Nat.{ℕ, _+_, _*_, _/_, _≤_}
-use mathlib.Core.Path.{_≡_}
+use Prim.Native.Nat.{ℕ, _+_, _/_}
 use mathlib.Core.Bool.{Bool, true, false, cond, not, _&&_}
 use mathlib.Core.List.{List, [], _∷_, _++_}
 use lib.Dec.{eqb}
 use lib.ListN.{length, drop}
-use Rattle.laws.specs.Lists.{splice}
 use Rattle.le.specs.Le.{le4}
 use Rattle.verdict.specs.Checks.{Check, atMost}
 use Rattle.verdict.specs.Decide.{texts?}
@@ -35,12 +33,6 @@ pathMatches b path = matches (treeOf b) (nameText b) (namesOf path) 0
 unfoldable pub encode : List ℕ → List ℕ
 encode [] = []
 encode (a ∷ l) = le4 a ++ encode l
-
--- The nodes l were listed from place k of d on: `next` is the place after them, and where that is no further than d reaches, d′ holds them.
-pub record Wrote (d : List ℕ) (k : ℕ) (l : List ℕ) (next : ℕ) (d′ : List ℕ) : Type 0 where
-  pub next-is : next ≡ k + length l
-  pub size : length d′ ≡ length d
-  pub bytes-are : 4 * next ≤ length d → d′ ≡ splice d (4 * k) (encode l)
 
 -- 25: a listing has as many places as its length divided by four, rounded down; the place is the number of matches.
 unfoldable pub listingChecks : List ℕ → List ℕ → ℕ → List Check

@@ -5,7 +5,7 @@ ghost use lib.ListN.{length};
 ghost use Rattle.tree.specs.File.{Used, nodeOf, treeOf};
 ghost use Rattle.tree.specs.Outcome.{TreeReady};
 ghost use Rattle.path.specs.Indices.{matchesAt, indicesFrom};
-ghost use Rattle.path.specs.Listing.{Wrote};
+ghost use Rattle.path.specs.Written.{Wrote};
 use region::Region;
 use tree::ranges;
 
