@@ -50,7 +50,7 @@ struct Ends {
 }
 
 // Two places of the text of entry j in the bucket of hash h. Where there is no such entry, any place will do.
-fn ends_of(b: &[u8], s: Strings, samples: &[u32; 256], starts: &[u32], h: usize, j: usize) -> Ends
+fn ends_of(b: &[u8], s: Strings, samples: &[u32; 1024], starts: &[u32], h: usize, j: usize) -> Ends
     requires { ⌜ Held (now b) s (now samples) (now starts) ⌝ }
     ensures { λ r. ⌜ (r .first + 2 ≤ length (now (b .entry))) × (r .later + 2 ≤ length (now (b .entry))) ⌝ }
 {
@@ -80,7 +80,7 @@ fn ends_of(b: &[u8], s: Strings, samples: &[u32; 256], starts: &[u32], h: usize,
 fn find_ends(
     b: &[u8],
     s: Strings,
-    samples: &[u32; 256],
+    samples: &[u32; 1024],
     starts: &[u32],
     hashes: &[u32; 64],
     low: &[usize; 64],
@@ -120,7 +120,7 @@ fn read_ends(b: &[u8], first: &[u32; 64], later: &[u32; 64], n: usize, low: &mut
 pub fn bring_near(
     b: &[u8],
     s: Strings,
-    samples: &[u32; 256],
+    samples: &[u32; 1024],
     starts: &[u32],
     hashes: &[u32; 64],
     n: usize,

@@ -27,7 +27,7 @@ pub struct Specials {
 fn listed_is(
     b: &[u8],
     s: Strings,
-    samples: &[u32; 256],
+    samples: &[u32; 1024],
     starts: &[u32],
     i: usize,
     x: &[u8],
@@ -45,7 +45,7 @@ fn listed_is(
 }
 
 // Refusal 14 of a file whose names table passed 7 to 13.
-pub fn check_special(b: &[u8], s: Strings, samples: &[u32; 256], starts: &[u32]) -> Specials
+pub fn check_special(b: &[u8], s: Strings, samples: &[u32; 1024], starts: &[u32]) -> Specials
     requires { ⌜ Held (now b) s (now samples) (now starts) × (heldTable (now b) s (now starts) ≡ names (now b))
         × (firstFault (stringChecks (heldTable (now b) s (now starts))) ≡ Accepted) ⌝ }
     ensures { λ r. ⌜ SpecialsFound (now (b .entry)) r ⌝ }

@@ -107,15 +107,15 @@ fn view_of(b: &[u8], w: Walk, value_buckets: [u32; 1024], name_buckets: [u32; 51
     let nodes = region::mapped(b, w.nodes, NODE_SIZE);
     let value_chars = region::mapped(b, w.values, CHARACTER_SIZE);
     let name_chars = region::mapped(b, w.names, CHARACTER_SIZE);
-    let mut attribute_starts = [0u32; 256];
+    let mut attribute_starts = [0u32; 1024];
     region::sample_starts(b, attributes, ATTRIBUTE_SIZE, &mut attribute_starts);
-    let mut node_starts = [0u32; 256];
+    let mut node_starts = [0u32; 1024];
     region::sample_starts(b, nodes, NODE_SIZE, &mut node_starts);
-    let mut node_counts = [0u32; 256];
+    let mut node_counts = [0u32; 1024];
     let used_nodes = region::sample_counts(b, nodes, NODE_SIZE, &mut node_counts);
-    let mut value_starts = [0u32; 256];
+    let mut value_starts = [0u32; 1024];
     region::sample_starts(b, value_chars, CHARACTER_SIZE, &mut value_starts);
-    let mut name_starts = [0u32; 256];
+    let mut name_starts = [0u32; 1024];
     region::sample_starts(b, name_chars, CHARACTER_SIZE, &mut name_starts);
     View {
         header: front::report(b),
@@ -166,11 +166,11 @@ fn no_view() -> View {
             name_chars: none,
             name_list: 0,
         },
-        attribute_starts: [0u32; 256],
-        node_starts: [0u32; 256],
-        node_counts: [0u32; 256],
-        value_starts: [0u32; 256],
-        name_starts: [0u32; 256],
+        attribute_starts: [0u32; 1024],
+        node_starts: [0u32; 1024],
+        node_counts: [0u32; 1024],
+        value_starts: [0u32; 1024],
+        name_starts: [0u32; 1024],
         value_buckets: [0u32; 1024],
         name_buckets: [0u32; 512],
     }

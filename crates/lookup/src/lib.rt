@@ -34,7 +34,7 @@ pub enum Kind {
 fn entry_bears(
     b: &[u8],
     s: Strings,
-    samples: &[u32; 256],
+    samples: &[u32; 1024],
     starts: &[u32],
     k: usize,
     j: usize,
@@ -62,7 +62,7 @@ fn entry_bears(
 fn find_entry(
     b: &[u8],
     s: Strings,
-    samples: &[u32; 256],
+    samples: &[u32; 1024],
     starts: &[u32],
     h: usize,
     low: usize,
@@ -95,7 +95,7 @@ fn find_entry(
 pub fn find_from(
     b: &[u8],
     s: Strings,
-    samples: &[u32; 256],
+    samples: &[u32; 1024],
     starts: &[u32],
     kind: Kind,
     h: usize,
@@ -123,7 +123,7 @@ pub fn find_text(
     b: &[u8],
     t: &[u32; 1024],
     s: Strings,
-    samples: &[u32; 256],
+    samples: &[u32; 1024],
     starts: &[u32],
     kind: Kind,
     q: &[u8],

@@ -17,9 +17,9 @@ pub fn check_nodes(
     t: &[u32; 1024],
     p: Places,
     names: Names,
-    attribute_starts: &[u32; 256],
-    node_starts: &[u32; 256],
-    value_starts: &[u32; 256],
+    attribute_starts: &[u32; 1024],
+    node_starts: &[u32; 1024],
+    value_starts: &[u32; 1024],
     value_buckets: &[u32],
     known: bool,
 ) -> Verdict

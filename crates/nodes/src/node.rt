@@ -70,7 +70,7 @@ fn rising(b: &[u8], q: usize, n: usize) -> bool
 }
 
 // Whether refusal 23 is not due to the live node at p.
-fn children_right(b: &[u8], nodes: Region, starts: &[u32; 256], p: usize) -> bool
+fn children_right(b: &[u8], nodes: Region, starts: &[u32; 1024], p: usize) -> bool
     requires { ⌜ Mapped nodeSize (now b) (nodesAt (now b)) nodes × Starts nodeSize (now b) (nodesAt (now b)) (nodes .shift) (now starts) ⌝ }
     requires { ⌜ (p + 24 ≤ length (now b)) × Live (now b) p ⌝ }
     ensures { λ r. ⌜ Tells (ChildRule (now (b .entry)) p) r ⌝ }
@@ -100,9 +100,9 @@ pub fn check_node(
     t: &[u32; 1024],
     p: Places,
     names: Names,
-    attribute_starts: &[u32; 256],
-    node_starts: &[u32; 256],
-    value_starts: &[u32; 256],
+    attribute_starts: &[u32; 1024],
+    node_starts: &[u32; 1024],
+    value_starts: &[u32; 1024],
     value_buckets: &[u32],
     seg: usize,
     el: usize,

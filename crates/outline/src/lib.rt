@@ -22,10 +22,10 @@ pub struct Outlined {
 pub fn write_outline(
     b: &[u8],
     p: Places,
-    attribute_starts: &[u32; 256],
-    node_starts: &[u32; 256],
-    value_starts: &[u32; 256],
-    name_starts: &[u32; 256],
+    attribute_starts: &[u32; 1024],
+    node_starts: &[u32; 1024],
+    value_starts: &[u32; 1024],
+    name_starts: &[u32; 1024],
     out: &mut [u8],
 ) -> Outlined
     requires { ⌜ OutlineReady (now b) p (now «attribute_starts») (now «node_starts») (now «value_starts») (now «name_starts») ⌝ }

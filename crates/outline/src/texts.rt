@@ -35,7 +35,7 @@ fn put_chars(b: &[u8], q: usize, n: usize, out: &mut [u8], at: usize) -> usize
 pub fn put_text(
     b: &[u8],
     chars: Region,
-    samples: &[u32; 256],
+    samples: &[u32; 1024],
     seg: usize,
     el: usize,
     out: &mut [u8],
@@ -54,7 +54,7 @@ pub fn put_text(
 pub fn put_name(
     b: &[u8],
     p: Places,
-    samples: &[u32; 256],
+    samples: &[u32; 1024],
     i: usize,
     out: &mut [u8],
     at: usize,

@@ -27,7 +27,7 @@ fn put_truth(t: bool, out: &mut [u8], at: usize) -> usize
 fn put_value(
     b: &[u8],
     p: Places,
-    samples: &[u32; 256],
+    samples: &[u32; 1024],
     q: usize,
     out: &mut [u8],
     at: usize,
@@ -57,8 +57,8 @@ fn put_value(
 fn put_attribute(
     b: &[u8],
     p: Places,
-    value_starts: &[u32; 256],
-    name_starts: &[u32; 256],
+    value_starts: &[u32; 1024],
+    name_starts: &[u32; 1024],
     q: usize,
     out: &mut [u8],
     at: usize,
@@ -77,9 +77,9 @@ fn put_attribute(
 pub fn put_attributes(
     b: &[u8],
     p: Places,
-    attribute_starts: &[u32; 256],
-    value_starts: &[u32; 256],
-    name_starts: &[u32; 256],
+    attribute_starts: &[u32; 1024],
+    value_starts: &[u32; 1024],
+    name_starts: &[u32; 1024],
     x: usize,
     out: &mut [u8],
     at: usize,

@@ -14,7 +14,7 @@ use tree::ranges;
 pub fn list_below(
     b: &[u8],
     nodes: Region,
-    starts: &[u32; 256],
+    starts: &[u32; 1024],
     wanted: &[u32; 64],
     n: usize,
     at: usize,

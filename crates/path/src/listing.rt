@@ -26,10 +26,10 @@ pub fn list_path(
     b: &[u8],
     t: &[u32; 1024],
     s: Strings,
-    samples: &[u32; 256],
+    samples: &[u32; 1024],
     buckets: &[u32],
     nodes: Region,
-    starts: &[u32; 256],
+    starts: &[u32; 1024],
     path: &[u8],
     list: &mut [u8],
 ) -> Listing

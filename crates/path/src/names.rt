@@ -55,7 +55,7 @@ pub fn find_names(
     b: &[u8],
     t: &[u32; 1024],
     s: Strings,
-    samples: &[u32; 256],
+    samples: &[u32; 1024],
     starts: &[u32],
     path: &[u8],
 ) -> Wanted

@@ -21,7 +21,7 @@ fn carried(
     b: &[u8],
     t: &[u32; 1024],
     s: Strings,
-    samples: &[u32; 256],
+    samples: &[u32; 1024],
     starts: &[u32],
     i: usize,
 ) -> bool
@@ -43,7 +43,7 @@ fn carried(
 
 // The number of entries of all buckets, by the bytes that they take: from the first bucket's start up to the address
 // count there are 4 a bucket and 16 an entry.
-fn entry_total(b: &[u8], s: Strings, samples: &[u32; 256], starts: &[u32]) -> usize
+fn entry_total(b: &[u8], s: Strings, samples: &[u32; 1024], starts: &[u32]) -> usize
     requires { ⌜ Held (now b) s (now samples) (now starts) ⌝ }
     ensures { λ r. ⌜ (r ≡ allEntries (heldTable (now (b .entry)) s (now (starts .entry)))) × (r < 2 ^ 32) ⌝ }
 {
@@ -55,7 +55,7 @@ pub fn check_positions(
     b: &[u8],
     t: &[u32; 1024],
     s: Strings,
-    samples: &[u32; 256],
+    samples: &[u32; 1024],
     starts: &[u32],
 ) -> Verdict
     requires { ⌜ Tables (now t) × Held (now b) s (now samples) (now starts)
@@ -83,7 +83,7 @@ pub fn check_table(
     b: &[u8],
     t: &[u32; 1024],
     s: Strings,
-    samples: &[u32; 256],
+    samples: &[u32; 1024],
     starts: &[u32],
 ) -> Verdict
     requires { ⌜ Tables (now t) × Held (now b) s (now samples) (now starts) ⌝ }

@@ -25,7 +25,7 @@ pub fn texts_right(
     t: &[u32; 1024],
     attributes: Region,
     s: Strings,
-    samples: &[u32; 256],
+    samples: &[u32; 1024],
     starts: &[u32],
 ) -> bool
     requires { ⌜ Tables (now t) × Held (now b) s (now samples) (now starts) × (heldTable (now b) s (now starts) ≡ values (now b))
@@ -57,9 +57,9 @@ pub fn check_nodes(
     t: &[u32; 1024],
     p: Places,
     names: Names,
-    attribute_starts: &[u32; 256],
-    node_starts: &[u32; 256],
-    value_starts: &[u32; 256],
+    attribute_starts: &[u32; 1024],
+    node_starts: &[u32; 1024],
+    value_starts: &[u32; 1024],
     value_buckets: &[u32],
 ) -> Verdict
     requires { ⌜ Tables (now t) × Ready (now b) p names (now «attribute_starts») (now «node_starts») (now «value_starts») (now «value_buckets») ⌝ }

@@ -33,7 +33,7 @@ use text::Hashes;
 fn find_spots(
     b: &[u8],
     chars: Region,
-    samples: &[u32; 256],
+    samples: &[u32; 1024],
     slots: &[u32; 64],
     n: usize,
     at: &mut [u32; 64],
@@ -124,7 +124,7 @@ fn hash_texts(
 fn found(
     b: &[u8],
     s: Strings,
-    samples: &[u32; 256],
+    samples: &[u32; 1024],
     starts: &[u32],
     q: usize,
     h: usize,
@@ -142,7 +142,7 @@ fn found(
 fn find_entries(
     b: &[u8],
     s: Strings,
-    samples: &[u32; 256],
+    samples: &[u32; 1024],
     starts: &[u32],
     slots: &[u32; 64],
     n: usize,
@@ -177,7 +177,7 @@ pub fn batch_right(
     b: &[u8],
     t: &[u32; 1024],
     s: Strings,
-    samples: &[u32; 256],
+    samples: &[u32; 1024],
     starts: &[u32],
     slots: &[u32; 64],
     n: usize,

@@ -53,17 +53,17 @@ module _ (f : ℕ → ℕ) (m : ℕ) where
       }
 
 -- a stride that does not reach yet is below the last, and doubles
-pub stride-grows : (count shift mask : ℕ) → count ≤ 65535 → 256 * (mask + 1) < count → mask + 1 ≡ 2 ^ shift
-    → (mask * 2 + 1 + 1 ≡ 2 ^ (shift + 1)) × (shift + 1 ≤ 8) × (mask * 2 + 1 ≤ 65535)
+pub stride-grows : (count shift mask : ℕ) → count ≤ 65535 → 1024 * (mask + 1) < count → mask + 1 ≡ 2 ^ shift
+    → (mask * 2 + 1 + 1 ≡ 2 ^ (shift + 1)) × (shift + 1 ≤ 6) × (mask * 2 + 1 ≤ 65535)
 stride-grows count shift mask h l q =
     let d = ap (λ (x : ℕ). 2 ^ x) (add-one shift) in
     let w = pow-suc 2 shift in
-    (omega arith, ⊎-elim (λ g. absurd (omega (arith, pow-le-pow-right {n = 2} (lit< tt) {i = 8} {j = shift} g))) (λ g. omega arith) (le-or-lt 8 shift), omega arith)
+    (omega arith, ⊎-elim (λ g. absurd (omega (arith, pow-le-pow-right {n = 2} (lit< tt) {i = 6} {j = shift} g))) (λ g. omega arith) (le-or-lt 6 shift), omega arith)
 
 -- a shift and a mask that are right for count segments
 module _ {count shift mask : ℕ} (t : Stride count shift mask) where
-  pub sample-in : (s : ℕ) → s < count → s / 2 ^ shift < 256
-  sample-in s h = div-lt-iff-lt-mul {k = 2 ^ shift} {x = s} {y = 256} (pow-pos shift) .1 (omega (arith, t .reach))
+  pub sample-in : (s : ℕ) → s < count → s / 2 ^ shift < 1024
+  sample-in s h = div-lt-iff-lt-mul {k = 2 ^ shift} {x = s} {y = 1024} (pow-pos shift) .1 (omega (arith, t .reach))
 
   pub mask-rem : (s : ℕ) → bitAnd s mask ≡ s % 2 ^ shift
   mask-rem s = let e : mask ≡ 2 ^ shift - 1 = omega (arith, t .mask-is) in rw e (and-mask s shift)
@@ -80,9 +80,9 @@ module _ {count shift mask : ℕ} (t : Stride count shift mask) where
       g .at (s / 2 ^ shift) (omega arith) ∙ ap f e
 
   -- one turn of a loop that samples f: at a multiple of the stride it sets, elsewhere it goes on
-  pub sample-turn : (f : ℕ → ℕ) (s x : ℕ) (xs ys : List ℕ) → s < count → x ≡ f s → length xs ≡ 256 → Sampled f (2 ^ shift) s xs
+  pub sample-turn : (f : ℕ → ℕ) (s x : ℕ) (xs ys : List ℕ) → s < count → x ≡ f s → length xs ≡ 1024 → Sampled f (2 ^ shift) s xs
       → ((bitAnd s mask ≡ 0) × (ys ≡ set xs (s / 2 ^ shift) x)) ⊎ ((bitAnd s mask ≡ 0 → ⊥) × (ys ≡ xs))
-      → Sampled f (2 ^ shift) (s + 1) ys × (length ys ≡ 256)
+      → Sampled f (2 ^ shift) (s + 1) ys × (length ys ≡ 1024)
   sample-turn f s x xs ys h q l g (inl w) =
       let i = sample-in s h in
       rw (w .1) (sampled-set f _ s x xs (pow-pos shift) (sym (mask-rem s) ∙ w .0) q (omega arith) g, length-set xs (s / 2 ^ shift) x ∙ l)

@@ -10,11 +10,11 @@ use Rattle.region.specs.declared.Region.{Region}
 pub record Sampled (f : ℕ → ℕ) (m n : ℕ) (xs : List ℕ) : Type 0 where
   pub at : (k : ℕ) → k * m < n → getD xs k 0 ≡ f (k * m)
 
--- The shift is right for n segments and 256 samples, and the mask goes with it.
+-- The shift is right for n segments and 1024 samples, and the mask goes with it.
 pub record Stride (n shift mask : ℕ) : Type 0 where
-  pub low : shift ≤ 8
+  pub low : shift ≤ 6
   pub mask-is : mask + 1 ≡ 2 ^ shift
-  pub reach : n ≤ 256 * 2 ^ shift
+  pub reach : n ≤ 1024 * 2 ^ shift
 
 -- The code's region is the one laid at offset at of the file.
 pub record Mapped (size : ℕ) (b : List ℕ) (at : ℕ) (r : Region) : Type 0 where
@@ -28,9 +28,9 @@ pub record Mapped (size : ℕ) (b : List ℕ) (at : ℕ) (r : Region) : Type 0 w
 
 -- Its samples: where segments start, and how many used elements are before them.
 pub record Starts (size : ℕ) (b : List ℕ) (at shift : ℕ) (xs : List ℕ) : Type 0 where
-  pub long : length xs ≡ 256
+  pub long : length xs ≡ 1024
   pub sampled : Sampled (startOf size b at) (2 ^ shift) (countOf b at) xs
 
 pub record Counts (size : ℕ) (b : List ℕ) (at shift : ℕ) (xs : List ℕ) : Type 0 where
-  pub long : length xs ≡ 256
+  pub long : length xs ≡ 1024
   pub sampled : Sampled (beforeOf size b at) (2 ^ shift) (countOf b at) xs

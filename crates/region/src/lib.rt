@@ -96,7 +96,7 @@ pub fn mapped(b: &[u8], at: usize, size: usize) -> Region
     let count = le::u32_at(b, at);
     let mut shift = 0u32;
     let mut mask = 0usize;
-    while 256 * (mask + 1) < count {
+    while 1024 * (mask + 1) < count {
         mask = mask * 2 + 1;
         shift += 1;
     }
@@ -109,8 +109,8 @@ pub fn mapped(b: &[u8], at: usize, size: usize) -> Region
 }
 
 // Fills the samples of segment starts.
-pub fn sample_starts(b: &[u8], r: Region, size: usize, starts: &mut [u32; 256])
-    requires { ⌜ Mapped size (now b) (r .at) r × (length (now starts) ≡ 256) ⌝ }
+pub fn sample_starts(b: &[u8], r: Region, size: usize, starts: &mut [u32; 1024])
+    requires { ⌜ Mapped size (now b) (r .at) r × (length (now starts) ≡ 1024) ⌝ }
     ensures { λ _. ⌜ Starts size (now (b .entry)) (r .at) (r .shift) (now (starts .exit)) ⌝ }
 {
     let mask = r.mask;
@@ -126,8 +126,8 @@ pub fn sample_starts(b: &[u8], r: Region, size: usize, starts: &mut [u32; 256])
 }
 
 // Fills the samples of used elements before a segment, and answers how many used elements there are.
-pub fn sample_counts(b: &[u8], r: Region, size: usize, counts: &mut [u32; 256]) -> usize
-    requires { ⌜ Mapped size (now b) (r .at) r × (length (now counts) ≡ 256) ⌝ }
+pub fn sample_counts(b: &[u8], r: Region, size: usize, counts: &mut [u32; 1024]) -> usize
+    requires { ⌜ Mapped size (now b) (r .at) r × (length (now counts) ≡ 1024) ⌝ }
     ensures { λ n. ⌜ (n ≡ totalOf size (now (b .entry)) (r .at)) × Counts size (now (b .entry)) (r .at) (r .shift) (now (counts .exit)) ⌝ }
 {
     let mask = r.mask;
@@ -146,7 +146,7 @@ pub fn sample_counts(b: &[u8], r: Region, size: usize, counts: &mut [u32; 256]) 
 }
 
 // Where segment seg starts: from the sample before it, at most mask headers on.
-pub fn locate(b: &[u8], r: Region, size: usize, starts: &[u32; 256], seg: usize) -> usize
+pub fn locate(b: &[u8], r: Region, size: usize, starts: &[u32; 1024], seg: usize) -> usize
     requires { ⌜ Mapped size (now b) (r .at) r × Starts size (now b) (r .at) (r .shift) (now starts) × (seg < r .count) ⌝ }
     ensures { λ p. ⌜ p ≡ startOf size (now (b .entry)) (r .at) seg ⌝ }
 {
@@ -164,7 +164,7 @@ pub fn range_at(
     b: &[u8],
     r: Region,
     size: usize,
-    starts: &[u32; 256],
+    starts: &[u32; 1024],
     seg: usize,
     el: usize,
     n: usize,
@@ -188,8 +188,8 @@ pub fn number(
     b: &[u8],
     r: Region,
     size: usize,
-    starts: &[u32; 256],
-    counts: &[u32; 256],
+    starts: &[u32; 1024],
+    counts: &[u32; 1024],
     seg: usize,
     el: usize,
 ) -> usize

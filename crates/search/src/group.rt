@@ -23,7 +23,7 @@ struct Target {
 }
 
 // Whether the buckets of a table take that many bytes: where they do, most looks at what they lead to would wait for memory.
-pub fn spread(b: &[u8], s: Strings, samples: &[u32; 256], starts: &[u32], bytes: usize) -> bool
+pub fn spread(b: &[u8], s: Strings, samples: &[u32; 1024], starts: &[u32], bytes: usize) -> bool
     requires { ⌜ Held (now b) s (now samples) (now starts) ⌝ }
     ensures { λ r. ⌜ Tells (bucketAt (heldTable (now (b .entry)) s (now (starts .entry))) 0 + bytes ≤ s .list) r ⌝ }
 {
@@ -37,7 +37,7 @@ pub fn spread(b: &[u8], s: Strings, samples: &[u32; 256], starts: &[u32], bytes:
 fn aim_at(
     b: &[u8],
     s: Strings,
-    samples: &[u32; 256],
+    samples: &[u32; 1024],
     starts: &[u32],
     h: usize,
     g: usize,
@@ -66,7 +66,7 @@ fn aim_at(
 fn aim(
     b: &[u8],
     s: Strings,
-    samples: &[u32; 256],
+    samples: &[u32; 1024],
     starts: &[u32],
     hashes: &[u32; 64],
     n: usize,
@@ -112,7 +112,7 @@ fn look(b: &[u8], n: usize, at: &[u32; 64], met: &mut [u32; 64])
 fn approach(
     b: &[u8],
     s: Strings,
-    samples: &[u32; 256],
+    samples: &[u32; 1024],
     starts: &[u32],
     hashes: &[u32; 64],
     n: usize,
@@ -137,7 +137,7 @@ fn approach(
 fn low_from(
     b: &[u8],
     s: Strings,
-    samples: &[u32; 256],
+    samples: &[u32; 1024],
     starts: &[u32],
     h: usize,
     g: usize,
@@ -160,7 +160,7 @@ fn low_from(
 pub fn settle(
     b: &[u8],
     s: Strings,
-    samples: &[u32; 256],
+    samples: &[u32; 1024],
     starts: &[u32],
     hashes: &[u32; 64],
     n: usize,

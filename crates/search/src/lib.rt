@@ -41,7 +41,7 @@ fn expected(n: usize, h: usize, g: usize, w: usize) -> usize
 fn guess(
     b: &[u8],
     s: Strings,
-    samples: &[u32; 256],
+    samples: &[u32; 1024],
     starts: &[u32],
     k: usize,
     n: usize,
@@ -74,7 +74,7 @@ fn probe(lo: usize, hi: usize, up: bool, reach: usize) -> usize
 pub fn lower(
     b: &[u8],
     s: Strings,
-    samples: &[u32; 256],
+    samples: &[u32; 1024],
     starts: &[u32],
     k: usize,
     h: usize,

@@ -15,7 +15,7 @@ use strings::entry;
 fn not_below(
     b: &[u8],
     s: Strings,
-    samples: &[u32; 256],
+    samples: &[u32; 1024],
     starts: &[u32],
     k: usize,
     h: usize,
@@ -47,7 +47,7 @@ fn not_below(
 pub fn lower_near(
     b: &[u8],
     s: Strings,
-    samples: &[u32; 256],
+    samples: &[u32; 1024],
     starts: &[u32],
     k: usize,
     h: usize,

@@ -16,7 +16,7 @@ use strings::entry;
 pub fn run_has(
     b: &[u8],
     s: Strings,
-    samples: &[u32; 256],
+    samples: &[u32; 1024],
     starts: &[u32],
     k: usize,
     h: usize,

@@ -47,7 +47,7 @@ pub fn touch(b: &[u8], p: usize, n: usize) -> usize
 fn glance_at(
     b: &[u8],
     s: Strings,
-    samples: &[u32; 256],
+    samples: &[u32; 1024],
     starts: &[u32],
     k: usize,
     j: usize,
@@ -85,7 +85,7 @@ fn at_most_16(left: usize) -> usize
 pub fn read_ahead(
     b: &[u8],
     s: Strings,
-    samples: &[u32; 256],
+    samples: &[u32; 1024],
     starts: &[u32],
     k: usize,
     n: usize,

@@ -24,7 +24,7 @@ use verdict::Verdict;
 pub fn entry_at(
     b: &[u8],
     s: Strings,
-    samples: &[u32; 256],
+    samples: &[u32; 1024],
     starts: &[u32],
     k: usize,
     j: usize,
@@ -36,7 +36,7 @@ pub fn entry_at(
 }
 
 // The number of entries of bucket k.
-pub fn entry_count(b: &[u8], s: Strings, samples: &[u32; 256], starts: &[u32], k: usize) -> usize
+pub fn entry_count(b: &[u8], s: Strings, samples: &[u32; 1024], starts: &[u32], k: usize) -> usize
     requires { ⌜ Held (now b) s (now samples) (now starts) × (k < length (now starts)) ⌝ }
     ensures { λ r. ⌜ r ≡ entries (heldTable (now (b .entry)) s (now (starts .entry))) k ⌝ }
 {
@@ -44,7 +44,7 @@ pub fn entry_count(b: &[u8], s: Strings, samples: &[u32; 256], starts: &[u32], k
 }
 
 // Refusal 10 is not due.
-fn placed(b: &[u8], s: Strings, samples: &[u32; 256], starts: &[u32], k: usize, j: usize) -> bool
+fn placed(b: &[u8], s: Strings, samples: &[u32; 1024], starts: &[u32], k: usize, j: usize) -> bool
     requires { ⌜ Held (now b) s (now samples) (now starts) × Here (heldTable (now b) s (now starts)) k j ⌝ }
     ensures { λ r. ⌜ Tells (Placed (heldTable (now (b .entry)) s (now (starts .entry))) k j) r ⌝ }
 {
@@ -63,7 +63,7 @@ fn placed(b: &[u8], s: Strings, samples: &[u32; 256], starts: &[u32], k: usize, 
 pub fn indexed(
     b: &[u8],
     s: Strings,
-    samples: &[u32; 256],
+    samples: &[u32; 1024],
     starts: &[u32],
     k: usize,
     j: usize,
@@ -90,7 +90,7 @@ pub fn indexed(
 fn same_text(
     b: &[u8],
     s: Strings,
-    samples: &[u32; 256],
+    samples: &[u32; 1024],
     starts: &[u32],
     k: usize,
     i: usize,
@@ -117,7 +117,7 @@ fn same_text(
 
 // What refusal 12 is given for. Texts that are the same have one hash, and hashes ascend: only the run of entries just
 // before with the same hash is read.
-fn twin(b: &[u8], s: Strings, samples: &[u32; 256], starts: &[u32], k: usize, j: usize) -> bool
+fn twin(b: &[u8], s: Strings, samples: &[u32; 1024], starts: &[u32], k: usize, j: usize) -> bool
     requires { ⌜ Held (now b) s (now samples) (now starts) × Here (heldTable (now b) s (now starts)) k j
         × Sorted (heldTable (now b) s (now starts)) k j ⌝ }
     ensures { λ r. ⌜ Tells (Twin (heldTable (now (b .entry)) s (now (starts .entry))) k j) r ⌝ }
@@ -142,7 +142,7 @@ fn twin(b: &[u8], s: Strings, samples: &[u32; 256], starts: &[u32], k: usize, j:
 fn check_order(
     b: &[u8],
     s: Strings,
-    samples: &[u32; 256],
+    samples: &[u32; 1024],
     starts: &[u32],
     k: usize,
     j: usize,
@@ -187,7 +187,7 @@ pub fn check_entry(
     b: &[u8],
     t: &[u32; 1024],
     s: Strings,
-    samples: &[u32; 256],
+    samples: &[u32; 1024],
     starts: &[u32],
     k: usize,
     j: usize,

@@ -14,7 +14,7 @@ pub enum Spot {
 }
 
 // The spot of an address, or nowhere where it does not resolve.
-pub fn spot_at(b: &[u8], chars: Region, samples: &[u32; 256], seg: usize, el: usize) -> Spot
+pub fn spot_at(b: &[u8], chars: Region, samples: &[u32; 1024], seg: usize, el: usize) -> Spot
     requires { ⌜ Mapped 2 (now b) (chars .at) chars × Starts 2 (now b) (chars .at) (chars .shift) (now samples) × (el < 65536) ⌝ }
     ensures { λ r. ⌜ r ≡ spotAt (now (b .entry)) (chars .at) seg el ⌝ }
 {
@@ -30,7 +30,7 @@ pub fn spot_at(b: &[u8], chars: Region, samples: &[u32; 256], seg: usize, el: us
 }
 
 // The same for the address that stands at an offset of the file: an entry's, or a list position's.
-pub fn spot_to(b: &[u8], chars: Region, samples: &[u32; 256], at: usize) -> Spot
+pub fn spot_to(b: &[u8], chars: Region, samples: &[u32; 1024], at: usize) -> Spot
     requires { ⌜ Mapped 2 (now b) (chars .at) chars × Starts 2 (now b) (chars .at) (chars .shift) (now samples) × (at + 4 ≤ length (now b)) ⌝ }
     ensures { λ r. ⌜ r ≡ spotAt (now (b .entry)) (chars .at) (u16At (now (b .entry)) at) (u16At (now (b .entry)) (at + 2)) ⌝ }
 {

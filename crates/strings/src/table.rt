@@ -15,7 +15,7 @@ pub fn check_entries(
     b: &[u8],
     t: &[u32; 1024],
     s: Strings,
-    samples: &[u32; 256],
+    samples: &[u32; 1024],
     starts: &[u32],
 ) -> Verdict
     requires { ⌜ Tables (now t) × Held (now b) s (now samples) (now starts) ⌝ }

@@ -16,7 +16,7 @@ pub enum Found {
 pub fn find_deep(
     b: &[u8],
     nodes: Region,
-    starts: &[u32; 256],
+    starts: &[u32; 1024],
     a: usize,
     p: usize,
     left: usize,

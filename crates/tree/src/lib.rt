@@ -19,8 +19,8 @@ use verdict::Verdict;
 pub fn check_tree(
     b: &[u8],
     nodes: Region,
-    starts: &[u32; 256],
-    counts: &[u32; 256],
+    starts: &[u32; 1024],
+    counts: &[u32; 1024],
     used: usize,
     ws: &mut [u8],
 ) -> Verdict

@@ -49,8 +49,8 @@ pub fn set_range(ws: &mut [u8], i: usize, n: usize, x: u8)
 fn mark_node(
     b: &[u8],
     nodes: Region,
-    starts: &[u32; 256],
-    counts: &[u32; 256],
+    starts: &[u32; 1024],
+    counts: &[u32; 1024],
     p: usize,
     ws: &mut [u8],
 ) -> bool
@@ -86,8 +86,8 @@ fn mark_node(
 pub fn mark_nodes(
     b: &[u8],
     nodes: Region,
-    starts: &[u32; 256],
-    counts: &[u32; 256],
+    starts: &[u32; 1024],
+    counts: &[u32; 1024],
     used: usize,
     ws: &mut [u8],
 ) -> Verdict

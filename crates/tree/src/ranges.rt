@@ -14,7 +14,7 @@ pub struct Children {
 }
 
 // The children of the node at p; a nameless node has none.
-pub fn children_of(b: &[u8], nodes: Region, starts: &[u32; 256], p: usize) -> Children
+pub fn children_of(b: &[u8], nodes: Region, starts: &[u32; 1024], p: usize) -> Children
     requires { ⌜ TreeReady (now b) nodes (now starts) × Reached (now b) p × (p + 24 ≤ length (now b)) ⌝ }
     ensures { λ r. ⌜ ChildrenOf (now (b .entry)) p r ⌝ }
 {

@@ -9,7 +9,7 @@ use Rattle.region.proofs.mapped.Statement.{statement}
 use Rattle.region.proofs.mapped.Tie as tie
 
 abbrev Inv-loop : tie.InvT-loop
-Inv-loop b at size count shift₀ mask₀ shift mask = (mask + 1 ≡ 2 ^ shift) × (shift ≤ 8) × (mask ≤ 65535)
+Inv-loop b at size count shift₀ mask₀ shift mask = (mask + 1 ≡ 2 ^ shift) × (shift ≤ 6) × (mask ≤ 65535)
 
 abbrev μ-loop : tie.MeasureT-loop
 μ-loop b at size count shift₀ mask₀ shift mask = 65536 - mask

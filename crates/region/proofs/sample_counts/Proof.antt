@@ -14,7 +14,7 @@ use Rattle.region.proofs.sample_counts.Tie as tie
 
 abbrev Inv-loop : tie.InvT-loop
 Inv-loop b r size counts₀ mask p₀ n₀ s₀ counts p n s = (s ≤ r .count) × (p ≡ startOf size b (r .at) s) × (n ≡ beforeOf size b (r .at) s)
-    × Sampled (beforeOf size b (r .at)) (2 ^ r .shift) s counts × (length counts ≡ 256)
+    × Sampled (beforeOf size b (r .at)) (2 ^ r .shift) s counts × (length counts ≡ 1024)
 
 abbrev μ-loop : tie.MeasureT-loop
 μ-loop b r size counts₀ mask p₀ n₀ s₀ counts p n s = r .count - s

@@ -14,7 +14,7 @@ use Rattle.region.proofs.sample_starts.Tie as tie
 
 abbrev Inv-loop : tie.InvT-loop
 Inv-loop b r size starts₀ mask p₀ s₀ starts p s = (s ≤ r .count) × (p ≡ startOf size b (r .at) s)
-    × Sampled (startOf size b (r .at)) (2 ^ r .shift) s starts × (length starts ≡ 256)
+    × Sampled (startOf size b (r .at)) (2 ^ r .shift) s starts × (length starts ≡ 1024)
 
 abbrev μ-loop : tie.MeasureT-loop
 μ-loop b r size starts₀ mask p₀ s₀ starts p s = r .count - s
