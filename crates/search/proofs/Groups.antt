@@ -29,26 +29,32 @@ buckets-held b s samples starts h {x} e =
 pub within-at : (b at : List ℕ) (n j x : ℕ) → Within b n at → j < n → x ≡ getD at j 0 → x + 4 ≤ length b
 within-at b at n j x w l e = rw e (w .each j l)
 
+pub within-none : (b at : List ℕ) → length at ≡ 64 → Within b 0 at
+within-none b at f = record { long = f; each = below-none _ }
+
+pub within-more : (b at : List ℕ) (j x : ℕ) → Within b j at → j < 64 → x + 4 ≤ length b → Within b (j + 1) (set at j x)
+within-more b at j x a l h = record {
+  long = length-set at j x ∙ a .long;
+  each =
+      below-more (λ (i : ℕ). getD (set at j x) i 0 + 4 ≤ length b) j
+      (λ i c. rw (getD-set-other at j i x 0 (omega arith)) (a .each i c))
+      (rw (getD-set-same at j x 0 (omega (arith, a .long))) h);
+}
+
+pub within-upto : (b at : List ℕ) (j n : ℕ) → Within b j at → n ≤ j → Within b n at
+within-upto b at j n a l = record { long = a .long; each = λ i h. a .each i (omega arith) }
+
 pub aimed-none : (b guess at : List ℕ) → length guess ≡ 64 → length at ≡ 64 → Aimed b 0 guess at
-aimed-none b guess at e f = record { guesses = e; within = record { long = f; each = below-none _ } }
+aimed-none b guess at e f = record { guesses = e; within = within-none b at f }
 
 pub aimed-more : (b guess at : List ℕ) (j g x : ℕ) → Aimed b j guess at → j < 64 → x + 4 ≤ length b → Aimed b (j + 1) (set guess j g) (set at j x)
 aimed-more b guess at j g x a l h = record {
   guesses = length-set guess j g ∙ a .guesses;
-  within = record {
-    long = length-set at j x ∙ a .within .long;
-    each =
-        below-more (λ (i : ℕ). getD (set at j x) i 0 + 4 ≤ length b) j
-        (λ i c. rw (getD-set-other at j i x 0 (omega arith)) (a .within .each i c))
-        (rw (getD-set-same at j x 0 (omega (arith, a .within .long))) h);
-  };
+  within = within-more b at j x (a .within) l h;
 }
 
 pub aimed-upto : (b guess at : List ℕ) (j n : ℕ) → Aimed b j guess at → n ≤ j → Aimed b n guess at
-aimed-upto b guess at j n a l = record {
-  guesses = a .guesses;
-  within = record { long = a .within .long; each = λ i h. a .within .each i (omega arith) };
-}
+aimed-upto b guess at j n a l = record { guesses = a .guesses; within = within-upto b at j n (a .within) l }
 
 -- ---- places of hashes
 

@@ -51,5 +51,5 @@ module _ (t : Table) (k h lo hi : ℕ) (r : Halved t k h lo hi) where
   }
 
 -- a distance of hashes times a number of entries: what a guess is made of
-pub distance-fits : (d n : ℕ) → d < 2 ^ 32 → n ≤ 2 ^ 30 → d * n ≤ 2 ^ 62
-distance-fits d n h l = omega (arith, mul-le-mul {n₁ = d} {m₁ = n} {n₂ = 2 ^ 32} {m₂ = 2 ^ 30} (omega arith) l)
+pub distance-fits : (d n : ℕ) → d ≤ 2 ^ 33 → n ≤ 2 ^ 30 → d * n ≤ 2 ^ 63
+distance-fits d n h l = omega (arith, mul-le-mul {n₁ = d} {m₁ = n} {n₂ = 2 ^ 33} {m₂ = 2 ^ 30} h l)

@@ -11,7 +11,7 @@ ghost use Rattle.hash.specs.Hash.{bucketOf};
 ghost use Rattle.strings.specs.Order.{allEntryChecks};
 ghost use Rattle.strings.specs.Held.{Held, heldTable};
 ghost use Rattle.search.specs.Lower.{Lower};
-ghost use Rattle.search.specs.Group.{AllLow, Aimed, Within};
+ghost use Rattle.search.specs.Group.{AllLow, Aimed, Within, Lengths};
 use crate::near;
 use strings::Strings;
 use strings::entry;
@@ -108,8 +108,8 @@ fn look(b: &[u8], n: usize, at: &[u32; 64], met: &mut [u32; 64])
 }
 
 // What was met of each hash's neighbours, and where: from nowhere first, and then from what was met there. In a table of less than a
-// megabyte nothing is looked at: it is near as it is.
-fn approach(
+// megabyte one look is enough.
+fn come_near(
     b: &[u8],
     s: Strings,
     samples: &[u32; 1024],
@@ -123,18 +123,25 @@ fn approach(
         × (length (now met) ≡ 64) ⌝ }
     ensures { λ _. ⌜ (length (now (guess .exit)) ≡ 64) × (length (now (met .exit)) ≡ 64) ⌝ }
 {
-    if !spread(b, s, samples, starts, 1048576) {
-        return;
-    }
     let mut at = [0u32; 64];
     aim(b, s, samples, starts, hashes, n, met, guess, &mut at);
     look(b, n, &at, met);
+    if !spread(b, s, samples, starts, 1048576) {
+        return;
+    }
     aim(b, s, samples, starts, hashes, n, met, guess, &mut at);
     look(b, n, &at, met);
 }
 
-// The first entry of its bucket whose hash is not below h, or the bucket's end, when w was met at place g.
-fn low_from(
+// Eight entries that a hash is to be expected among: the number of the first, and where the first and the last of them stand.
+struct Span {
+    start: u32,
+    first: u32,
+    last: u32,
+}
+
+// Those for hash h when w was met at place g of its bucket. A bucket of fewer is read as a whole: there it is the bucket's count twice.
+fn span_at(
     b: &[u8],
     s: Strings,
     samples: &[u32; 1024],
@@ -142,17 +149,135 @@ fn low_from(
     h: usize,
     g: usize,
     w: usize,
-) -> usize
-    requires { ⌜ Held (now b) s (now samples) (now starts) × (firstFault (allEntryChecks (heldTable (now b) s (now starts))) ≡ Accepted)
-        × (h < 2 ^ 32) × (g < 2 ^ 32) × (w < 2 ^ 32) ⌝ }
-    ensures { λ r. ⌜ Lower (heldTable (now (b .entry)) s (now (starts .entry))) (bucketOf (length (now (starts .entry))) h) h r ⌝ }
+) -> Span
+    requires { ⌜ Held (now b) s (now samples) (now starts) × (h < 2 ^ 32) × (g < 2 ^ 32) × (w < 2 ^ 32) ⌝ }
+    ensures { λ r. ⌜ (r .first + 4 ≤ length (now (b .entry))) × (r .last + 4 ≤ length (now (b .entry))) ⌝ }
 {
     let k = hash::bucket(h, starts.len());
     let n = entry::entry_count(b, s, samples, starts, k);
-    if n == 0 {
-        return 0;
+    if n < 8 {
+        return Span {
+            start: 0,
+            first: starts[k],
+            last: starts[k],
+        };
     }
     let r = crate::expected(n, h, g, w);
+    let f = near::window(if r < 4 { 0 } else { r - 4 }, n);
+    let e = entry::entry_at(b, s, samples, starts, k, f);
+    let l = entry::entry_at(b, s, samples, starts, k, f + 7);
+    Span {
+        start: f as u32,
+        first: e as u32,
+        last: l as u32,
+    }
+}
+
+// Those of each hash, from where it was looked for before.
+fn find_spans(
+    b: &[u8],
+    s: Strings,
+    samples: &[u32; 1024],
+    starts: &[u32],
+    hashes: &[u32; 64],
+    n: usize,
+    met: &[u32; 64],
+    guess: &mut [u32; 64],
+    first: &mut [u32; 64],
+    last: &mut [u32; 64],
+)
+    requires { ⌜ Held (now b) s (now samples) (now starts) × (n ≤ 64) × (length (now hashes) ≡ 64) × (length (now met) ≡ 64)
+        × Lengths (now guess) (now first) (now last) ⌝ }
+    ensures { λ _. ⌜ Aimed (now (b .entry)) n (now (guess .exit)) (now (first .exit)) × Within (now (b .entry)) n (now (last .exit)) ⌝ }
+{
+    let mut j = 0;
+    while j < n {
+        let a = span_at(
+            b,
+            s,
+            samples,
+            starts,
+            le::wide(hashes[j]),
+            le::wide(guess[j]),
+            le::wide(met[j]),
+        );
+        guess[j] = a.start;
+        first[j] = a.first;
+        last[j] = a.last;
+        j += 1;
+    }
+}
+
+// Eight entries for each hash, from `guess` on, with the first and the last hash of them. In a table of less than 64 kilobytes nothing is
+// looked at: it is near as it is.
+fn approach(
+    b: &[u8],
+    s: Strings,
+    samples: &[u32; 1024],
+    starts: &[u32],
+    hashes: &[u32; 64],
+    n: usize,
+    guess: &mut [u32; 64],
+    least: &mut [u32; 64],
+    most: &mut [u32; 64],
+)
+    requires { ⌜ Held (now b) s (now samples) (now starts) × (n ≤ 64) × (length (now hashes) ≡ 64)
+        × Lengths (now guess) (now least) (now most) ⌝ }
+    ensures { λ _. ⌜ Lengths (now (guess .exit)) (now (least .exit)) (now (most .exit)) ⌝ }
+{
+    if !spread(b, s, samples, starts, 65536) {
+        return;
+    }
+    come_near(b, s, samples, starts, hashes, n, guess, least);
+    let mut first = [0u32; 64];
+    let mut last = [0u32; 64];
+    find_spans(
+        b,
+        s,
+        samples,
+        starts,
+        hashes,
+        n,
+        least,
+        guess,
+        &mut first,
+        &mut last,
+    );
+    look(b, n, &first, least);
+    look(b, n, &last, most);
+}
+
+// Where to look for h when eight entries from g on have hashes from `least` to `most`: there, or seven entries on or back.
+fn moved(h: usize, g: usize, least: usize, most: usize) -> usize
+    requires { ⌜ g < 2 ^ 32 ⌝ }
+{
+    if most < h {
+        return g + 7;
+    }
+    if least < h {
+        return g;
+    }
+    if g < 7 { 0 } else { g - 7 }
+}
+
+// The first entry of its bucket whose hash is not below h, or the bucket's end, when eight entries from g on have hashes from `least` to
+// `most`.
+fn low_from(
+    b: &[u8],
+    s: Strings,
+    samples: &[u32; 1024],
+    starts: &[u32],
+    h: usize,
+    g: usize,
+    least: usize,
+    most: usize,
+) -> usize
+    requires { ⌜ Held (now b) s (now samples) (now starts) × (firstFault (allEntryChecks (heldTable (now b) s (now starts))) ≡ Accepted)
+        × (g < 2 ^ 32) ⌝ }
+    ensures { λ r. ⌜ Lower (heldTable (now (b .entry)) s (now (starts .entry))) (bucketOf (length (now (starts .entry))) h) h r ⌝ }
+{
+    let k = hash::bucket(h, starts.len());
+    let r = moved(h, g, least, most);
     near::lower_near(b, s, samples, starts, k, h, r)
 }
 
@@ -171,8 +296,19 @@ pub fn settle(
     ensures { λ _. ⌜ AllLow (heldTable (now (b .entry)) s (now (starts .entry))) (now (hashes .entry)) n (now (low .exit)) ⌝ }
 {
     let mut guess = [0u32; 64];
-    let mut met = [0u32; 64];
-    approach(b, s, samples, starts, hashes, n, &mut guess, &mut met);
+    let mut least = [0u32; 64];
+    let mut most = [4294967295u32; 64];
+    approach(
+        b,
+        s,
+        samples,
+        starts,
+        hashes,
+        n,
+        &mut guess,
+        &mut least,
+        &mut most,
+    );
     let mut j = 0;
     while j < n {
         low[j] = low_from(
@@ -182,7 +318,8 @@ pub fn settle(
             starts,
             le::wide(hashes[j]),
             le::wide(guess[j]),
-            le::wide(met[j]),
+            le::wide(least[j]),
+            le::wide(most[j]),
         );
         j += 1;
     }

@@ -17,23 +17,17 @@ pub mod run;
 use strings::Strings;
 use strings::entry;
 
-// Where a hash h is to be expected among n, when w was met at place g: about (h - w) * n / 2^32 entries further on.
+// Where a hash h is to be expected among n, when w was met at place g: about (h - w) * n / 2^32 entries further on. Counted with n more, so
+// that nothing hangs on which of h and w is larger: that goes one way as often as the other, and a processor would guess it wrong.
 fn expected(n: usize, h: usize, g: usize, w: usize) -> usize
     requires { ⌜ (1 ≤ n) × (n ≤ 2 ^ 30) × (h < 2 ^ 32) × (g < 2 ^ 32) × (w < 2 ^ 32) ⌝ }
     ensures { λ r. ⌜ r < n ⌝ }
 {
-    let mut r = g;
-    if h < w {
-        let d = ((w - h) * n) >> 32;
-        if d < r {
-            r -= d;
-        } else {
-            r = 0;
-        }
-    } else {
-        r += ((h - w) * n) >> 32;
+    let r = g + (((h + 4294967296 - w) * n) >> 32);
+    if r < n {
+        return 0;
     }
-    if r < n { r } else { n - 1 }
+    if r - n < n { r - n } else { n - 1 }
 }
 
 // The place of hash h among the n entries of bucket k, as one look at the table lets expect it. No hash has more than 32 bits, so an h

@@ -1,49 +1,69 @@
-// The search of a bucket from a guess: where that is good, a few entries beside it tell.
+// The search of a bucket from a guess: where that is good, eight entries tell.
 ghost use mathlib.Core.Path.{_≡_};
-ghost use Prim.Native.Nat.{_<_};
+ghost use Prim.Native.Nat.{_+_, _≤_, _<_};
 ghost use lib.ListN.{length};
-ghost use Rattle.verdict.specs.Checks.{firstFault};
+ghost use Rattle.verdict.specs.Checks.{firstFault, Tells};
 ghost use Rattle.verdict.specs.declared.Verdict.the-variants.{Accepted};
+ghost use Rattle.layout.specs.Table.{entries};
 ghost use Rattle.strings.specs.Order.{allEntryChecks};
 ghost use Rattle.strings.specs.Held.{Held, heldTable};
-ghost use Rattle.search.specs.Lower.{Lower};
-ghost use Rattle.search.specs.Lower.{NotBelow};
+ghost use Rattle.search.specs.Lower.{Lower, Below, Settled};
 use strings::Strings;
 use strings::entry;
 
-// An entry of bucket k, or its end, from which on no hash is below h: the first one from g on, unless that is too far.
-fn not_below(
+// How many of the m entries of bucket k from entry w on have hashes below h: they ascend, so these come first. All are counted, since
+// nothing then hangs on a single one that a processor could guess wrong.
+fn below(
     b: &[u8],
     s: Strings,
     samples: &[u32; 1024],
     starts: &[u32],
     k: usize,
     h: usize,
-    g: usize,
+    w: usize,
+    m: usize,
 ) -> usize
     requires { ⌜ Held (now b) s (now samples) (now starts) × (k < length (now starts))
-        × (firstFault (allEntryChecks (heldTable (now b) s (now starts))) ≡ Accepted) ⌝ }
-    ensures { λ r. ⌜ NotBelow (heldTable (now (b .entry)) s (now (starts .entry))) k h r ⌝ }
+        × (firstFault (allEntryChecks (heldTable (now b) s (now starts))) ≡ Accepted)
+        × (w + m ≤ entries (heldTable (now b) s (now starts)) k) ⌝ }
+    ensures { λ r. ⌜ Below (heldTable (now (b .entry)) s (now (starts .entry))) k h w m r ⌝ }
 {
-    let n = entry::entry_count(b, s, samples, starts, k);
-    let mut turns = 8usize;
-    let mut j = g;
-    while j < n {
-        let e = entry::entry_at(b, s, samples, starts, k, j);
-        if le::u32_at(b, e) >= h {
-            return j;
+    let mut c = 0usize;
+    let mut i = 0;
+    while i < m {
+        let e = entry::entry_at(b, s, samples, starts, k, w + i);
+        if le::u32_at(b, e) < h {
+            c += 1;
         }
-        if turns == 0 {
-            return crate::lower(b, s, samples, starts, k, h);
-        }
-        turns -= 1;
-        j += 1;
+        i += 1;
     }
-    n
+    c
 }
 
-// The first entry of bucket k whose hash is not below h, or the number of entries, looked for from entry g. No guess is wrong; a far
-// one costs a few looks more than the search without it.
+// The first of eight entries from g on, or of the last eight of n.
+pub fn window(g: usize, n: usize) -> usize
+    requires { ⌜ 8 ≤ n ⌝ }
+    ensures { λ r. ⌜ r + 8 ≤ n ⌝ }
+{
+    if g < n - 8 { g } else { n - 8 }
+}
+
+// Whether it is known where h stands among n entries, when c of the eight from w on are below it.
+fn settled(w: usize, c: usize, n: usize) -> bool
+    requires { ⌜ w + 8 ≤ n ⌝ }
+    ensures { λ r. ⌜ Tells (Settled w c n) r ⌝ }
+{
+    if c == 0 {
+        return w == 0;
+    }
+    if c == 8 {
+        return w + 8 == n;
+    }
+    true
+}
+
+// The first entry of bucket k whose hash is not below h, or the number of entries, looked for in eight entries from g on. No guess is
+// wrong; a far one costs the search without it.
 pub fn lower_near(
     b: &[u8],
     s: Strings,
@@ -57,18 +77,14 @@ pub fn lower_near(
         × (firstFault (allEntryChecks (heldTable (now b) s (now starts))) ≡ Accepted) ⌝ }
     ensures { λ r. ⌜ Lower (heldTable (now (b .entry)) s (now (starts .entry))) k h r ⌝ }
 {
-    let mut turns = 8usize;
-    let mut j = not_below(b, s, samples, starts, k, h, g);
-    while j > 0 {
-        let e = entry::entry_at(b, s, samples, starts, k, j - 1);
-        if le::u32_at(b, e) < h {
-            return j;
-        }
-        if turns == 0 {
-            return crate::lower(b, s, samples, starts, k, h);
-        }
-        turns -= 1;
-        j -= 1;
+    let n = entry::entry_count(b, s, samples, starts, k);
+    if n < 8 {
+        return below(b, s, samples, starts, k, h, 0, n);
     }
-    0
+    let w = window(g, n);
+    let c = below(b, s, samples, starts, k, h, w, 8);
+    if settled(w, c, n) {
+        return w + c;
+    }
+    crate::lower(b, s, samples, starts, k, h)
 }

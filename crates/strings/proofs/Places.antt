@@ -5,8 +5,8 @@ use mathlib.Core.Path.{_≡_, refl, ap, _∙_}
 use mathlib.Core.List.{List}
 use lib.ListN.{length, getD}
 use Rattle.le.specs.Le.{u16At, u32At}
-use Rattle.layout.specs.Table.{Table, entries, entryAt, hashOf, lengthOf, indexOf, segmentOf, elementOf, count, positionAt, listedSegment, listedElement}
-use Rattle.layout.proofs.Laws.{bucket-fits, entry-fits, position-fits}
+use Rattle.layout.specs.Table.{Table, bucketAt, entries, entryAt, hashOf, lengthOf, indexOf, segmentOf, elementOf, count, positionAt, listedSegment, listedElement, listAt}
+use Rattle.layout.proofs.Laws.{bucket-next, bucket-fits, entry-fits, position-fits}
 use Rattle.strings.specs.Held.{Held, heldTable, Here}
 use Rattle.strings.specs.declared.Strings.{Strings}
 
@@ -33,9 +33,15 @@ module _ (b : List ℕ) (s : Strings) (samples starts : List ℕ) (h : Held b s 
   pub count-in : (k : ℕ) → k < length starts → getD starts k 0 + 4 ≤ length b
   count-in k l = omega (arith, h .buckets .at k l, bucket-fits (heldTable b s starts) (h .laid) k l)
 
-  pub count-is : (k x n : ℕ) → k < length starts → x ≡ getD starts k 0 → n ≡ u32At b x → n ≡ entries (heldTable b s starts) k
-  unfolding entries
-  count-is k x n l e q = q ∙ ap (u32At b) (e ∙ h .buckets .at k l)
+  -- by where it starts and ends
+  pub ends-at : (k x y : ℕ) → k < length starts → x ≡ getD starts k 0 → y ≡ bucketAt (heldTable b s starts) (k + 1)
+      → y ≡ x + 4 + 16 * entries (heldTable b s starts) k
+  ends-at k x y l e q = omega (arith, e, q, h .buckets .at k l, bucket-next (heldTable b s starts) k)
+
+  -- the last bucket ends where the address count stands
+  pub last-end : (k : ℕ) → k < length starts → length starts ≤ k + 1 → s .list ≡ bucketAt (heldTable b s starts) (k + 1)
+  unfolding listAt
+  last-end k l m = let e : length starts ≡ k + 1 = omega arith in h .list ∙ ap (bucketAt (heldTable b s starts)) e
 
   pub few-entries : (k : ℕ) → k < length starts → entries (heldTable b s starts) k ≤ 1073741824
   few-entries k l = omega (arith, h .laid .bucket k l, h .small)

@@ -35,12 +35,17 @@ pub fn entry_at(
     le::wide(starts[k]) + 4 + 16 * j
 }
 
-// The number of entries of bucket k.
+// The number of entries of bucket k: as many as fit between its start and where the next bucket starts, or the address count. The starts are
+// near, while the count in the file may have to be waited for.
 pub fn entry_count(b: &[u8], s: Strings, samples: &[u32; 1024], starts: &[u32], k: usize) -> usize
     requires { ⌜ Held (now b) s (now samples) (now starts) × (k < length (now starts)) ⌝ }
     ensures { λ r. ⌜ r ≡ entries (heldTable (now (b .entry)) s (now (starts .entry))) k ⌝ }
 {
-    le::u32_at(b, le::wide(starts[k]))
+    let at = le::wide(starts[k]);
+    if k + 1 < starts.len() {
+        return (le::wide(starts[k + 1]) - at - 4) / 16;
+    }
+    (s.list - at - 4) / 16
 }
 
 // Refusal 10 is not due.

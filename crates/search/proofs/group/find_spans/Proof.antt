@@ -1,0 +1,29 @@
+use Prim.Native.Nat.{_-_}
+use Rattle.search.specs.Group.{Aimed, Within}
+use Rattle.search.proofs.Groups.{within-none, within-more, within-upto, aimed-none, aimed-more, aimed-upto}
+use native.Mathlib.Omega.{arith}
+use borrow.Author.Needs.{needs}
+use Rattle.search.proofs.group.find_spans.Statement.{statement}
+use Rattle.search.proofs.group.find_spans.Tie as tie
+
+abbrev Inv-loop : tie.InvT-loop
+Inv-loop b s samples starts hashes n met guess₀ first₀ last₀ j₀ guess first last j = Aimed b j guess first × Within b j last
+
+abbrev μ-loop : tie.MeasureT-loop
+μ-loop b s samples starts hashes n met guess₀ first₀ last₀ j₀ guess first last j = n - j
+
+loop-holds : tie.Need-loop-holds Inv-loop μ-loop
+loop-holds c = let p = c .before .before .pre .4 in (aimed-none _ _ _ (p .first) (p .second), within-none _ _ (p .third))
+
+loop-again : tie.Need-loop-again Inv-loop μ-loop
+loop-again c =
+    let i = c .before .before .before .before .before .before .before .before .loop .inv in
+    let l = c .before .before .before .before .before .before .before .loop-test .taken in
+    let p = c .before .before .before .before .before .before .before .before .before .before .before .pre .1 in
+    (aimed-more _ _ _ _ _ _ (i .0) (omega arith) (c .span-at .ensures .0), within-more _ _ _ _ (i .1) (omega arith) (c .span-at .ensures .1))
+
+returns : tie.Need-returns Inv-loop μ-loop
+returns c = let i = c .before .loop .inv in (aimed-upto _ _ _ _ _ (i .0) (c .loop-test .left), within-upto _ _ _ _ (i .1) (c .loop-test .left))
+
+pub find-spans-spec : {M : Type 1} → statement M
+find-spans-spec = tie.close (tie.spec Inv-loop μ-loop loop-holds (λ c. search needs) (λ c. search needs) (λ c κs. search needs) (λ c. search needs) (λ c. search needs) (λ c κs. search needs) (λ c. search needs) (λ c. search needs) (λ c κs. search needs) (λ c κs. search needs) (λ c. search needs) (λ c. search needs) (λ c. search needs) (λ c. search needs) (λ c. search needs) (λ c. search needs) (λ c. search needs) (λ c. search needs) loop-again returns)
