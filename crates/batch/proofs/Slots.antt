@@ -20,7 +20,9 @@ use Rattle.search.specs.Group.{AllLow}
 use Rattle.strings.specs.Held.{Held, heldTable}
 use Rattle.strings.specs.declared.Strings.{Strings}
 use Rattle.strings.proofs.Places.{few-entries}
-use Rattle.batch.specs.Groups.{TextRead, standsAt, Group, AllNear, Texts, SameLow}
+use Rattle.lookup.specs.Bears.{Bears}
+use Rattle.lookup.specs.declared.Kind.{Kind}
+use Rattle.batch.specs.Groups.{TextRead, standsAt, Group, AllNear, Texts, Picked, SameLow}
 
 -- ---- where the texts of a group stand
 
@@ -135,6 +137,9 @@ same-more {a} {b} {j} {x} r s l e f = record { long = length-set b j r ∙ s .lo
 
 -- ---- places of texts
 
+pub texts-none : (b first later : List ℕ) → length first ≡ 64 → length later ≡ 64 → Texts b 0 first later
+texts-none b first later e f = record { first-long = e; later-long = f; first-in = below-none _; later-in = below-none _ }
+
 pub texts-more : {b first later : List ℕ} {j : ℕ} (x y : ℕ) → Texts b j first later → j < 64 → x + 2 ≤ length b → y + 2 ≤ length b
     → Texts b (j + 1) (set first j x) (set later j y)
 texts-more {b} {first} {later} {j} x y w l p q = record {
@@ -159,7 +164,31 @@ texts-upto {j = j} {n = n} l w = record {
   later-in = λ i h. w .later-in i (omega arith);
 }
 
+-- ---- entries picked
+
+pub picked-none : (kind : Kind) (t : Table) (lengths text told : List ℕ) → length text ≡ 64 → length told ≡ 64 → Picked kind t lengths 0 text told
+picked-none kind t lengths text told e f = record { text-long = e; told-long = f; each = below-none _ }
+
+pub picked-more : {kind : Kind} {t : Table} {lengths text told : List ℕ} {j : ℕ} (x y : ℕ) → Picked kind t lengths j text told → j < 64 → {n : ℕ} → n ≡ getD lengths j 0
+    → ((x ≡ 0 → ⊥) → Bears kind t n x y) → Picked kind t lengths (j + 1) (set text j x) (set told j y)
+picked-more {kind} {t} {lengths} {text} {told} {j} x y w l e f = record {
+  text-long = length-set text j x ∙ w .text-long;
+  told-long = length-set told j y ∙ w .told-long;
+  each =
+      below-more
+      (λ (i : ℕ). (getD (set text j x) i 0 ≡ 0 → ⊥) → Bears kind t (getD lengths i 0) (getD (set text j x) i 0) (getD (set told j y) i 0)) j
+      (λ i c. rw (getD-set-other text j i x 0 (omega arith), getD-set-other told j i y 0 (omega arith)) (w .each i c))
+      (rw (getD-set-same text j x 0 (omega (arith, w .text-long)), getD-set-same told j y 0 (omega (arith, w .told-long)), sym e) f);
+}
+
+pub picked-upto : {kind : Kind} {t : Table} {lengths text told : List ℕ} {j n : ℕ} → n ≤ j → Picked kind t lengths j text told → Picked kind t lengths n text told
+picked-upto {j = j} {n = n} l w = record { text-long = w .text-long; told-long = w .told-long; each = λ i h. w .each i (omega arith) }
+
 -- what is read of one slot
 pub near-read : {t : Table} {hashes low : List ℕ} {n : ℕ} → AllNear t hashes n low → (j : ℕ) → j < n → {h r : ℕ} → h ≡ getD hashes j 0 → r ≡ getD low j 0
     → Lower t (bucketOf (t .buckets) h) h (r % 4294967296)
 near-read a j l e f = rw (e, f) (a .each j l)
+
+pub picked-read : {kind : Kind} {t : Table} {lengths text told : List ℕ} {n : ℕ} → Picked kind t lengths n text told → (j : ℕ) → j < n → {k x y : ℕ} → k ≡ getD lengths j 0
+    → x ≡ getD text j 0 → y ≡ getD told j 0 → (x ≡ 0 → ⊥) → Bears kind t k x y
+picked-read w j l e f g = rw (e, f, g) (w .each j l)

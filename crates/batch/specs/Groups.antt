@@ -7,6 +7,8 @@ use Rattle.hash.specs.Hash.{hashText, bucketOf}
 use Rattle.text.specs.Text.{textIn}
 use Rattle.layout.specs.Table.{Table}
 use Rattle.search.specs.Lower.{Lower}
+use Rattle.lookup.specs.Bears.{Bears}
+use Rattle.lookup.specs.declared.Kind.{Kind}
 
 -- The text at an offset of the texts has k characters and hash h.
 pub record TextRead (texts : List ℕ) (at k h : ℕ) : Type 0 where
@@ -37,6 +39,12 @@ pub record Texts (b : List ℕ) (n : ℕ) (first later : List ℕ) : Type 0 wher
   pub later-long : length later ≡ 64
   pub first-in : (j : ℕ) → j < n → getD first j 0 + 2 ≤ length b
   pub later-in : (j : ℕ) → j < n → getD later j 0 + 2 ≤ length b
+
+-- For each of the first n either nothing is picked, which is 0, or an entry that bears as many characters as its text has.
+pub record Picked (kind : Kind) (t : Table) (lengths : List ℕ) (n : ℕ) (text told : List ℕ) : Type 0 where
+  pub text-long : length text ≡ 64
+  pub told-long : length told ≡ 64
+  pub each : (j : ℕ) → j < n → (getD text j 0 ≡ 0 → ⊥) → Bears kind t (getD lengths j 0) (getD text j 0) (getD told j 0)
 
 -- The low halves of two lists are the same.
 pub record SameLow (a b : List ℕ) : Type 0 where

@@ -17,6 +17,7 @@ pub mod group;
 
 use lookup::Kind;
 use lookup::Lookup;
+use lookup::first;
 use strings::Strings;
 use verdict::Verdict;
 
@@ -92,15 +93,29 @@ fn put_places(
     let mut lengths = [0usize; 64];
     let mut hashes = [0u32; 64];
     let mut low = [0usize; 64];
+    let mut text = [0usize; 64];
+    let mut told = [0usize; 64];
     let mut i = 0usize;
     let mut at = 0;
     while at < texts.len() {
         let n = group::take(texts, t, at, &mut lengths, &mut hashes);
-        group::bring_near(b, s, samples, starts, &hashes, n, &mut low);
+        group::bring_near(
+            b,
+            s,
+            samples,
+            starts,
+            kind,
+            &lengths,
+            &hashes,
+            n,
+            &mut low,
+            &mut text,
+            &mut told,
+        );
         let mut j = 0;
         while j < n {
             let k = lengths[j];
-            let l = lookup::find_from(
+            let l = first::find_picked(
                 b,
                 s,
                 samples,
@@ -108,6 +123,8 @@ fn put_places(
                 kind,
                 le::wide(hashes[j]),
                 low[j] % 4294967296,
+                text[j],
+                told[j],
                 texts,
                 at,
                 k,

@@ -16,15 +16,6 @@ use Rattle.lookup.specs.declared.Lookup.the-variants.{Found, Absent}
 use Rattle.lookup.proofs.Found.{index-found-iff, address-found-iff}
 use Rattle.lookup.proofs.Told.{index-absent, address-absent}
 
-module _ (t : Table) (x : List ℕ) {k : Kind} {r : Lookup} where
-  pub name-told : k ≡ Name → r ≡ indexOfText t x → r ≡ toldIn k t x
-  unfolding toldIn
-  name-told e h = rw e h
-
-  pub value-told : k ≡ Value → r ≡ addressOfText t x → r ≡ toldIn k t x
-  unfolding toldIn
-  value-told e h = rw e h
-
 -- no entry bears the text
 pub none-told : (k : Kind) (t : Table) (x : List ℕ) → Clean (stringChecks t) → {r : Lookup} → r ≡ entryOfText t x → r ≡ Absent → Absent ≡ toldIn k t x
 unfolding toldIn

@@ -2,3 +2,4 @@ pub mod Found
 pub mod Bucket
 pub mod Told
 pub mod ByKind
+pub mod Picked

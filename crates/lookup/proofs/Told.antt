@@ -1,19 +1,51 @@
 -- What is read at the place of the entry that bears a text. Assumes nothing.
 use Prim.Native.Nat.{ℕ, _+_, _*_, _≤_}
 use native.Mathlib.Omega.{arith}
-use mathlib.Core.Path.{_≡_, sym, _∙_}
+use mathlib.Core.Path.{_≡_, refl, ap, sym, _∙_}
 use mathlib.Core.List.{List}
 use lib.ListN.{length}
 use Rattle.verdict.proofs.Laws.{Clean}
 use Rattle.le.specs.Le.{u16At, u32At}
-use Rattle.layout.specs.Table.{Table, TableLaid}
+use Rattle.text.specs.Text.{chars}
+use Rattle.layout.specs.Table.{Table, TableLaid, entryAt, indexOf, segmentOf, elementOf}
 use Rattle.layout.proofs.Laws.{entry-fits}
+use Rattle.strings.specs.Texts.{textOf}
+use Rattle.strings.specs.Held.{Here}
 use Rattle.strings.specs.Order.{stringChecks}
 use Rattle.strings.proofs.Places.{index-at, segment-at, element-at}
 use Rattle.lookup.specs.Lookup.{entryOfText, indexOfText, addressOfText}
+use Rattle.lookup.specs.Kinds.{toldIn, tellsAt}
+use Rattle.lookup.specs.Bears.{Bears}
+use Rattle.lookup.specs.declared.Kind.{Kind}
+use Rattle.lookup.specs.declared.Kind.the-variants.{Name, Value}
 use Rattle.lookup.specs.declared.Lookup.{Lookup}
 use Rattle.lookup.specs.declared.Lookup.the-variants.{Found, Absent}
-use Rattle.lookup.proofs.Found.{entry-found-iff, entry-absent-iff, index-found-iff, index-absent-iff, address-found-iff, address-absent-iff}
+use Rattle.lookup.proofs.Found.{told-some, entry-found-iff, entry-absent-iff, index-absent-iff, address-absent-iff}
+
+-- what is read of an entry, by kind
+module _ (b : List ℕ) (e w : ℕ) {k : Kind} where
+  pub tells-name : k ≡ Name → w ≡ u32At b (e + 8) → w ≡ tellsAt k b e
+  unfolding tellsAt
+  tells-name q h = rw q h
+
+  pub tells-value : k ≡ Value → w ≡ u16At b (e + 12) * 65536 + u16At b (e + 14) → w ≡ tellsAt k b e
+  unfolding tellsAt
+  tells-value q h = rw q h
+
+-- an entry that bears a text tells what is told of the text
+pub told-borne : (kind : Kind) (t : Table) (x : List ℕ) → Clean (stringChecks t) → (k j w : ℕ) → Here t k j → textOf t k j ≡ x → w ≡ tellsAt kind (t .bytes) (entryAt t k j)
+    → Found w ≡ toldIn kind t x
+unfolding toldIn tellsAt indexOfText addressOfText
+told-borne Name t x ok k j w h e p = ap Found (index-at t k j (entryAt t k j) w refl p) ∙ sym (told-some (indexOf t) t x ok k j h e)
+told-borne Value t x ok k j w h e p =
+    let a = segment-at t k j (entryAt t k j) _ refl refl in
+    let c = element-at t k j (entryAt t k j) _ refl refl in
+    let z : w ≡ segmentOf t k j * 65536 + elementOf t k j = p ∙ cc in
+    ap Found z ∙ sym (told-some (λ a c. segmentOf t a c * 65536 + elementOf t a c) t x ok k j h e)
+
+-- compared where its text stands
+pub told-there : (kind : Kind) (t : Table) (x : List ℕ) {n p w : ℕ} → Clean (stringChecks t) → Bears kind t n p w → chars (t .bytes) p n ≡ x → Found w ≡ toldIn kind t x
+told-there kind t x ok s e = told-borne kind t x ok _ _ _ (s .here) (s .text ∙ e) (s .told)
 
 module _ (t : Table) (x : List ℕ) (ok : Clean (stringChecks t)) {r : Lookup} (q : r ≡ entryOfText t x) where
   module _ (e : ℕ) (f : r ≡ Found e) where
@@ -22,18 +54,11 @@ module _ (t : Table) (x : List ℕ) (ok : Clean (stringChecks t)) {r : Lookup} (
         let w = entry-found-iff t x ok e .0 (sym q ∙ f) in
         omega (arith, w .2 .2 .1, entry-fits t laid (w .0) (w .2 .0) (w .1) (w .2 .1))
 
-    pub index-told : (i : ℕ) → i ≡ u32At (t .bytes) (e + 8) → Found i ≡ indexOfText t x
-    index-told i p =
-        let w = entry-found-iff t x ok e .0 (sym q ∙ f) in
-        let a = index-at t (w .0) (w .2 .0) e i (sym (w .2 .2 .1)) p in
-        sym (index-found-iff t x ok i .1 (w .0, w .1, (w .2 .0, w .2 .1, (w .2 .2 .0, sym a))))
-
-    pub address-told : (s l : ℕ) → s ≡ u16At (t .bytes) (e + 12) → l ≡ u16At (t .bytes) (e + 14) → Found (s * 65536 + l) ≡ addressOfText t x
-    address-told s l p g =
-        let w = entry-found-iff t x ok e .0 (sym q ∙ f) in
-        let a = segment-at t (w .0) (w .2 .0) e s (sym (w .2 .2 .1)) p in
-        let c = element-at t (w .0) (w .2 .0) e l (sym (w .2 .2 .1)) g in
-        sym (address-found-iff t x ok _ .1 (w .0, w .1, (w .2 .0, w .2 .1, (w .2 .2 .0, (cc)))))
+    -- by what is read of it
+    pub entry-told : (k : Kind) (w : ℕ) → w ≡ tellsAt k (t .bytes) e → Found w ≡ toldIn k t x
+    entry-told k w p =
+        let g = entry-found-iff t x ok e .0 (sym q ∙ f) in
+        told-borne k t x ok (g .0) (g .2 .0) w (record { bucket = g .1; entry = g .2 .1 }) (g .2 .2 .0) (p ∙ ap (tellsAt k (t .bytes)) (sym (g .2 .2 .1)))
 
   module _ (f : r ≡ Absent) where
     pub index-absent : Absent ≡ indexOfText t x

@@ -1,6 +1,7 @@
 -- The two kinds of lookup (01, "Questions"), and 01's numbers for what one answers.
-use Prim.Native.Nat.{ℕ}
+use Prim.Native.Nat.{ℕ, _+_, _*_}
 use mathlib.Core.List.{List}
+use Rattle.le.specs.Le.{u16At, u32At}
 use Rattle.layout.specs.Table.{Table}
 use Rattle.layout.specs.Layout.{values, names}
 use Rattle.lookup.specs.Lookup.{indexOfText, addressOfText}
@@ -13,6 +14,11 @@ use Rattle.lookup.specs.declared.Lookup.the-variants.{Found, Absent}
 unfoldable pub toldIn : Kind → Table → List ℕ → Lookup
 toldIn Name t x = indexOfText t x
 toldIn Value t x = addressOfText t x
+
+-- The same as it is read in the entry at offset e of the file.
+unfoldable pub tellsAt : Kind → List ℕ → ℕ → ℕ
+tellsAt Name b e = u32At b (e + 8)
+tellsAt Value b e = u16At b (e + 12) * 65536 + u16At b (e + 14)
 
 -- The table that is asked.
 unfoldable pub tableOf : Kind → List ℕ → Table

@@ -12,7 +12,10 @@ ghost use Rattle.strings.specs.Order.{stringChecks};
 ghost use Rattle.strings.specs.Held.{Held, heldTable, Here};
 ghost use Rattle.search.specs.Lower.{Lower};
 ghost use Rattle.lookup.specs.Lookup.{entryOfText};
-ghost use Rattle.lookup.specs.Kinds.{toldIn};
+ghost use Rattle.lookup.specs.Kinds.{toldIn, tellsAt};
+
+pub mod first;
+
 use strings::Strings;
 use strings::entry;
 use strings::spot;
@@ -91,6 +94,17 @@ fn find_entry(
     Lookup::Absent
 }
 
+// What is told of the entry at e.
+fn told_at(b: &[u8], kind: Kind, e: usize) -> usize
+    requires { ⌜ e + 16 ≤ length (now b) ⌝ }
+    ensures { λ r. ⌜ r ≡ tellsAt kind (now (b .entry)) e ⌝ }
+{
+    match kind {
+        Kind::Name => le::u32_at(b, e + 8),
+        Kind::Value => le::u16_at(b, e + 12) * 65536 + le::u16_at(b, e + 14),
+    }
+}
+
 // What is told of those characters, for a caller that has their hash, and its place in the bucket.
 pub fn find_from(
     b: &[u8],
@@ -112,10 +126,7 @@ pub fn find_from(
     let Lookup::Found(e) = find_entry(b, s, samples, starts, h, low, q, p, n) else {
         return Lookup::Absent;
     };
-    match kind {
-        Kind::Name => Lookup::Found(le::u32_at(b, e + 8)),
-        Kind::Value => Lookup::Found(le::u16_at(b, e + 12) * 65536 + le::u16_at(b, e + 14)),
-    }
+    Lookup::Found(told_at(b, kind, e))
 }
 
 // The same for a caller that has the text only.

@@ -1,12 +1,11 @@
 use Prim.Native.Nat.{_-_}
-use mathlib.Core.Path.{refl, ap, _∙_}
+use mathlib.Core.Path.{_≡_, refl, ap, _∙_}
 use lib.ListN.{length}
 use Rattle.strings.specs.Held.{heldTable}
-use Rattle.strings.proofs.Accepted.{strings-parts}
 use Rattle.lookup.specs.Kinds.{toldIn}
 use Rattle.search.specs.Group.{Lengths}
 use Rattle.batch.proofs.Placed.{Writing, writing-start, place-room, writing-all}
-use Rattle.batch.proofs.Slots.{near-read}
+use Rattle.batch.proofs.Slots.{near-read, picked-read}
 use Rattle.batch.proofs.Groupwise.{Going, going-start, going-text, going-more, going-on}
 use native.Mathlib.Omega.{arith}
 use borrow.Author.Needs.{needs}
@@ -14,58 +13,67 @@ use Rattle.batch.proofs.put_places.Statement.{statement}
 use Rattle.batch.proofs.put_places.Tie as tie
 
 abbrev Inv-loop2 : tie.InvT-loop2
-Inv-loop2 b t s samples starts kind texts answers₀ lengths hashes low i₀ at₀ n j₀ answers i at j = Going (toldIn kind (heldTable b s starts)) texts answers₀ i₀ at₀ n lengths hashes j answers i at
+Inv-loop2 b t s samples starts kind texts answers₀ lengths hashes low text told i₀ at₀ n j₀ answers i at j = Going (toldIn kind (heldTable b s starts)) texts answers₀ i₀ at₀ n lengths hashes j answers i at
 
 abbrev μ-loop2 : tie.MeasureT-loop2
-μ-loop2 b t s samples starts kind texts answers₀ lengths hashes low i₀ at₀ n j₀ answers i at j = n - j
+μ-loop2 b t s samples starts kind texts answers₀ lengths hashes low text told i₀ at₀ n j₀ answers i at j = n - j
 
 abbrev Inv-loop : tie.InvT-loop
-Inv-loop b t s samples starts kind texts answers₀ lengths₀ hashes₀ low₀ i₀ at₀ answers lengths hashes low i at =
-    Writing (toldIn kind (heldTable b s starts)) texts answers₀ i at answers × Lengths lengths hashes low
+Inv-loop b t s samples starts kind texts answers₀ lengths₀ hashes₀ low₀ text₀ told₀ i₀ at₀ answers lengths hashes low text told i at =
+    Writing (toldIn kind (heldTable b s starts)) texts answers₀ i at answers × Lengths lengths hashes low × (length text ≡ 64) × (length told ≡ 64)
 
 abbrev μ-loop : tie.MeasureT-loop
-μ-loop b t s samples starts kind texts answers₀ lengths₀ hashes₀ low₀ i₀ at₀ answers lengths hashes low i at = length texts - at
+μ-loop b t s samples starts kind texts answers₀ lengths₀ hashes₀ low₀ text₀ told₀ i₀ at₀ answers lengths hashes low text told i at = length texts - at
 
 loop-holds : tie.Need-loop-holds Inv-loop2 μ-loop2 Inv-loop μ-loop
-loop-holds c = (writing-start _ _ _ (c .before .before .before .before .pre .1 .1), search needs)
+loop-holds c = (writing-start _ _ _ (c .before .before .before .before .pre .1 .1), search needs, search needs, search needs)
 
 take-requires : tie.Need-take-requires Inv-loop2 μ-loop2 Inv-loop μ-loop
 take-requires c κs = let p = c .before .before .before .before .before .before .before .before .pre in let i = c .before .before .before .loop .inv in (p .0 .0, p .1 .0, i .0 .even, c .before .before .loop-test .taken, i .1 .first, i .1 .second)
 
 bring-near-requires : tie.Need-bring-near-requires Inv-loop2 μ-loop2 Inv-loop μ-loop
-bring-near-requires c κs = let p = c .before .before .before .before .before .before .before .before .before .before .before .pre .0 in let g = c .before .before .take .ensures .1 in (p .1, strings-parts _ (p .2) .0, g .few, g .hashes-long, c .before .before .before .before .before .before .loop .inv .1 .third)
+bring-near-requires c κs =
+    let p = c .before .before .before .before .before .before .before .before .before .before .before .before .before .before .pre .0 in
+    let g = c .before .before .before .before .before .take .ensures .1 in
+    let i = c .before .before .before .before .before .before .before .before .before .loop .inv in
+    (p .1, p .2, g .few, record { first = g .lengths-long; second = g .hashes-long; third = i .1 .third }, i .2, i .3)
 
 loop2-holds : tie.Need-loop2-holds Inv-loop2 μ-loop2 Inv-loop μ-loop
-loop2-holds c = going-start _ _ _ (c .before .before .before .take .ensures .1)
+loop2-holds c = going-start _ _ _ (c .before .before .before .before .before .before .take .ensures .1)
 
 loop-less : tie.Need-loop-less Inv-loop2 μ-loop2 Inv-loop μ-loop
-loop-less c = let g = c .before .loop2 .inv in omega (arith, c .before .before .before .before .before .before .before .before .loop-test .taken, c .loop2-test .left, c .before .before .before .before .before .take .ensures .0, going-on g (omega (arith, c .loop2-test .left, c .before .before .before .before .before .take .ensures .0)))
+loop-less c = let g = c .before .loop2 .inv in omega (arith, c .before .before .before .before .before .before .before .before .before .before .before .loop-test .taken, c .loop2-test .left, c .before .before .before .before .before .before .before .before .take .ensures .0, going-on g (omega (arith, c .loop2-test .left, c .before .before .before .before .before .before .before .before .take .ensures .0)))
 
 loop-again : tie.Need-loop-again Inv-loop2 μ-loop2 Inv-loop μ-loop
-loop-again c = let g = c .before .loop2 .inv in (g .kept _ (c .before .before .before .before .before .before .before .before .before .loop .inv .0), record { first = g .group .lengths-long; second = g .group .hashes-long; third = c .before .before .bring-near .ensures .long })
+loop-again c =
+    let g = c .before .loop2 .inv in
+    let e = c .before .before .bring-near .ensures in
+    (g .kept _ (c .before .before .before .before .before .before .before .before .before .before .before .before .loop .inv .0), record { first = g .group .lengths-long; second = g .group .hashes-long; third = e .0 .long }, e .1 .text-long, e .1 .told-long)
 
-find-from-requires : tie.Need-find-from-requires Inv-loop2 μ-loop2 Inv-loop μ-loop
-find-from-requires c κs = let p = c .before .before .before .before .before .before .before .before .before .before .before .before .before .before .before .pre .0 in
-    let e = going-text (c .before .before .loop2 .inv) (c .before .before .before .before .before .before .before .before .before .before .before .before .before .before .before .pre .1 .0) (c .before .before .before .before .before .before .before .before .before .before .loop .inv .0 .even) (c .before .loop2-test .taken) in
-    ((p .1, p .2), (omega (arith, e .within), c .wide .ensures .0 ∙ e .hashed, near-read (c .before .before .before .bring-near .ensures) _ (c .before .loop2-test .taken) (c .wide .ensures .0) refl))
+find-picked-requires : tie.Need-find-picked-requires Inv-loop2 μ-loop2 Inv-loop μ-loop
+find-picked-requires c κs = let p = c .before .before .before .before .before .before .before .before .before .before .before .before .before .before .before .before .before .before .pre .0 in
+    let l = c .before .loop2-test .taken in
+    let w = c .before .before .before .bring-near .ensures in
+    let e = going-text (c .before .before .loop2 .inv) (c .before .before .before .before .before .before .before .before .before .before .before .before .before .before .before .before .before .before .pre .1 .0) (c .before .before .before .before .before .before .before .before .before .before .before .before .before .loop .inv .0 .even) l in
+    ((p .1, p .2), ((omega (arith, e .within), c .wide .ensures .0 ∙ e .hashed, near-read (w .0) _ l (c .wide .ensures .0) refl), picked-read (w .1) _ l refl refl refl))
 
 put-place-requires : tie.Need-put-place-requires Inv-loop2 μ-loop2 Inv-loop μ-loop
-put-place-requires c κs = place-room _ _ (c .before .before .before .before .loop2 .inv .kept _ (c .before .before .before .before .before .before .before .before .before .before .before .before .loop .inv .0)) (going-text (c .before .before .before .before .loop2 .inv) (c .before .before .before .before .before .before .before .before .before .before .before .before .before .before .before .before .before .pre .1 .0) (c .before .before .before .before .before .before .before .before .before .before .before .before .loop .inv .0 .even) (c .before .before .before .loop2-test .taken))
+put-place-requires c κs = place-room _ _ (c .before .before .before .before .loop2 .inv .kept _ (c .before .before .before .before .before .before .before .before .before .before .before .before .before .before .before .loop .inv .0)) (going-text (c .before .before .before .before .loop2 .inv) (c .before .before .before .before .before .before .before .before .before .before .before .before .before .before .before .before .before .before .before .before .pre .1 .0) (c .before .before .before .before .before .before .before .before .before .before .before .before .before .before .before .loop .inv .0 .even) (c .before .before .before .loop2-test .taken))
 
 add-i : tie.Need-add-i Inv-loop2 μ-loop2 Inv-loop μ-loop
-add-i c = record { fits = omega (arith, c .before .before .before .before .before .before .before .before .before .before .before .before .before .before .before .before .before .before .before .before .good .1 .1 .1 .1 .1 .1 .1 .0 .0, (c .before .before .before .before .before .before .before .loop2 .inv .kept _ (c .before .before .before .before .before .before .before .before .before .before .before .before .before .before .before .loop .inv .0)) .room, ap length ((going-text (c .before .before .before .before .before .before .before .loop2 .inv) (c .before .before .before .before .before .before .before .before .before .before .before .before .before .before .before .before .before .before .before .before .pre .1 .0) (c .before .before .before .before .before .before .before .before .before .before .before .before .before .before .before .loop .inv .0 .even) (c .before .before .before .before .before .before .loop2-test .taken)) .next)) }
+add-i c = record { fits = omega (arith, c .before .before .before .before .before .before .before .before .before .before .before .before .before .before .before .before .before .before .before .before .before .before .before .good .1 .1 .1 .1 .1 .1 .1 .0 .0, (c .before .before .before .before .before .before .before .loop2 .inv .kept _ (c .before .before .before .before .before .before .before .before .before .before .before .before .before .before .before .before .before .before .loop .inv .0)) .room, ap length ((going-text (c .before .before .before .before .before .before .before .loop2 .inv) (c .before .before .before .before .before .before .before .before .before .before .before .before .before .before .before .before .before .before .before .before .before .before .before .pre .1 .0) (c .before .before .before .before .before .before .before .before .before .before .before .before .before .before .before .before .before .before .loop .inv .0 .even) (c .before .before .before .before .before .before .loop2-test .taken)) .next)) }
 
 mul-at : tie.Need-mul-at Inv-loop2 μ-loop2 Inv-loop μ-loop
-mul-at c = record { fits = omega (arith, c .before .before .before .before .before .before .before .before .before .before .before .before .before .before .before .before .before .before .before .before .good .1 .1 .1 .1 .1 .1 .0 .0, (going-text (c .before .before .before .before .before .before .before .loop2 .inv) (c .before .before .before .before .before .before .before .before .before .before .before .before .before .before .before .before .before .before .before .before .pre .1 .0) (c .before .before .before .before .before .before .before .before .before .before .before .before .before .before .before .loop .inv .0 .even) (c .before .before .before .before .before .before .loop2-test .taken)) .within) }
+mul-at c = record { fits = omega (arith, c .before .before .before .before .before .before .before .before .before .before .before .before .before .before .before .before .before .before .before .before .before .before .before .good .1 .1 .1 .1 .1 .1 .0 .0, (going-text (c .before .before .before .before .before .before .before .loop2 .inv) (c .before .before .before .before .before .before .before .before .before .before .before .before .before .before .before .before .before .before .before .before .before .before .before .pre .1 .0) (c .before .before .before .before .before .before .before .before .before .before .before .before .before .before .before .before .before .before .loop .inv .0 .even) (c .before .before .before .before .before .before .loop2-test .taken)) .within) }
 
 add-at : tie.Need-add-at Inv-loop2 μ-loop2 Inv-loop μ-loop
-add-at c = record { fits = omega (arith, c .before .before .before .before .before .before .before .before .before .before .before .before .before .before .before .before .before .before .before .before .good .1 .1 .1 .1 .1 .1 .0 .0, (going-text (c .before .before .before .before .before .before .before .loop2 .inv) (c .before .before .before .before .before .before .before .before .before .before .before .before .before .before .before .before .before .before .before .before .pre .1 .0) (c .before .before .before .before .before .before .before .before .before .before .before .before .before .before .before .loop .inv .0 .even) (c .before .before .before .before .before .before .loop2-test .taken)) .within) }
+add-at c = record { fits = omega (arith, c .before .before .before .before .before .before .before .before .before .before .before .before .before .before .before .before .before .before .before .before .before .before .before .good .1 .1 .1 .1 .1 .1 .0 .0, (going-text (c .before .before .before .before .before .before .before .loop2 .inv) (c .before .before .before .before .before .before .before .before .before .before .before .before .before .before .before .before .before .before .before .before .before .before .before .pre .1 .0) (c .before .before .before .before .before .before .before .before .before .before .before .before .before .before .before .before .before .before .loop .inv .0 .even) (c .before .before .before .before .before .before .loop2-test .taken)) .within) }
 
 add-at-2 : tie.Need-add-at-2 Inv-loop2 μ-loop2 Inv-loop μ-loop
-add-at-2 c = record { fits = omega (arith, c .before .before .before .before .before .before .before .before .before .before .before .before .before .before .before .before .before .before .before .before .good .1 .1 .1 .1 .1 .1 .0 .0, (going-text (c .before .before .before .before .before .before .before .loop2 .inv) (c .before .before .before .before .before .before .before .before .before .before .before .before .before .before .before .before .before .before .before .before .pre .1 .0) (c .before .before .before .before .before .before .before .before .before .before .before .before .before .before .before .loop .inv .0 .even) (c .before .before .before .before .before .before .loop2-test .taken)) .within) }
+add-at-2 c = record { fits = omega (arith, c .before .before .before .before .before .before .before .before .before .before .before .before .before .before .before .before .before .before .before .before .before .before .before .good .1 .1 .1 .1 .1 .1 .0 .0, (going-text (c .before .before .before .before .before .before .before .loop2 .inv) (c .before .before .before .before .before .before .before .before .before .before .before .before .before .before .before .before .before .before .before .before .before .before .before .pre .1 .0) (c .before .before .before .before .before .before .before .before .before .before .before .before .before .before .before .before .before .before .loop .inv .0 .even) (c .before .before .before .before .before .before .loop2-test .taken)) .within) }
 
 loop2-again : tie.Need-loop2-again Inv-loop2 μ-loop2 Inv-loop μ-loop
-loop2-again c = going-more (c .before .before .before .before .before .before .before .loop2 .inv) (c .before .before .before .before .before .before .loop2-test .taken) (going-text (c .before .before .before .before .before .before .before .loop2 .inv) (c .before .before .before .before .before .before .before .before .before .before .before .before .before .before .before .before .before .before .before .before .pre .1 .0) (c .before .before .before .before .before .before .before .before .before .before .before .before .before .before .before .loop .inv .0 .even) (c .before .before .before .before .before .before .loop2-test .taken)) (c .before .before .before .before .find-from .ensures) (c .before .before .put-place .ensures)
+loop2-again c = going-more (c .before .before .before .before .before .before .before .loop2 .inv) (c .before .before .before .before .before .before .loop2-test .taken) (going-text (c .before .before .before .before .before .before .before .loop2 .inv) (c .before .before .before .before .before .before .before .before .before .before .before .before .before .before .before .before .before .before .before .before .before .before .before .pre .1 .0) (c .before .before .before .before .before .before .before .before .before .before .before .before .before .before .before .before .before .before .loop .inv .0 .even) (c .before .before .before .before .before .before .loop2-test .taken)) (c .before .before .before .before .find-picked .ensures) (c .before .before .put-place .ensures)
 
 same-length : tie.Need-same-length Inv-loop2 μ-loop2 Inv-loop μ-loop
 same-length c = c .before .loop .inv .0 .long
@@ -74,9 +82,4 @@ returns : tie.Need-returns Inv-loop2 μ-loop2 Inv-loop μ-loop
 returns c = writing-all _ _ (c .before .loop .inv .0) (c .loop-test .left)
 
 pub put-places-spec : {M : Type 1} → statement M
-put-places-spec =
-    tie.close
-    (tie.spec Inv-loop2 μ-loop2 Inv-loop μ-loop loop-holds take-requires bring-near-requires loop2-holds loop-less loop-again
-    (λ c. search needs) (λ c. search needs) (λ c. search needs) (λ c. search needs) (λ c κs. search needs) (λ c. search needs)
-    (λ c. search needs) find-from-requires put-place-requires add-i mul-at add-at add-at-2 (λ c. search needs) (λ c. search needs)
-    loop2-again same-length returns)
+put-places-spec = tie.close (tie.spec Inv-loop2 μ-loop2 Inv-loop μ-loop loop-holds take-requires bring-near-requires loop2-holds loop-less loop-again (λ c. search needs) (λ c. search needs) (λ c. search needs) (λ c. search needs) (λ c κs. search needs) (λ c. search needs) (λ c. search needs) (λ c. search needs) (λ c. search needs) (λ c. search needs) (λ c. search needs) find-picked-requires put-place-requires add-i mul-at add-at add-at-2 (λ c. search needs) (λ c. search needs) loop2-again same-length returns)

@@ -3,6 +3,7 @@ use Rattle.text.proofs.Laws.{length-chars}
 use Rattle.strings.proofs.Places.{length-at}
 use Rattle.strings.proofs.Spots.{spotted, unspotted}
 use Rattle.lookup.proofs.Bucket.{entry-resolved, other-length, standing, text-there}
+use native.Mathlib.Omega.{arith}
 use borrow.Author.Needs.{needs}
 use Rattle.lookup.proofs.entry_bears.Statement.{statement}
 use Rattle.lookup.proofs.entry_bears.Tie as tie
@@ -23,7 +24,7 @@ alike-requires c κs =
     let e = c .before .before .before .before .before .before .entry-at .ensures .0 in
     let w = spotted _ _ _ _ e (c .before .before .before .spot-to .ensures) (p .0 .laid .characters) (c .before .a .given .1) in
     let x = standing _ _ _ _ _ _ _ (p .2) (p .1) w (length-at _ _ _ _ _ e (c .before .before .before .before .before .u32-at .ensures .0)) (c .before .before .before .before .if1 .left) in
-    (x .fits, p .3)
+    (omega (arith, x .ends), p .3)
 
 returns-3 : tie.Need-returns-3
 returns-3 c =

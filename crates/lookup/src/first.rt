@@ -1,0 +1,114 @@
+// A lookup whose text is compared later: what is known before any text of the table is read, so that a caller with many can have their
+// texts read ahead.
+ghost use mathlib.Core.Path.{_≡_};
+ghost use Prim.Native.Nat.{_+_, _*_, _≤_};
+ghost use lib.ListN.{length};
+ghost use Rattle.verdict.specs.Checks.{firstFault};
+ghost use Rattle.verdict.specs.declared.Verdict.the-variants.{Accepted};
+ghost use Rattle.hash.specs.Hash.{hashText, bucketOf};
+ghost use Rattle.le.specs.Le.{u16At};
+ghost use Rattle.region.specs.Region.{placeOf, Resolves};
+ghost use Rattle.region.specs.Samples.{Mapped, Starts};
+ghost use Rattle.text.specs.Text.{chars};
+ghost use Rattle.strings.specs.Order.{stringChecks};
+ghost use Rattle.strings.specs.Held.{Held, heldTable};
+ghost use Rattle.search.specs.Lower.{Lower};
+ghost use Rattle.lookup.specs.Kinds.{toldIn};
+ghost use Rattle.lookup.specs.Bears.{Bears};
+use crate::Kind;
+use crate::Lookup;
+use region::Region;
+use strings::Strings;
+use strings::entry;
+
+// An entry that may bear the text: where its own text starts and where the 0 behind it stands, and what is told of it. Where there is none,
+// its text starts at 0.
+pub struct Candidate {
+    pub text: usize,
+    pub end: usize,
+    pub told: usize,
+}
+
+fn no_candidate() -> Candidate
+    ensures { λ r. ⌜ (r .text ≡ 0) × (r .end ≡ 0) ⌝ }
+{
+    Candidate {
+        text: 0,
+        end: 0,
+        told: 0,
+    }
+}
+
+// Where the text of the entry at e starts. Its address resolves, so no count is read.
+fn text_at(b: &[u8], chars: Region, samples: &[u32; 1024], e: usize) -> usize
+    requires { ⌜ Mapped 2 (now b) (chars .at) chars × Starts 2 (now b) (chars .at) (chars .shift) (now samples) × (e + 16 ≤ length (now b))
+        × Resolves 2 (now b) (chars .at) (u16At (now b) (e + 12)) (u16At (now b) (e + 14)) ⌝ }
+    ensures { λ r. ⌜ r ≡ placeOf 2 (now (b .entry)) (chars .at) (u16At (now (b .entry)) (e + 12)) (u16At (now (b .entry)) (e + 14)) ⌝ }
+{
+    let p = region::locate(b, chars, 2, samples, le::u16_at(b, e + 12));
+    p + 8 + le::u16_at(b, e + 14) * 2
+}
+
+// Entry `low` of the bucket of hash h, if it has that hash and bears a text of n characters.
+pub fn pick(
+    b: &[u8],
+    s: Strings,
+    samples: &[u32; 1024],
+    starts: &[u32],
+    kind: Kind,
+    h: usize,
+    low: usize,
+    n: usize,
+) -> Candidate
+    requires { ⌜ Held (now b) s (now samples) (now starts) × (firstFault (stringChecks (heldTable (now b) s (now starts))) ≡ Accepted) ⌝ }
+    ensures places { λ r. ⌜ (r .text + 2 ≤ length (now (b .entry))) × (r .end + 2 ≤ length (now (b .entry))) ⌝ }
+    ensures bears { λ r. ⌜ ((r .text ≡ 0 → ⊥) → Bears kind (heldTable (now (b .entry)) s (now (starts .entry))) n (r .text) (r .told)) ⌝ }
+{
+    let k = hash::bucket(h, starts.len());
+    if entry::entry_count(b, s, samples, starts, k) <= low {
+        return no_candidate();
+    }
+    let e = entry::entry_at(b, s, samples, starts, k, low);
+    if le::u32_at(b, e) != h {
+        return no_candidate();
+    }
+    if le::u32_at(b, e + 4) - 1 != n {
+        return no_candidate();
+    }
+    let x = text_at(b, s.chars, samples, e);
+    Candidate {
+        text: x,
+        end: x + 2 * n,
+        told: crate::told_at(b, kind, e),
+    }
+}
+
+// What is told of the n characters at p of what is asked, for a caller that has their hash, its place in the bucket, and what was picked
+// there. Where that bears another text, all entries with the hash are read.
+pub fn find_picked(
+    b: &[u8],
+    s: Strings,
+    samples: &[u32; 1024],
+    starts: &[u32],
+    kind: Kind,
+    h: usize,
+    low: usize,
+    text: usize,
+    told: usize,
+    q: &[u8],
+    p: usize,
+    n: usize,
+) -> Lookup
+    requires { ⌜ Held (now b) s (now samples) (now starts) × (firstFault (stringChecks (heldTable (now b) s (now starts))) ≡ Accepted) ⌝ }
+    requires { ⌜ (p + 2 * n ≤ length (now q)) × (h ≡ hashText (chars (now q) p n))
+        × Lower (heldTable (now b) s (now starts)) (bucketOf (length (now starts)) h) h low ⌝ }
+    requires { ⌜ ((text ≡ 0 → ⊥) → Bears kind (heldTable (now b) s (now starts)) n text told) ⌝ }
+    ensures { λ r. ⌜ r ≡ toldIn kind (heldTable (now (b .entry)) s (now (starts .entry))) (chars (now (q .entry)) p n) ⌝ }
+{
+    if text != 0 {
+        if text::alike(b, text, q, p, n) {
+            return Lookup::Found(told);
+        }
+    }
+    crate::find_from(b, s, samples, starts, kind, h, low, q, p, n)
+}
