@@ -11,7 +11,7 @@ use Rattle.layout.specs.Table.{Table, entries, hashOf}
 use Rattle.strings.specs.Texts.{textOf}
 use Rattle.strings.specs.Order.{allEntryChecks}
 use Rattle.strings.proofs.Only.{rises, hash-of}
-use Rattle.search.specs.Lower.{Lower, Below, Settled}
+use Rattle.search.specs.Lower.{Lower, Below, Capped, Settled}
 
 -- in a bucket by another name
 pub lower-in : {t : Table} {k m h r : ℕ} → k ≡ m → Lower t k h r → Lower t m h r
@@ -41,17 +41,59 @@ module _ (t : Table) (k h : ℕ) where
       above = λ i a l. absurd (omega (arith, e, c .above (w + r) (omega arith) (omega arith), rises t ok k (w + r) (w + m) b (omega arith) n));
     }
 
+  -- ---- all entries of a bucket, and the last one as often as it takes: i were counted, c of them are below
+
+  pub record Filled (n i c : ℕ) : Type 0 where
+    pub upto : c ≤ i
+    pub below : (m : ℕ) → m < c → m < n → hashOf t k m < h
+    pub above : (m : ℕ) → c ≤ m → m < i → m < n → h ≤ hashOf t k m
+
+  pub filled-start : (n : ℕ) → Filled n 0 0
+  filled-start n = record { upto = omega arith; below = λ m a l. absurd (omega arith); above = λ m a l d. absurd (omega arith) }
+
+  module _ (n i c j x : ℕ) (p : Capped i n j) (e : x ≡ hashOf t k j) (f : Filled n i c) where
+    pub filled-other : h ≤ x → Filled n (i + 1) c
+    filled-other g = record {
+      upto = omega (arith, f .upto);
+      below = f .below;
+      above = λ m a l d.
+          ⊎-elim
+          (λ (z : i ≤ m). let y : m ≡ j = omega (arith, p .upto, p .last m (omega arith) d) in rw y (omega (arith, e)))
+          (λ z. f .above m a z d)
+          (le-or-lt i m);
+    }
+
+    pub filled-one : Clean (allEntryChecks t) → k < t .buckets → n ≡ entries t k → x < h → Filled n (i + 1) (c + 1)
+    filled-one ok b q g = record {
+      upto = omega (arith, f .upto);
+      below = λ m a l. omega (arith, e, rises t ok k m j b (p .last m (omega (arith, f .upto)) l) (omega (arith, q, p .inside)));
+      above = λ m a l d.
+          let y = p .last m (omega arith) d in
+          absurd (omega (arith, e, f .above c (omega arith) (omega (arith, p .upto)) (omega arith), rises t ok k c j b (omega arith) (omega (arith, q, p .inside))));
+    }
+
+  module _ (n i c : ℕ) (q : n ≡ entries t k) (l : n ≤ i) (f : Filled n i c) where
+    pub lower-some : c < n → Lower t k h c
+    lower-some a = record {
+      upto = omega (arith, q);
+      below = λ m d. f .below m d (omega arith);
+      above = λ m d r. f .above m d (omega (arith, q)) (omega (arith, q));
+    }
+
+    pub lower-every : n ≤ c → Lower t k h n
+    lower-every a = record {
+      upto = omega (arith, q);
+      below = λ m d. f .below m (omega arith) d;
+      above = λ m d r. absurd (omega (arith, q));
+    }
+
+  -- an empty bucket
+  pub lower-none : entries t k ≤ 0 → Lower t k h 0
+  lower-none e = record { upto = omega arith; below = λ m l. absurd (omega arith); above = λ m a l. absurd (omega arith) }
+
   -- ---- what a count settles
 
   module _ (n : ℕ) (q : n ≡ entries t k) where
-    -- all of a bucket
-    pub lower-all : (r : ℕ) → Below t k h 0 n r → Lower t k h r
-    lower-all r c = record {
-      upto = omega (arith, q, c .upto);
-      below = λ m l. c .below m (omega arith) (omega arith);
-      above = λ m a l. c .above m (omega arith) (omega (arith, q));
-    }
-
     -- eight of it
     pub lower-settled : Clean (allEntryChecks t) → k < t .buckets → (w r : ℕ) → w + 8 ≤ n → Below t k h w 8 r → Settled w r n → Lower t k h (w + r)
     lower-settled ok b w r l c s = record {

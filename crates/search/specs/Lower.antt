@@ -15,6 +15,12 @@ pub record Below (t : Table) (k h w m r : ℕ) : Type 0 where
   pub below : (i : ℕ) → w ≤ i → i < w + r → hashOf t k i < h
   pub above : (i : ℕ) → w + r ≤ i → i < w + m → h ≤ hashOf t k i
 
+-- r is the last of n that is not behind i.
+pub record Capped (i n r : ℕ) : Type 0 where
+  pub inside : r < n
+  pub upto : r ≤ i
+  pub last : (m : ℕ) → m ≤ i → m < n → m ≤ r
+
 -- The hash is above one of the eight from w on, or these are the first; and not above one, or these are the last of n.
 pub record Settled (w c n : ℕ) : Type 0 where
   pub first : c ≡ 0 → w ≡ 0

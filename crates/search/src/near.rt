@@ -7,11 +7,11 @@ ghost use Rattle.verdict.specs.declared.Verdict.the-variants.{Accepted};
 ghost use Rattle.layout.specs.Table.{entries};
 ghost use Rattle.strings.specs.Order.{allEntryChecks};
 ghost use Rattle.strings.specs.Held.{Held, heldTable};
-ghost use Rattle.search.specs.Lower.{Lower, Below, Settled};
+ghost use Rattle.search.specs.Lower.{Lower, Below, Capped, Settled};
 use strings::Strings;
 use strings::entry;
 
-// How many of the m entries of bucket k from entry w on have hashes below h: they ascend, so these come first. All are counted, since
+// How many of the eight entries of bucket k from entry w on have hashes below h: they ascend, so these come first. All are counted, since
 // nothing then hangs on a single one that a processor could guess wrong.
 fn below(
     b: &[u8],
@@ -21,16 +21,15 @@ fn below(
     k: usize,
     h: usize,
     w: usize,
-    m: usize,
 ) -> usize
     requires { ⌜ Held (now b) s (now samples) (now starts) × (k < length (now starts))
         × (firstFault (allEntryChecks (heldTable (now b) s (now starts))) ≡ Accepted)
-        × (w + m ≤ entries (heldTable (now b) s (now starts)) k) ⌝ }
-    ensures { λ r. ⌜ Below (heldTable (now (b .entry)) s (now (starts .entry))) k h w m r ⌝ }
+        × (w + 8 ≤ entries (heldTable (now b) s (now starts)) k) ⌝ }
+    ensures { λ r. ⌜ Below (heldTable (now (b .entry)) s (now (starts .entry))) k h w 8 r ⌝ }
 {
     let mut c = 0usize;
     let mut i = 0;
-    while i < m {
+    while i < 8 {
         let e = entry::entry_at(b, s, samples, starts, k, w + i);
         if le::u32_at(b, e) < h {
             c += 1;
@@ -38,6 +37,42 @@ fn below(
         i += 1;
     }
     c
+}
+
+// Entry i of n, or the last one.
+fn at_most(i: usize, n: usize) -> usize
+    requires { ⌜ 1 ≤ n ⌝ }
+    ensures { λ r. ⌜ Capped i n r ⌝ }
+{
+    if i < n { i } else { n - 1 }
+}
+
+// The first entry of bucket k whose hash is not below h, or the number of entries, n, where these are one to eight. Eight are counted, the
+// last one as often as it takes: a turn more or less for each bucket would be guessed wrong.
+fn lower_few(
+    b: &[u8],
+    s: Strings,
+    samples: &[u32; 1024],
+    starts: &[u32],
+    k: usize,
+    h: usize,
+    n: usize,
+) -> usize
+    requires { ⌜ Held (now b) s (now samples) (now starts) × (k < length (now starts))
+        × (firstFault (allEntryChecks (heldTable (now b) s (now starts))) ≡ Accepted)
+        × (n ≡ entries (heldTable (now b) s (now starts)) k) × (1 ≤ n) × (n ≤ 8) ⌝ }
+    ensures { λ r. ⌜ Lower (heldTable (now (b .entry)) s (now (starts .entry))) k h r ⌝ }
+{
+    let mut c = 0usize;
+    let mut i = 0;
+    while i < 8 {
+        let e = entry::entry_at(b, s, samples, starts, k, at_most(i, n));
+        if le::u32_at(b, e) < h {
+            c += 1;
+        }
+        i += 1;
+    }
+    if c < n { c } else { n }
 }
 
 // The first of eight entries from g on, or of the last eight of n.
@@ -78,11 +113,14 @@ pub fn lower_near(
     ensures { λ r. ⌜ Lower (heldTable (now (b .entry)) s (now (starts .entry))) k h r ⌝ }
 {
     let n = entry::entry_count(b, s, samples, starts, k);
+    if n == 0 {
+        return 0;
+    }
     if n < 8 {
-        return below(b, s, samples, starts, k, h, 0, n);
+        return lower_few(b, s, samples, starts, k, h, n);
     }
     let w = window(g, n);
-    let c = below(b, s, samples, starts, k, h, w, 8);
+    let c = below(b, s, samples, starts, k, h, w);
     if settled(w, c, n) {
         return w + c;
     }
