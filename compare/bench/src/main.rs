@@ -1,4 +1,6 @@
-//! The benchmark: both loaders on made files of 8, 64 and 256 MB.
+//! The benchmark: both loaders on made files of 8, 64 and 256 MB, whose texts
+//! stand in the order of their first use, as builders write them; and acceptance
+//! once more on files whose texts are strewn.
 //!
 //! Before each measurement the workspace is zeroed and every page of the file
 //! has been touched; the best of several rounds counts, in processor time of the
@@ -10,7 +12,7 @@ mod clock;
 mod memory;
 mod subject;
 
-use maker::large::{large, Large};
+use maker::large::{large, Large, Order};
 use maker::rng::Rng;
 use maker::text::{to_bytes, Text};
 use second::{Marked, Plain, Right, Which};
@@ -94,8 +96,21 @@ fn path(file: &Large) -> Vec<u8> {
     path
 }
 
-/// All loaders on one file, in rounds: each round asks every loader once, so
+/// Acceptance by all loaders, in rounds: each round asks every loader once, so
 /// that a slow spell of the machine meets them all. The best round counts.
+fn accept(subjects: &[Box<dyn Subject>], file: &Large) -> Vec<f64> {
+    let mut workspace = vec![0; file.nodes];
+    let mut best = vec![f64::MAX; subjects.len()];
+    for _ in 0..ACCEPT_ROUNDS {
+        for (subject, best) in subjects.iter().zip(&mut best) {
+            workspace.fill(0);
+            *best = best.min(subject.accept(&file.bytes, &mut workspace));
+        }
+    }
+    best
+}
+
+/// All questions to all loaders on one file, in such rounds.
 fn measure(subjects: &[Box<dyn Subject>], file: &Large) -> Vec<Numbers> {
     let mut workspace = vec![0; file.nodes];
     let bytes = &file.bytes;
@@ -104,11 +119,8 @@ fn measure(subjects: &[Box<dyn Subject>], file: &Large) -> Vec<Numbers> {
         (batch(&mut rng, &file.names, NAMES), batch(&mut rng, &file.values, VALUES));
     let path = path(file);
     let mut all: Vec<Numbers> = subjects.iter().map(|_| Numbers::none()).collect();
-    for _ in 0..ACCEPT_ROUNDS {
-        for (subject, numbers) in subjects.iter().zip(&mut all) {
-            workspace.fill(0);
-            numbers.accept = numbers.accept.min(subject.accept(bytes, &mut workspace));
-        }
+    for (numbers, seconds) in all.iter_mut().zip(accept(subjects, file)) {
+        numbers.accept = seconds;
     }
     for _ in 0..LOOKUP_ROUNDS {
         for (subject, numbers) in subjects.iter().zip(&mut all) {
@@ -152,12 +164,13 @@ fn print(title: &str, file: &Large, numbers: &Numbers, first: &Numbers) {
 
 fn main() {
     let most = std::env::args().nth(1).and_then(|word| word.parse().ok()).unwrap_or(256);
+    let sizes: Vec<usize> = SIZES.into_iter().filter(|&size| size <= most).collect();
     let subjects = subjects();
     println!("workspace zeroed, file pages touched; times as multiples of the first line's");
     let mut costs: Vec<Vec<f64>> = vec![Vec::new(); subjects.len()];
     let mut reads = Vec::new();
-    for size in SIZES.into_iter().filter(|&size| size <= most) {
-        let file = large(size);
+    for &size in &sizes {
+        let file = large(size, Order::AsUsed);
         println!(
             "{size} MB: {} bytes, {} nodes, {} attributes, {} values",
             file.bytes.len(),
@@ -172,9 +185,18 @@ fn main() {
             costs[i].push(numbers.accept * 1e9 / file.bytes.len() as f64);
         }
     }
-    println!("acceptance, ns a byte, as files grow:");
-    for (subject, costs) in subjects.iter().zip(costs) {
-        print_growth(subject.title(), &costs);
+    let mut strewn: Vec<Vec<f64>> = vec![Vec::new(); subjects.len()];
+    for &size in &sizes {
+        let file = large(size, Order::Strewn);
+        for (costs, seconds) in strewn.iter_mut().zip(accept(&subjects, &file)) {
+            costs.push(seconds * 1e9 / file.bytes.len() as f64);
+        }
+    }
+    for (title, costs) in [("in the order of their first use", costs), ("strewn", strewn)] {
+        println!("acceptance, ns a byte, as files grow, texts {title}:");
+        for (subject, costs) in subjects.iter().zip(costs) {
+            print_growth(subject.title(), &costs);
+        }
     }
     println!("one read at random in such a file, ns, none waiting for another:");
     print_growth("memory", &reads);

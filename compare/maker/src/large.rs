@@ -2,6 +2,10 @@
 //!
 //! At 64 MB about 490,000 nodes, 2.2 million attributes and 350,000 values in
 //! full segments of 65,535; other sizes in proportion.
+//!
+//! A builder that goes over the tree once adds each text where it is first
+//! used, so that texts stand in that order. Strewn files, whose texts stand
+//! anywhere, show what is lost where one does not.
 
 use crate::attributes::text_attribute;
 use crate::model::{Addr, Attr, Model, Node, Region, Segment};
@@ -25,18 +29,20 @@ const NAMES: usize = 2_000;
 /// Names a node of one level can have: so many, from this one on.
 const LEVELS: [(usize, usize); 4] = [(1, 120), (200, 300), (600, 300), (1_000, 200)];
 
-pub fn large(megabytes: usize) -> Large {
+/// Where texts stand.
+#[derive(Clone, Copy, PartialEq, Eq)]
+pub enum Order {
+    AsUsed,
+    Strewn,
+}
+
+pub fn large(megabytes: usize, order: Order) -> Large {
     let mut rng = Rng::new(megabytes as u64);
     let parts = megabytes.max(1);
     let (node_goal, value_goal) = (490_000 * parts / 64, 350_000 * parts / 64);
     let mut names: Vec<Text> = (0..NAMES).map(|i| text(&name_words(&mut rng, i))).collect();
     names.extend([text("__root__"), text("__value__")]);
-    let values: Vec<Text> = (0..value_goal).map(|i| text(&value_words(&mut rng, i))).collect();
-    let style = Style { segment: FULL, untidy: false, share: false };
-    let mut value_table = table(&mut rng, &values, 1024, style);
-    let mut name_table = table(&mut rng, &names, 512, style);
-    fill_up(&mut value_table.chars);
-    fill_up(&mut name_table.chars);
+    let mut values: Vec<Text> = (0..value_goal).map(|i| text(&value_words(&mut rng, i))).collect();
     let mut attributes = Packed::default();
     let mut nodes = Packed::default();
     grow(&mut rng, node_goal, index_of(&names, "__root__"), &mut nodes, |rng| {
@@ -45,11 +51,24 @@ pub fn large(megabytes: usize) -> Large {
         let run: Vec<Attr> = (0..count)
             .map(|i| {
                 let name = (first + i * 15 + rng.below(15)) as u16;
-                attribute(rng, name, &values, &value_table.list)
+                attribute(rng, name, value_goal)
             })
             .collect();
         (attributes.block(run), count as u16)
     });
+    if order == Order::AsUsed {
+        by_first_use(&mut values, &mut attributes.region);
+    }
+    let in_order = order == Order::AsUsed;
+    let style = Style { segment: FULL, untidy: false, share: false, in_order };
+    let mut value_table = table(&mut rng, &values, 1024, style);
+    let mut name_table = table(&mut rng, &names, 512, style);
+    fill_up(&mut value_table.chars);
+    fill_up(&mut name_table.chars);
+    for attribute in text_attributes(&mut attributes.region) {
+        let value = attribute.word as usize;
+        *attribute = text_attribute(attribute.name, &values[value], value_table.list[value]);
+    }
     let (node_count, attribute_count) = (nodes.count, attributes.count);
     fill_up(&mut nodes.region);
     fill_up(&mut attributes.region);
@@ -79,20 +98,44 @@ fn value_words(rng: &mut Rng, number: usize) -> String {
     made
 }
 
-/// Two in five are texts; short ones are used much more often than others, as
-/// in real files.
-fn attribute(rng: &mut Rng, name: u16, values: &[Text], addresses: &[Addr]) -> Attr {
+/// Two in five are texts; some are used much more often than others, as in real
+/// files. A text is told by its number until the table is made.
+fn attribute(rng: &mut Rng, name: u16, values: usize) -> Attr {
     let (type_word, word) = match rng.below(10) {
         0..=3 => {
             let often = rng.one_in(2);
-            let place = rng.below(if often { values.len() / 50 + 1 } else { values.len() });
-            return text_attribute(name, &values[place], addresses[place]);
+            (3, rng.below(if often { values / 50 + 1 } else { values }) as u32)
         }
         4..=6 => (1, rng.word() >> rng.below(32)),
         7 => (5, rng.word() & 1),
         _ => (2, (rng.word() as f32 / 65_536.0).to_bits()),
     };
     Attr { name, type_word, word, ignored: 0 }
+}
+
+fn text_attributes(region: &mut Region<Attr>) -> impl Iterator<Item = &mut Attr> {
+    let used = region.segments.iter_mut().flat_map(|segment| &mut segment.used);
+    used.filter(|attribute| attribute.type_word & 3 == 3)
+}
+
+/// Puts values in the order in which attributes first use them; those that none
+/// does come last.
+fn by_first_use(values: &mut Vec<Text>, region: &mut Region<Attr>) {
+    let mut number: Vec<Option<u32>> = vec![None; values.len()];
+    let mut order = Vec::with_capacity(values.len());
+    let mut numbered = |value: usize| {
+        *number[value].get_or_insert_with(|| {
+            order.push(value);
+            order.len() as u32 - 1
+        })
+    };
+    for attribute in text_attributes(region) {
+        attribute.word = numbered(attribute.word as usize);
+    }
+    (0..values.len()).for_each(|value| {
+        numbered(value);
+    });
+    *values = order.into_iter().map(|value| std::mem::take(&mut values[value])).collect();
 }
 
 /// Elements packed into full segments, blocks never across two.
@@ -173,11 +216,13 @@ mod tests {
 
     #[test]
     fn large_files_are_accepted() {
-        let made = large(2);
-        let mut workspace = vec![0; made.nodes];
-        let plain: Loader<Right, Plain> = Loader::new(Right);
-        let marked: Loader<Right, Marked> = Loader::new(Right);
-        assert_eq!(plain.accept(&made.bytes, &mut workspace).refusal, 0);
-        assert_eq!(marked.accept(&made.bytes, &mut workspace).refusal, 0);
+        for order in [Order::AsUsed, Order::Strewn] {
+            let made = large(2, order);
+            let mut workspace = vec![0; made.nodes];
+            let plain: Loader<Right, Plain> = Loader::new(Right);
+            let marked: Loader<Right, Marked> = Loader::new(Right);
+            assert_eq!(plain.accept(&made.bytes, &mut workspace).refusal, 0);
+            assert_eq!(marked.accept(&made.bytes, &mut workspace).refusal, 0);
+        }
     }
 }

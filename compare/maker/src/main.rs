@@ -1,7 +1,10 @@
-//! Writes made files: `maker samples DIRECTORY` or `maker large MEGABYTES FILE`.
+//! Writes made files: `maker samples DIRECTORY` or `maker large MEGABYTES FILE`,
+//! with the word `strewn` behind it for texts that stand anywhere.
 
 use std::path::Path;
 use std::process::ExitCode;
+
+use maker::large::{large, Order};
 
 fn run(words: &[&str]) -> std::io::Result<bool> {
     match words {
@@ -13,11 +16,16 @@ fn run(words: &[&str]) -> std::io::Result<bool> {
                 println!("{}: {} bytes", path.display(), sample.bytes.len());
             }
         }
-        ["large", megabytes, file] => {
+        ["large", megabytes, file, rest @ ..] => {
+            let order = match rest {
+                [] => Order::AsUsed,
+                ["strewn"] => Order::Strewn,
+                _ => return Ok(false),
+            };
             let Ok(megabytes) = megabytes.parse() else {
                 return Ok(false);
             };
-            let made = maker::large::large(megabytes);
+            let made = large(megabytes, order);
             std::fs::write(file, &made.bytes)?;
             println!("{file}: {} bytes, {} nodes", made.bytes.len(), made.nodes);
         }
@@ -32,7 +40,7 @@ fn main() -> ExitCode {
     match run(&words) {
         Ok(true) => ExitCode::SUCCESS,
         Ok(false) => {
-            eprintln!("maker samples DIRECTORY | maker large MEGABYTES FILE");
+            eprintln!("maker samples DIRECTORY | maker large MEGABYTES FILE [strewn]");
             ExitCode::from(2)
         }
         Err(error) => {

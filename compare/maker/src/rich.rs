@@ -76,7 +76,12 @@ pub fn index_of(names: &[Text], wanted: &str) -> u16 {
 }
 
 fn style(rng: &mut Rng) -> Style {
-    Style { segment: rng.between(8, 120), untidy: !rng.one_in(4), share: rng.one_in(2) }
+    Style {
+        segment: rng.between(8, 120),
+        untidy: !rng.one_in(4),
+        share: rng.one_in(2),
+        in_order: false,
+    }
 }
 
 const TIMESTAMPS: [u64; 8] = [

@@ -54,7 +54,7 @@ fn shop() -> Model {
         "\u{e9}t\u{e9} = \"summer\"",
     ];
     let values: Vec<Text> = words.iter().map(|word| text(word)).collect();
-    let style = Style { segment: 40, untidy: false, share: true };
+    let style = Style { segment: 40, untidy: false, share: true, in_order: false };
     let mut value_table = table(&mut rng, &values, 1024, style);
     let mut name_table = table(&mut rng, &names, 512, style);
     for segment in value_table.chars.segments.iter_mut().chain(&mut name_table.chars.segments) {

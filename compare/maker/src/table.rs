@@ -14,9 +14,12 @@ pub struct Style {
     pub untidy: bool,
     /// Texts that end another one are not written again.
     pub share: bool,
+    /// Texts stand one after the other by their indices, as a builder that
+    /// writes each when it is added leaves them; otherwise they are strewn.
+    pub in_order: bool,
 }
 
-pub const TIDY: Style = Style { segment: 60_000, untidy: false, share: false };
+pub const TIDY: Style = Style { segment: 60_000, untidy: false, share: false, in_order: false };
 
 /// The table of texts that are all different; text i gets index i + 1.
 pub fn table(rng: &mut Rng, texts: &[Text], buckets: usize, style: Style) -> Table {
@@ -48,7 +51,7 @@ fn place_all(rng: &mut Rng, texts: &[Text], chars: &mut Region<u16>, style: Styl
     if style.share {
         // Longer ones first, so that their ends are there to be shared.
         order.sort_by_key(|&i| std::cmp::Reverse(texts[i].len()));
-    } else {
+    } else if !style.in_order {
         rng.shuffle(&mut order);
     }
     let mut list = vec![(0, 0); texts.len()];
