@@ -2,9 +2,10 @@
 use Prim.Native.Nat.{ℕ, _≤_}
 use native.Mathlib.Omega.{arith}
 use mathlib.Core.Path.{_≡_, ap, sym, _∙_, subst}
+use mathlib.Core.Bool.{Bool}
 use mathlib.Core.List.{List}
 use lib.ListN.{length}
-use Rattle.verdict.specs.Checks.{firstFault}
+use Rattle.verdict.specs.Checks.{firstFault, Sure}
 use Rattle.verdict.specs.declared.Verdict.{Verdict}
 use Rattle.verdict.specs.declared.Verdict.the-variants.{Accepted}
 use Rattle.region.specs.Samples.{Mapped, Starts}
@@ -16,6 +17,7 @@ use Rattle.layout.proofs.Seen.{own-mapped}
 use Rattle.strings.specs.Held.{Held, heldTable}
 use Rattle.strings.specs.Order.{stringChecks}
 use Rattle.strings.specs.declared.Strings.{Strings}
+use Rattle.positions.specs.Packed.{Packed}
 use Rattle.keys.specs.Known.{Known}
 use Rattle.keys.specs.declared.Names.{Names}
 use Rattle.nodes.specs.Held.{valueStrings, Ready}
@@ -73,6 +75,9 @@ module _ (b : List ℕ) (v : View) (f : Fits b v) where
   pub values-told : {r w : Verdict} → r ≡ firstFault (stringChecks (heldTable b (valueStrings (v .places)) (v .«value_buckets»))) → r ≡ w
       → firstFault (stringChecks (values b)) ≡ w
   values-told p q = sym (p ∙ ap (λ (t : Table). firstFault (stringChecks t)) values-table) ∙ q
+
+  pub values-packed : {r : Bool} → Sure (Packed (heldTable b (valueStrings (v .places)) (v .«value_buckets»))) r → Sure (Packed (values b)) r
+  values-packed p z = subst (λ (t : Table). Packed t) values-table (p z)
 
   pub names-told : {r w : Verdict} → r ≡ firstFault (stringChecks (heldTable b (nameStrings (v .places)) (v .«name_buckets»))) → r ≡ w
       → firstFault (stringChecks (names b)) ≡ w

@@ -37,11 +37,13 @@ fn judge(b: &[u8], v: View, ws: &mut [u8]) -> Verdict
         chars: name_chars,
         list: p.name_list,
     };
-    let a = positions::check_table(b, &t, values, &value_starts, &value_buckets);
+    let found = positions::check_table(b, &t, values, &value_starts, &value_buckets);
+    let a = found.answer;
     if let Verdict::Refused(num, place) = a {
         return Verdict::Refused(num, place);
     }
-    let c = positions::check_table(b, &t, names, &name_starts, &name_buckets);
+    let named = positions::check_table(b, &t, names, &name_starts, &name_buckets);
+    let c = named.answer;
     if let Verdict::Refused(num, place) = c {
         return Verdict::Refused(num, place);
     }
@@ -67,6 +69,7 @@ fn judge(b: &[u8], v: View, ws: &mut [u8]) -> Verdict
         &node_starts,
         &value_starts,
         &value_buckets,
+        found.packed,
     );
     if let Verdict::Refused(num, place) = f {
         return Verdict::Refused(num, place);

@@ -3,7 +3,8 @@ use mathlib.Core.Path.{_≡_, refl, sym, ap, _∙_, subst}
 use mathlib.Core.Bool.{cond}
 use mathlib.Core.Logic.{⊎-elim}
 use mathlib.Core.List.{List, [], _∷_, _++_}
-use Prim.Native.Nat.{ℕ, _+_, _-_, _*_, _/_, _%_, _≤_, _<_}
+use Prim.Native.Nat.{ℕ, zero, suc, _+_, _-_, _*_, _/_, _%_, _≤_, _<_}
+use native.Mathlib.Decide.{ℕ-discrete}
 use native.Mathlib.Omega.{arith}
 use borrow.Author.Tests.{eq-eqb, ne-eqb}
 use lib.Dec.{eqb}
@@ -15,6 +16,7 @@ use Rattle.le.specs.Le.{u16At, le4}
 use Rattle.verdict.proofs.Laws.{Clean}
 use Rattle.hash.specs.Hash.{hashText}
 use Rattle.text.specs.Text.{chars, textIn}
+use Rattle.text.specs.Zeros.{zerosIn}
 use Rattle.text.proofs.Laws.{chars-more, text-chars, text-live, text-end}
 use Rattle.lookup.specs.Kinds.{kindOf, numberOf}
 use Rattle.lookup.specs.declared.Lookup.{Lookup}
@@ -94,29 +96,36 @@ module _ {texts : List ℕ} {n at : ℕ} (w : Counted texts n at) where
   pub counted-all : length texts ≤ at → n ≡ length (namesOf texts)
   counted-all h = omega (arith, w .left, ap length (names-end texts at h))
 
--- a block of characters whose zeros are counted by themselves
-pub record Block (texts : List ℕ) (n zeros at end : ℕ) : Type 0 where
-  pub counted : Counted texts (n + zeros) at
-  pub upto : at ≤ end
-  pub room : 2 * zeros + (end - at) ≤ 8192
+-- k characters more, whose zeros are counted by themselves
+counted-block : {texts : List ℕ} {n at : ℕ} → Counted texts n at → length texts % 2 ≡ 0 → (k : ℕ) → at + 2 * k ≤ length texts
+    → Counted texts (n + zerosIn texts at k) (at + 2 * k)
+unfolding zerosIn
+counted-block {texts} {n} {at} w even zero l =
+    let x : n ≡ n + 0 = omega arith in
+    let y : at ≡ at + 2 * 0 = omega arith in
+    subst (λ (i : ℕ). Counted texts (n + 0) i) y (subst (λ (i : ℕ). Counted texts i at) x w)
+counted-block {texts} {n} {at} w even (suc k) l = go (ℕ-discrete (u16At texts (at + 2 * k)) 0) (counted-block w even k (omega arith))
+  where
+    on : at + 2 * k + 2 ≡ at + 2 * suc k
+    on = omega arith
 
-pub block-start : {texts : List ℕ} {n at end : ℕ} → Counted texts n at → (at < end) × (end ≤ length texts) × (end ≤ at + 8192) × (end % 2 ≡ 0) → Block texts n 0 at end
-block-start {texts} {n} {at} w e =
-    let z : n ≡ n + 0 = omega arith in
-    record { counted = subst (λ (x : ℕ). Counted texts x at) z w; upto = omega (arith, e .0); room = omega (arith, e .2) }
+    go : Dec (u16At texts (at + 2 * k) ≡ 0) → Counted texts (n + zerosIn texts at k) (at + 2 * k)
+        → Counted texts (n + (cond (eqb (u16At texts (at + 2 * k)) 0) 1 0 + zerosIn texts at k)) (at + 2 * suc k)
+    go (yes h) c =
+        let x : n + zerosIn texts at k + 1 ≡ n + (1 + zerosIn texts at k) = omega arith in
+        rw (eq-eqb _ 0 h) (subst (Counted texts (n + (1 + zerosIn texts at k))) on
+        (subst (λ (i : ℕ). Counted texts i (at + 2 * k + 2)) x (counted-zero c even (omega arith) h)))
+    go (no h) c =
+        let x : n + zerosIn texts at k ≡ n + (0 + zerosIn texts at k) = omega arith in
+        rw (ne-eqb _ 0 h) (subst (Counted texts (n + (0 + zerosIn texts at k))) on
+        (subst (λ (i : ℕ). Counted texts i (at + 2 * k + 2)) x (counted-other c even (omega arith) h)))
 
-module _ {texts : List ℕ} {n zeros at end : ℕ} (w : Block texts n zeros at end) (l : at < end) (even : end % 2 ≡ 0) where
-  pub block-zero : Counted texts (n + zeros + 1) (at + 2) → Block texts n (zeros + 1) (at + 2) end
-  block-zero c =
-      let z : n + zeros + 1 ≡ n + (zeros + 1) = omega arith in
-      record {
-        counted = subst (λ (x : ℕ). Counted texts x (at + 2)) z c;
-        upto = omega (arith, w .counted .even);
-        room = omega (arith, w .room, w .counted .even);
-      }
-
-  pub block-other : Counted texts (n + zeros) (at + 2) → Block texts n zeros (at + 2) end
-  block-other c = record { counted = c; upto = omega (arith, w .counted .even); room = omega (arith, w .room, w .counted .even) }
+-- up to the end of a block
+pub block-on : {texts : List ℕ} {n at end z : ℕ} → Counted texts n at → length texts % 2 ≡ 0 → at < end → end ≤ length texts → end % 2 ≡ 0
+    → z ≡ zerosIn texts at ((end - at) / 2) → Counted texts (n + z) end
+block-on {texts} {n} {at} {end} w even l h e q =
+    let y : at + 2 * ((end - at) / 2) ≡ end = omega (arith, w .even) in
+    rw q (subst (Counted texts (n + zerosIn texts at ((end - at) / 2))) y (counted-block w even ((end - at) / 2) (omega arith)))
 
 -- ---- the loop that writes
 

@@ -19,7 +19,7 @@ use strings::Strings;
 // Measures the texts from offset `at` on, until the slots are full or the texts end. One pass finds a text's end and its hash.
 pub fn take(
     texts: &[u8],
-    t: &[u32; 1024],
+    t: &[u32; 2048],
     at: usize,
     lengths: &mut [usize; 64],
     hashes: &mut [u32; 64],

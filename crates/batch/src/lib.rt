@@ -27,15 +27,15 @@ pub struct Batch {
     pub texts: usize,
 }
 
-// The end of the next block of characters: short enough for its zeros to be counted in 16 bits.
+// The end of the next block of characters: as long as its zeros can be counted at once.
 fn block_end(at: usize, end: usize) -> usize
     requires { ⌜ (at < end) × (at % 2 ≡ 0) × (end % 2 ≡ 0) ⌝ }
-    ensures { λ r. ⌜ (at < r) × (r ≤ end) × (r ≤ at + 8192) × (r % 2 ≡ 0) ⌝ }
+    ensures { λ r. ⌜ (at < r) × (r ≤ end) × (r ≤ at + 131070) × (r % 2 ≡ 0) ⌝ }
 {
-    if end - at < 8192 { end } else { at + 8192 }
+    if end - at < 131070 { end } else { at + 131070 }
 }
 
-// How many texts there are: each 0 ends one. A block is counted in 16 bits, since the compiler then takes eight characters at a step.
+// How many texts there are: each 0 ends one.
 fn count_texts(texts: &[u8]) -> usize
     requires { ⌜ length (now texts) % 2 ≡ 0 ⌝ }
     ensures { λ r. ⌜ r ≡ length (namesOf (now (texts .entry))) ⌝ }
@@ -44,14 +44,8 @@ fn count_texts(texts: &[u8]) -> usize
     let mut at = 0;
     while at < texts.len() {
         let end = block_end(at, texts.len());
-        let mut zeros = 0u16;
-        while at < end {
-            if le::u16_at(texts, at) == 0 {
-                zeros += 1;
-            }
-            at += 2;
-        }
-        n += zeros as usize;
+        n += text::zeros(texts, at, (end - at) / 2);
+        at = end;
     }
     n
 }
@@ -76,7 +70,7 @@ fn put_place(answers: &mut [u8], at: usize, l: Lookup)
 // Writes what each text's lookup answers, a group of texts at a time.
 fn put_places(
     b: &[u8],
-    t: &[u32; 1024],
+    t: &[u32; 2048],
     s: Strings,
     samples: &[u32; 1024],
     starts: &[u32],
@@ -140,7 +134,7 @@ fn put_places(
 // Looks up each text in a table that is accepted; nothing is written unless there is a place for each.
 pub fn find_each(
     b: &[u8],
-    t: &[u32; 1024],
+    t: &[u32; 2048],
     s: Strings,
     samples: &[u32; 1024],
     starts: &[u32],

@@ -1,10 +1,10 @@
 -- Two characters folded at once, each in its half of a word. Assumes nothing.
-use Prim.Native.Nat.{ℕ, _+_, _*_, _/_, _%_, _^_, _<_}
+use Prim.Native.Nat.{ℕ, _+_, _*_, _/_, _%_, _^_, _≤_, _<_}
 use native.Mathlib.Nat.{div-add-mod', mod-eq-of-lt}
 use native.Mathlib.Omega.{arith}
 use mathlib.Core.Path.{_≡_, ap, sym, _∙_}
 use mathlib.Core.Bool.{Bool}
-use lib.Bits.{bitXor, bitAnd, bitOr, xor-lt, xor-block, and-block, and-high, or-shifted-r}
+use lib.Bits.{bitXor, bitAnd, bitOr, xor-lt, xor-block, and-block, and-high, and-le-l, and-le-r, or-add-and, or-lt, or-mod, or-shr, or-shifted-r}
 use lib.Dec.{eqb, eqb→eq}
 use lib.ListN.{replicate}
 use Rattle.laws.proofs.Computed.{at}
@@ -81,6 +81,20 @@ low-halves w l z =
     sym (and-block 16 (w / 65536) 0xff80 (w % 65536) 0xff80 (omega arith) (omega arith))
     ∙ ap (λ (x : ℕ). bitAnd x 0xff80_ff80) (div-add-mod' w 65536) ∙ z in
     (low-half (w % 65536) (omega arith) (omega arith), low-half (w / 65536) (omega arith) (omega arith))
+
+-- what is low in the bits of two words is low in each
+or-le : (a b : ℕ) → (a ≤ bitOr a b) × (b ≤ bitOr a b)
+or-le a b = (omega (arith, or-add-and a b, and-le-r a b), omega (arith, or-add-and a b, and-le-l a b))
+
+pub low-words : (v w : ℕ) → (v < 2 ^ 32) × (w < 2 ^ 32) → bitAnd (bitOr v w) 0xff80_ff80 ≡ 0
+    → ((v % 65536 < 0x80) × (v / 65536 < 0x80)) × ((w % 65536 < 0x80) × (w / 65536 < 0x80))
+low-words v w l z =
+    let h = low-halves (bitOr v w) (or-lt 32 v w (l .0) (l .1)) z in
+    let a = or-le (v % 65536) (w % 65536) in
+    let b = or-le (v / 65536) (w / 65536) in
+    let c = or-mod v w 16 in
+    let d = or-shr v w 16 in
+    ((omega arith, omega arith), (omega arith, omega arith))
 
 pub low-folded : (w : ℕ) → (w % 65536 < 0x80) × (w / 65536 < 0x80) → FoldedPair w (bitXor w (marks w / 4))
 low-folded w h =

@@ -1,5 +1,6 @@
 -- The tables that are lent: how they are filled, and how characters go through them. Assumes nothing.
 use Prim.Native.Nat.{ℕ, suc, _+_, _-_, _*_, _/_, _%_, _≤_, _<_, _^_}
+use native.Mathlib.Numerals.{add-one}
 use native.Mathlib.Omega.{arith}
 use mathlib.Core.Path.{_≡_, refl, ap, sym, _∙_}
 use mathlib.Core.List.{List}
@@ -7,8 +8,9 @@ use borrow.Author.Count.{below-more}
 use lib.Bits.{bitXor, xor-zero-r}
 use lib.ListN.{length, getD, set, length-set}
 use lib.Seq.{getD-set-same, getD-set-other}
+use Rattle.laws.proofs.Xor.{xor-assoc}
 use Rattle.hash.specs.Table.{entryOf, zeroOn, zerosOn, lentOf, Tables}
-use Rattle.hash.proofs.Linear.{zeros-more}
+use Rattle.hash.proofs.Linear.{zeros-none, zeros-more}
 
 -- the list holds T
 pub record Source (s : List ℕ) : Type 0 where
@@ -16,17 +18,17 @@ pub record Source (s : List ℕ) : Type 0 where
 
 -- the list has room for all, and holds the first n entries
 pub record Filled (t : List ℕ) (n : ℕ) : Type 0 where
-  pub long : length t ≡ 1024
+  pub long : length t ≡ 2048
   pub at : (k : ℕ) → k < n → getD t k 0 ≡ lentOf k
 
-pub filled-none : (t : List ℕ) → length t ≡ 1024 → Filled t 0
+pub filled-none : (t : List ℕ) → length t ≡ 2048 → Filled t 0
 filled-none t l = record { long = l; at = λ k h. absurd (omega arith) }
 
-pub filled-all : (t : List ℕ) (n : ℕ) → 1024 ≤ n → Filled t n → Tables t
+pub filled-all : (t : List ℕ) (n : ℕ) → 2048 ≤ n → Filled t n → Tables t
 filled-all t n e f = record { long = f .long; at = λ k h. f .at k (omega arith) }
 
 -- one entry more
-pub filled-more : (t : List ℕ) (i x : ℕ) → i < 1024 → x ≡ lentOf i → Filled t i → Filled (set t i x) (i + 1)
+pub filled-more : (t : List ℕ) (i x : ℕ) → i < 2048 → x ≡ lentOf i → Filled t i → Filled (set t i x) (i + 1)
 filled-more t i x h p f = record {
   long = length-set t i x ∙ f .long;
   at =
@@ -54,29 +56,30 @@ next-made s i e w j t h p q r =
     ∙ ap zeroOn p
     ∙ sym (lent-at i (suc ((i - 256) / 256)) ((i - 256) % 256) (omega arith) (omega arith))
 
--- x goes on by k + 1 zero bytes: its low byte through table k, the rest of it by k
+-- x goes on by n zero bytes, one more than k: its low byte through table k, the rest of it by k
 module _ (t : List ℕ) (s : Tables t) where
-  step : (k x y m i a r : ℕ) → k < 4 → i ≡ x % 256 → m ≡ 256 * k + i → a ≡ getD t m 0 → y ≡ x / 256 → r ≡ zerosOn k y → bitXor a r ≡ zerosOn (suc k) x
-  step k x y m i a r l p u q d e =
+  step : (k n x y m i a r : ℕ) → k < 8 → n ≡ k + 1 → i ≡ x % 256 → m ≡ 256 * k + i → a ≡ getD t m 0 → y ≡ x / 256 → r ≡ zerosOn k y
+      → bitXor a r ≡ zerosOn n x
+  step k n x y m i a r l o p u q d e =
       ap (λ (n : ℕ). bitXor n r) (q ∙ s .at m (omega arith) ∙ lent-at m k i u (omega arith) ∙ ap (λ (n : ℕ). zerosOn k (entryOf n)) p)
       ∙ ap (bitXor (zerosOn k (entryOf (x % 256)))) (e ∙ ap (zerosOn k) d)
-      ∙ sym (zeros-more k x)
+      ∙ sym (ap (λ (n : ℕ). zerosOn n x) (o ∙ add-one k) ∙ zeros-more k x)
 
   -- one character through them
   pub one-step : (x i j a b : ℕ) → i ≡ x % 256 → j ≡ x / 256 % 256 → a ≡ getD t (256 + i) 0 → b ≡ getD t j 0
       → bitXor a (bitXor b (x / 65536)) ≡ zerosOn 2 x
   unfolding zerosOn
   one-step x i j a b p q y z =
-      step 1 x (x / 256) _ i a _ (omega arith) p refl y refl
-      (step 0 (x / 256) (x / 65536) _ j b _ (omega arith) q (omega arith) z (omega arith) refl)
+      step 1 2 x (x / 256) _ i a _ (omega arith) refl p refl y refl
+      (step 0 1 (x / 256) (x / 65536) _ j b _ (omega arith) refl q (omega arith) z (omega arith) refl)
 
-  -- two characters
-  pub two-step : (x i j k l a b c d : ℕ) → x < 2 ^ 32 → i ≡ x % 256 → j ≡ x / 256 % 256 → k ≡ x / 65536 % 256 → l ≡ x / 16777216 % 256
-      → a ≡ getD t (768 + i) 0 → b ≡ getD t (512 + j) 0 → c ≡ getD t (256 + k) 0 → d ≡ getD t l 0
-      → bitXor a (bitXor b (bitXor c d)) ≡ zerosOn 4 x
-  unfolding zerosOn
-  two-step x i j k l a b c d m p q r s y z v w =
-      step 3 x (x / 256) _ i a _ (omega arith) p refl y refl
-      (step 2 (x / 256) (x / 65536) _ j b _ (omega arith) q refl z (omega arith)
-      (step 1 (x / 65536) (x / 16777216) _ k c _ (omega arith) r refl v (omega arith)
-      (sym (xor-zero-r d) ∙ step 0 (x / 16777216) 0 _ l d 0 (omega arith) s (omega arith) w (omega arith) refl)))
+  -- four bytes of a hash, and k zero bytes more
+  pub four-step : (k x i j m l a b c d : ℕ) → k ≤ 4 → x < 2 ^ 32 → i ≡ x % 256 → j ≡ x / 256 % 256 → m ≡ x / 65536 % 256 → l ≡ x / 16777216 % 256
+      → (a ≡ getD t (256 * k + 768 + i) 0) × (a < 2 ^ 32) → b ≡ getD t (256 * k + 512 + j) 0 → c ≡ getD t (256 * k + 256 + m) 0 → d ≡ getD t (256 * k + l) 0
+      → bitXor (bitXor a b) (bitXor c d) ≡ zerosOn (k + 4) x
+  four-step k x i j m l a b c d o h p q r s y z v w =
+      xor-assoc 32 a b (bitXor c d) (y .1)
+      ∙ step (k + 3) (k + 4) x (x / 256) _ i a _ (omega arith) (omega arith) p (omega arith) (y .0) refl
+      (step (k + 2) (k + 3) (x / 256) (x / 65536) _ j b _ (omega arith) (omega arith) q (omega arith) z (omega arith)
+      (step (k + 1) (k + 2) (x / 65536) (x / 16777216) _ m c _ (omega arith) (omega arith) r (omega arith) v (omega arith)
+      (sym (xor-zero-r d) ∙ step k (k + 1) (x / 16777216) 0 _ l d 0 (omega arith) refl s refl w (omega arith) (sym (zeros-none k)))))

@@ -1,4 +1,4 @@
--- T is linear: the entry of an exclusive or is the exclusive or of the entries. So two characters go in one step. Assumes nothing.
+-- T is linear: the entry of an exclusive or is the exclusive or of the entries. So four characters go in one step. Assumes nothing.
 use Prim.Native.Nat.{ℕ, zero, suc, _*_, _/_, _%_, _^_, _≤_, _<_}
 use native.Mathlib.Nat.{mod-lt, mod-eq-of-lt, div-add-mod'}
 use native.Mathlib.Omega.{arith}
@@ -106,7 +106,7 @@ zero-lt : (x : ℕ) → x < 2 ^ 32 → zeroOn x < 2 ^ 32
 unfolding zeroOn
 zero-lt x h = xor-lt 32 (entryOf (x % 256)) (x / 256) (entry-lt _ (mod-lt x (lit< tt))) (omega arith)
 
-zeros-lt : (k x : ℕ) → x < 2 ^ 32 → zerosOn k x < 2 ^ 32
+pub zeros-lt : (k x : ℕ) → x < 2 ^ 32 → zerosOn k x < 2 ^ 32
 unfolding zerosOn
 zeros-lt zero x h = h
 zeros-lt (suc k) x h = zero-lt (zerosOn k x) (zeros-lt k x h)
@@ -120,6 +120,12 @@ zero-linear x y h =
     ∙ ap (λ (u : ℕ). bitXor u (bitXor x y / 256)) (entry-linear (x % 256) (y % 256) i j)
     ∙ ap (bitXor (bitXor (entryOf (x % 256)) (entryOf (y % 256)))) (xor-shr x y 8)
     ∙ xor-four 32 (entryOf (x % 256)) (entryOf (y % 256)) (x / 256) (y / 256) (entry-lt _ i) (entry-lt _ j) (omega arith)
+
+-- 0 stays 0
+pub zeros-none : (k : ℕ) → zerosOn k 0 ≡ 0
+unfolding zerosOn zeroOn entryOf T
+zeros-none zero = refl
+zeros-none (suc k) = ap zeroOn (zeros-none k)
 
 zeros-linear : (k x y : ℕ) → x < 2 ^ 32 → zerosOn k (bitXor x y) ≡ bitXor (zerosOn k x) (zerosOn k y)
 unfolding zerosOn
@@ -175,3 +181,12 @@ pair-zeros h w l m =
     char-zeros (hashChar h (w % 65536)) (w / 65536) u (omega arith)
     ∙ ap (λ (x : ℕ). zerosOn 2 (bitXor x (w / 65536))) e
     ∙ by-halves 2 16 h w (λ y. let d : y * 65536 ≡ y * 256 * 256 = omega arith in ap (λ (x : ℕ). zeroOn (zeroOn x)) d ∙ ap zeroOn (shifted (y * 256)) ∙ shifted y) l (omega arith)
+
+-- two words: the second is taken in beside the first, four zero bytes later
+pub quad-zeros : (h v w : ℕ) → h < 2 ^ 32 → v < 2 ^ 32 → w < 2 ^ 32
+    → hashChar (hashChar (hashChar (hashChar h (v % 65536)) (v / 65536)) (w % 65536)) (w / 65536) ≡ bitXor (zerosOn 8 (bitXor h v)) (zerosOn 4 w)
+unfolding zerosOn
+quad-zeros h v w l m o =
+    let e = pair-zeros h v l m in
+    let u : hashChar (hashChar h (v % 65536)) (v / 65536) < 2 ^ 32 = rw e (zeros-lt 4 _ (xor-lt 32 h v l m)) in
+    pair-zeros _ w u o ∙ zeros-linear 4 _ w u ∙ ap (λ (x : ℕ). bitXor (zerosOn 4 x) (zerosOn 4 w)) e

@@ -69,11 +69,11 @@ unfoldable pub zerosOn : ℕ → ℕ → ℕ
 zerosOn zero h = h
 zerosOn (suc k) h = zeroOn (zerosOn k h)
 
--- What the code lends: T, then T one zero byte on, two, three. Entry k of it.
+-- What the code lends: T, then T one zero byte on, two, and so on to seven. Entry k of it.
 unfoldable pub lentOf : ℕ → ℕ
 lentOf k = zerosOn (k / 256) (entryOf (k % 256))
 
--- The list holds all four.
+-- The list holds all eight.
 pub record Tables (t : List ℕ) : Type 0 where
-  pub long : length t ≡ 1024
-  pub at : (k : ℕ) → k < 1024 → getD t k 0 ≡ lentOf k
+  pub long : length t ≡ 2048
+  pub at : (k : ℕ) → k < 2048 → getD t k 0 ≡ lentOf k

@@ -1,7 +1,7 @@
 // The string hash and the value hash (01, "Strings").
 ghost use mathlib.Core.Path.{_≡_};
-ghost use Prim.Native.Nat.{_/_, _%_, _^_, _<_};
-ghost use Rattle.hash.specs.Table.{Tables};
+ghost use Prim.Native.Nat.{_+_, _/_, _%_, _^_, _≤_, _<_};
+ghost use Rattle.hash.specs.Table.{zerosOn, Tables};
 ghost use Rattle.hash.specs.Hash.{hashChar, bucketOf};
 ghost use Rattle.hash.specs.Fold.{folded, FoldedPair, valueHashOf};
 
@@ -271,19 +271,19 @@ fn low(x: usize) -> usize
     x & 255
 }
 
-// T, and after it the same entries one, two and three zero bytes on, so that two characters go in one step.
+// T, and after it the same entries one to seven zero bytes on, so that four characters go in one step.
 // A constant is laid on the stack at each use: this is made once, at the top, and lent.
-pub fn tables() -> [u32; 1024]
+pub fn tables() -> [u32; 2048]
     ensures { λ r. ⌜ Tables r ⌝ }
 {
     let source = T;
-    let mut t = [0u32; 1024];
+    let mut t = [0u32; 2048];
     let mut i = 0;
     while i < 256 {
         t[i] = source[i];
         i += 1;
     }
-    while i < 1024 {
+    while i < 2048 {
         let e = t[i - 256];
         t[i] = source[low(le::wide(e))] ^ (e >> 8);
         i += 1;
@@ -292,7 +292,7 @@ pub fn tables() -> [u32; 1024]
 }
 
 // The hash after one character more: its low byte and its high byte in one step.
-pub fn char_on(t: &[u32; 1024], h: usize, c: usize) -> usize
+pub fn char_on(t: &[u32; 2048], h: usize, c: usize) -> usize
     requires { ⌜ Tables (now t) × (h < 2 ^ 32) × (c < 65536) ⌝ }
     ensures { λ r. ⌜ (r ≡ hashChar h c) × (r < 2 ^ 32) ⌝ }
 {
@@ -300,14 +300,33 @@ pub fn char_on(t: &[u32; 1024], h: usize, c: usize) -> usize
     le::wide(t[256 + low(x)]) ^ (le::wide(t[low(x >> 8)]) ^ (x >> 16))
 }
 
+// A hash, k + 4 zero bytes on: each of its bytes through the table that is as far on as that byte has to go.
+fn bytes_on(t: &[u32; 2048], k: usize, x: usize) -> usize
+    requires { ⌜ Tables (now t) × (k ≤ 4) × (x < 2 ^ 32) ⌝ }
+    ensures { λ r. ⌜ (r ≡ zerosOn (k + 4) x) × (r < 2 ^ 32) ⌝ }
+{
+    let first = 256 * k;
+    let a = le::wide(t[first + 768 + low(x)]) ^ le::wide(t[first + 512 + low(x >> 8)]);
+    let b = le::wide(t[first + 256 + low(x >> 16)]) ^ le::wide(t[first + low(x >> 24)]);
+    a ^ b
+}
+
 // The hash after two characters more, read as one word: all four bytes in one step.
-pub fn pair_on(t: &[u32; 1024], h: usize, w: usize) -> usize
+pub fn pair_on(t: &[u32; 2048], h: usize, w: usize) -> usize
     requires { ⌜ Tables (now t) × (h < 2 ^ 32) × (w < 2 ^ 32) ⌝ }
     ensures { λ r. ⌜ (r ≡ hashChar (hashChar h (w % 65536)) (w / 65536)) × (r < 2 ^ 32) ⌝ }
 {
-    let x = h ^ w;
-    let near = le::wide(t[256 + low(x >> 16)]) ^ le::wide(t[low(x >> 24)]);
-    le::wide(t[768 + low(x)]) ^ (le::wide(t[512 + low(x >> 8)]) ^ near)
+    bytes_on(t, 0, h ^ w)
+}
+
+// The hash after four characters more, read as two words: all eight bytes in one step. What the second word adds does not wait
+// for the hash.
+pub fn quad_on(t: &[u32; 2048], h: usize, v: usize, w: usize) -> usize
+    requires { ⌜ Tables (now t) × (h < 2 ^ 32) × (v < 2 ^ 32) × (w < 2 ^ 32) ⌝ }
+    ensures { λ r. ⌜ (r ≡ hashChar (hashChar (hashChar (hashChar h (v % 65536)) (v / 65536)) (w % 65536)) (w / 65536)) × (r < 2 ^ 32) ⌝ }
+{
+    let near = bytes_on(t, 0, w);
+    bytes_on(t, 4, h ^ v) ^ near
 }
 
 // The bucket of a hash, among n. The tables have 1,024 and 512: a remainder by a number that is known takes no division.
@@ -396,6 +415,29 @@ pub fn fold_pair(w: usize) -> usize
         return fold_low(w);
     }
     fold(w & 65535) | (fold(w >> 16) << 16)
+}
+
+// Four characters, two in each word.
+pub struct Quad {
+    pub first: usize,
+    pub second: usize,
+}
+
+// Four characters folded, each in its half of its word: one test where all are below 0080.
+pub fn fold_quad(v: usize, w: usize) -> Quad
+    requires { ⌜ (v < 2 ^ 32) × (w < 2 ^ 32) ⌝ }
+    ensures { λ r. ⌜ FoldedPair v (r .first) × FoldedPair w (r .second) ⌝ }
+{
+    if (v | w) & 0xff80_ff80 == 0 {
+        return Quad {
+            first: fold_low(v),
+            second: fold_low(w),
+        };
+    }
+    Quad {
+        first: fold_pair(v),
+        second: fold_pair(w),
+    }
 }
 
 // What is kept of the hash of a folded text.

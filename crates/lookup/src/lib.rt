@@ -132,7 +132,7 @@ pub fn find_from(
 // The same for a caller that has the text only.
 pub fn find_text(
     b: &[u8],
-    t: &[u32; 1024],
+    t: &[u32; 2048],
     s: Strings,
     samples: &[u32; 1024],
     starts: &[u32],

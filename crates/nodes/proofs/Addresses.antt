@@ -16,8 +16,6 @@ use Rattle.hash.specs.Hash.{hashText, bucketOf}
 use Rattle.hash.specs.Fold.{valueHash}
 use Rattle.region.specs.Region.{Laid, Resolves}
 use Rattle.text.specs.Text.{textIn, textAt}
-use Rattle.text.specs.Measure.{Hashed}
-use Rattle.text.specs.declared.Hashes.{Hashes}
 use Rattle.text.proofs.Laws.{room-fits}
 use Rattle.layout.specs.Table.{Table, entries, entryAt, hashOf, segmentOf, elementOf}
 use Rattle.layout.specs.Layout.{values}
@@ -29,7 +27,8 @@ use Rattle.strings.proofs.Accepted.{all-good, strings-parts}
 use Rattle.strings.proofs.Only.{text-of-address, hash-of, bucket-of}
 use Rattle.strings.proofs.Spots.{spot-in, spot-out}
 use Rattle.nodes.specs.Attribute.{typeWord, textSegment, textElement}
-use Rattle.nodes.specs.Rules.{EntryAddress, TextRule, TextRight}
+use Rattle.strings.specs.Rules.{EntryAddress}
+use Rattle.nodes.specs.Rules.{TextRule, TextRight}
 use Rattle.nodes.proofs.Fields.{kind-is, extended-is}
 
 -- ---- an entry's address, as one number: that of the address at p
@@ -143,24 +142,25 @@ module _ (b : List ℕ) (q w y : ℕ) (e : w ≡ u16At b (q + 2)) (f : y ≡ typ
             let s = spot-in _ _ _ _ (sym g ∙ z) in
             ap (λ (p : ℕ). textIn (t .bytes) p n) (s .1) ∙ ap (textIn (t .bytes) _) (s .2)
 
-        module _ (h : Hashes) (m : Hashed (t .bytes) x n h) (v : ℕ) (i : v ≡ extendedOf w) where
-          pub text-differs : (v ≡ h .value → ⊥) → Tells (TextRight b q) false
+        module _ (a : ℕ) (m : a ≡ valueHash (textIn (t .bytes) x n)) (v : ℕ) (i : v ≡ extendedOf w) where
+          pub text-differs : (v ≡ a → ⊥) → Tells (TextRight b q) false
           text-differs d =
               tells-no (λ u. d (sym (extended-is b q w e v i)
               ∙ back (λ s k j. extendedOf (typeWord b q) ≡ valueHash (textTo s k j)) (rule-of u .hash)
-              ∙ ap valueHash (sym text-there) ∙ sym (m .value)))
+              ∙ ap valueHash (sym text-there) ∙ sym m))
 
-          pub text-told : Bytes b → t .bytes ≡ b → v ≡ h .value → (k : ℕ) → (k ≡ bucketOf (t .buckets) (h .hash)) × (k < t .buckets)
-              → (address : ℕ) → address ≡ u32At b (q + 4) → {o : Bool} → Meets t k (h .hash) 12 address o → Tells (TextRight b q) o
-          text-told bytes here d k l address g {o} p = record {
+          pub text-told : Bytes b → t .bytes ≡ b → v ≡ a → (h : ℕ) → h ≡ hashText (textIn (t .bytes) x n)
+              → (k : ℕ) → (k ≡ bucketOf (t .buckets) h) × (k < t .buckets)
+              → (address : ℕ) → address ≡ u32At b (q + 4) → {o : Bool} → Meets t k h 12 address o → Tells (TextRight b q) o
+          text-told bytes here d h c k l address g {o} p = record {
             so = λ u s. record {
               entry = there EntryAddress (told .so u);
               hash = there (λ s k j. extendedOf (typeWord b q) ≡ valueHash (textTo s k j))
-                  (extended-is b q w e v i ∙ d ∙ m .value ∙ ap valueHash text-there);
+                  (extended-is b q w e v i ∙ d ∙ m ∙ ap valueHash text-there);
             };
             not = λ u s. told .not u (entry-of s);
           }
             where
               told : Tells (EntryAddress t seg el) o
-              told = address-told t passed seg el (h .hash) k (m .hashed ∙ ap hashText text-there) (l .0) (l .1)
-                  (address-in b bytes (q + 4) t here k (h .hash) address g p)
+              told = address-told t passed seg el h k (c ∙ ap hashText text-there) (l .0) (l .1)
+                  (address-in b bytes (q + 4) t here k h address g p)

@@ -15,7 +15,8 @@ use Rattle.keys.specs.Names.{nameCount, rootName, valueName}
 use Rattle.keys.specs.Decisions.{bears?}
 use Rattle.nodes.specs.Node.{nodeName, keyWord, attributeField, attributeSegment, attributeElement, childSegment, childElement, Live, attributeCount, childCount, nodeAt, attributeAt, childAt}
 use Rattle.nodes.specs.Attribute.{attributeName, typeWord, valueWord, textSegment, textElement, Typed}
-use Rattle.nodes.specs.Rules.{RootUsed, RootRule, NodeRule, AttributesReach, AttributeRule, EntryAddress, TextRight, ChildRule}
+use Rattle.strings.specs.Rules.{EntryAddress}
+use Rattle.nodes.specs.Rules.{RootUsed, RootRule, NodeRule, AttributesReach, AttributeRule, TextRight, ChildRule}
 
 unfoldable pub rootUsed? : (b : List ℕ) → Dec (RootUsed b)
 rootUsed? b = resolves? nodeSize b (nodesAt b) 0 0

@@ -3,14 +3,13 @@ use Prim.Native.Nat.{ℕ, _-_, _≤_, _<_}
 use mathlib.Core.Path.{_≡_}
 use mathlib.Core.Logic.{_⊎_}
 use mathlib.Core.List.{List}
-use Rattle.verdict.specs.Decide.{SomeBelow}
 use Rattle.words.specs.Words.{flagsOf, keyIndexOf, typeOf, extendedOf}
 use Rattle.hash.specs.Fold.{valueHash}
 use Rattle.region.specs.Region.{Resolves, Reaches, placeOf}
 use Rattle.layout.specs.Header.{keyCount}
-use Rattle.layout.specs.Table.{Table, entries, segmentOf, elementOf}
 use Rattle.layout.specs.Layout.{attributeSize, nodeSize, attributesAt, nodesAt, values}
 use Rattle.strings.specs.Texts.{textTo}
+use Rattle.strings.specs.Rules.{EntryAddress}
 use Rattle.keys.specs.Names.{nameCount, rootName, valueName, Bears}
 use Rattle.nodes.specs.Node.{nodeName, keyWord, attributeField, attributeSegment, attributeElement, childSegment, childElement, Live, attributeCount, childCount, nodeAt, attributeAt, childAt}
 use Rattle.nodes.specs.Attribute.{attributeName, typeWord, textSegment, textElement, Typed}
@@ -44,10 +43,6 @@ pub record AttributeRule (b : List ℕ) (p i : ℕ) : Type 0 where
   pub above : (i ≡ 0) ⊎ (attributeName b (attributeAt b p (i - 1)) < attributeName b (attributeAt b p i))
   pub typed : Typed b (attributeAt b p i)
   pub value : Bears b (attributeName b (attributeAt b p i)) valueName → typeOf (typeWord b (attributeAt b p i)) ≡ 3
-
--- An address is that of some entry of a table.
-abbrev pub EntryAddress : Table → ℕ → ℕ → Type 0
-EntryAddress t seg el = SomeBelow (t .buckets) (λ k. SomeBelow (entries t k) (λ j. (segmentOf t k j ≡ seg) × (elementOf t k j ≡ el)))
 
 -- 19: the text of the attribute at q is at a values entry's address, and the extended code is its value hash.
 pub record TextRule (b : List ℕ) (q : ℕ) : Type 0 where

@@ -6,10 +6,6 @@ use mathlib.Core.List.{List}
 use Rattle.layout.specs.Layout.{nodeSize}
 use Rattle.nodes.specs.Node.{nodeName, Live}
 
--- Where r is true, P holds; where it is not, nothing is told.
-abbrev pub Sure : Type 0 → Bool → Type 0
-Sure P r = r ≡ true → P
-
 -- The name indices of the live ones among the n nodes from offset q on do not fall.
 abbrev pub Rising : List ℕ → ℕ → ℕ → Type 0
 Rising b q n = (j : ℕ) → j < n → (i : ℕ) → i < j → Live b (q + i * nodeSize) → Live b (q + j * nodeSize) → nodeName b (q + i * nodeSize) ≤ nodeName b (q + j * nodeSize)

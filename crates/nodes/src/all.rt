@@ -3,7 +3,7 @@ ghost use mathlib.Core.Path.{_≡_};
 ghost use Rattle.verdict.specs.Checks.{firstFault};
 ghost use Rattle.hash.specs.Table.{Tables};
 ghost use Rattle.nodes.specs.Rules.{TextsRight};
-ghost use Rattle.nodes.specs.Search.{Sure};
+ghost use Rattle.verdict.specs.Checks.{Sure};
 ghost use Rattle.nodes.specs.Order.{allNodeChecks};
 ghost use Rattle.nodes.specs.Held.{Ready};
 use crate::node;
@@ -14,7 +14,7 @@ use verdict::Verdict;
 // Refusals 16 to 19 and 23 of every used node, up to the first fault; 19 may be known not to be due to any.
 pub fn check_nodes(
     b: &[u8],
-    t: &[u32; 1024],
+    t: &[u32; 2048],
     p: Places,
     names: Names,
     attribute_starts: &[u32; 1024],

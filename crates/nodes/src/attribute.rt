@@ -13,7 +13,7 @@ ghost use Rattle.nodes.specs.Node.{attributeCount, attributeAt};
 ghost use Rattle.nodes.specs.Attribute.{Typed};
 ghost use Rattle.nodes.specs.Rules.{AttributeRule, TextRight, TextsOf};
 ghost use Rattle.nodes.specs.Order.{nodeAttributeChecks};
-ghost use Rattle.nodes.specs.Search.{Sure};
+ghost use Rattle.verdict.specs.Checks.{Sure};
 use keys::Names;
 use search::run;
 use strings::Strings;
@@ -77,7 +77,7 @@ fn attribute_right(b: &[u8], names: Names, p: usize, i: usize, q: usize) -> bool
 // Whether refusal 19 is not due to the attribute at q. An entry with its address would stand in the bucket of the text there.
 fn text_right(
     b: &[u8],
-    t: &[u32; 1024],
+    t: &[u32; 2048],
     s: Strings,
     samples: &[u32; 1024],
     starts: &[u32],
@@ -95,20 +95,21 @@ fn text_right(
     let Spot::At(x, n) = a else {
         return false;
     };
-    let h = text::both_hashes(b, t, x, n);
-    if words::extended(word) != h.value {
+    if words::extended(word) != text::value_hash(b, t, x, n) {
         return false;
     }
-    let k = hash::bucket(h.hash, starts.len());
-    let low = search::lower(b, s, samples, starts, k, h.hash);
+    let m = text::measure(b, t, x, n);
+    let h = m.hash;
+    let k = hash::bucket(h, starts.len());
+    let low = search::lower(b, s, samples, starts, k, h);
     let address = le::u32_at(b, q + 4);
-    run::run_has(b, s, samples, starts, k, h.hash, low, 12, address)
+    run::run_has(b, s, samples, starts, k, h, low, 12, address)
 }
 
 // The same where it may be known of the attribute already.
 fn text_passes(
     b: &[u8],
-    t: &[u32; 1024],
+    t: &[u32; 2048],
     s: Strings,
     samples: &[u32; 1024],
     starts: &[u32],
@@ -128,7 +129,7 @@ fn text_passes(
 // Refusals 18 and 19 of the attributes of the node at p, the first of which stands at a; 19 may be known not to be due.
 pub fn check_attributes(
     b: &[u8],
-    t: &[u32; 1024],
+    t: &[u32; 2048],
     names: Names,
     s: Strings,
     samples: &[u32; 1024],

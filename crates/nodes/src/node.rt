@@ -11,7 +11,8 @@ ghost use Rattle.layout.specs.Layout.{nodeSize, nodesAt};
 ghost use Rattle.keys.specs.Known.{Known};
 ghost use Rattle.nodes.specs.Node.{nodeAt, Live};
 ghost use Rattle.nodes.specs.Rules.{NodeRule, TextsRight, ChildRule};
-ghost use Rattle.nodes.specs.Search.{Sure, Rising};
+ghost use Rattle.verdict.specs.Checks.{Sure};
+ghost use Rattle.nodes.specs.Search.{Rising};
 ghost use Rattle.nodes.specs.Order.{nodeChecks};
 ghost use Rattle.nodes.specs.Held.{Ready};
 use crate::attribute;
@@ -97,7 +98,7 @@ fn children_right(b: &[u8], nodes: Region, starts: &[u32; 1024], p: usize) -> bo
 // Refusals 16 to 19 and 23 of node seg:el, which stands at x; 19 may be known not to be due.
 pub fn check_node(
     b: &[u8],
-    t: &[u32; 1024],
+    t: &[u32; 2048],
     p: Places,
     names: Names,
     attribute_starts: &[u32; 1024],

@@ -24,7 +24,8 @@ use Rattle.keys.specs.Names.{nameCount, nameText}
 use Rattle.keys.proofs.Only.{position-resolves}
 use Rattle.nodes.specs.Node.{nodeName, Live, attributeCount, nodeAt, attributeAt}
 use Rattle.nodes.specs.Attribute.{attributeName, valueOf, Typed, typeWord, textSegment, textElement}
-use Rattle.nodes.specs.Rules.{EntryAddress, TextRule, TextRight, AttributeRule, NodeRules}
+use Rattle.strings.specs.Rules.{EntryAddress}
+use Rattle.nodes.specs.Rules.{TextRule, TextRight, AttributeRule, NodeRules}
 use Rattle.nodes.specs.declared.value.Value.the-variants.{Whole, Truth, Float, Text}
 use Rattle.nodes.proofs.Values.{value-whole, value-truth, value-float, value-text}
 use Rattle.tree.specs.Chain.{ranged}

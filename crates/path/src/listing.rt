@@ -24,7 +24,7 @@ pub struct Listing {
 // unless all fit.
 pub fn list_path(
     b: &[u8],
-    t: &[u32; 1024],
+    t: &[u32; 2048],
     s: Strings,
     samples: &[u32; 1024],
     buckets: &[u32],

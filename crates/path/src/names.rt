@@ -53,7 +53,7 @@ fn name_end(path: &[u8], at: usize) -> usize
 // The indices of a path's names.
 pub fn find_names(
     b: &[u8],
-    t: &[u32; 1024],
+    t: &[u32; 2048],
     s: Strings,
     samples: &[u32; 1024],
     starts: &[u32],

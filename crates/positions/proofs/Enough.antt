@@ -1,11 +1,9 @@
 -- A table whose entries pass, and that has as many of them as list positions: each position is carried. Assumes nothing.
-use Prim.Native.Nat.{ℕ, zero, suc, _+_, _*_, _^_, _≤_, _<_}
+use Prim.Native.Nat.{ℕ, zero, suc, _+_, _-_, _*_, _^_, _≤_, _<_}
 use native.Mathlib.Omega.{arith}
-use mathlib.Core.Path.{_≡_, refl, ap, sym, _∙_}
-use mathlib.Core.Logic.{⊎-elim}
-use mathlib.Core.List.{List, [], _∷_, _++_, List·Memᴰ, List·Memᴰ·not-nil, List·Memᴰ·cases-cons, List·Memᴰ·append-cases}
-use lib.ListN.{length, getD, length-append}
-use Rattle.verdict.specs.Decide.{SomeBelow}
+use mathlib.Core.Path.{_≡_, refl, sym, _∙_}
+use mathlib.Core.List.{List}
+use lib.ListN.{length, getD}
 use Rattle.verdict.proofs.Laws.{Clean}
 use Rattle.layout.specs.Table.{Table, bucketAt, entries, indexOf, listAt, count}
 use Rattle.strings.specs.Rules.{Carried}
@@ -15,76 +13,26 @@ use Rattle.strings.specs.Order.{allEntryChecks, allPositionChecks}
 use Rattle.strings.proofs.Accepted.{all-good, positions-clean}
 use Rattle.strings.proofs.Only.{text-of-index, one-entry}
 use Rattle.positions.specs.Total.{entriesBefore, allEntries}
-use Rattle.laws.proofs.Pigeon.{Once, once-none, once-more, once-append, pigeon-all}
-
--- the indices of the first n entries of bucket k
-unfoldable indicesIn : Table → ℕ → ℕ → List ℕ
-indicesIn t k zero = []
-indicesIn t k (suc n) = indexOf t k n ∷ indicesIn t k n
-
--- and those of the first n buckets
-unfoldable indices : Table → ℕ → List ℕ
-indices t zero = []
-indices t (suc n) = indicesIn t n (entries t n) ++ indices t n
+use Rattle.positions.proofs.Numbered.{all-taken}
 
 module _ (t : Table) where
-  in-long : (k n : ℕ) → length (indicesIn t k n) ≡ n
-  unfolding indicesIn
-  in-long k zero = refl
-  in-long k (suc n) = ap suc (in-long k n)
-
-  long : (n : ℕ) → length (indices t n) ≡ entriesBefore t n
-  unfolding indices entriesBefore
-  long zero = refl
-  long (suc n) = omega (arith, length-append (indicesIn t n (entries t n)) (indices t n), in-long n (entries t n), long n)
-
-  in-inv : (k n e : ℕ) → List·Memᴰ e (indicesIn t k n) → SomeBelow n (λ j. indexOf t k j ≡ e)
-  unfolding indicesIn
-  in-inv k zero e h = absurd (List·Memᴰ·not-nil h)
-  in-inv k (suc n) e h =
-      ⊎-elim (λ q. (n, omega arith, sym q)) (λ m. let w = in-inv k n e m in (w .0, omega (arith, w .1), w .2)) (List·Memᴰ·cases-cons h)
-
-  inv : (n e : ℕ) → List·Memᴰ e (indices t n) → SomeBelow n (λ k. SomeBelow (entries t k) (λ j. indexOf t k j ≡ e))
-  unfolding indices
-  inv zero e h = absurd (List·Memᴰ·not-nil h)
-  inv (suc n) e h =
-      ⊎-elim (λ m. (n, omega arith, in-inv n (entries t n) e m)) (λ m. let w = inv n e m in (w .0, omega (arith, w .1), w .2))
-      (List·Memᴰ·append-cases (indicesIn t n (entries t n)) h)
-
-  -- ---- each entry carries another index
-
   module _ (ok : Clean (allEntryChecks t)) where
-    pub same-index : (k j m i : ℕ) → k < t .buckets → j < entries t k → m < t .buckets → i < entries t m → indexOf t k j ≡ indexOf t m i
+    -- each entry carries another index
+    same-index : (k j m i : ℕ) → k < t .buckets → j < entries t k → m < t .buckets → i < entries t m → indexOf t k j ≡ indexOf t m i
         → (k ≡ m) × (j ≡ i)
     same-index k j m i h l g n e = one-entry t ok k j m i h l g n (text-of-index t ok k j _ h l e ∙ sym (text-of-index t ok m i _ g n refl))
 
-    in-once : (k n : ℕ) → k < t .buckets → n ≤ entries t k → Once (indicesIn t k n)
-    unfolding indicesIn
-    in-once k zero h l = once-none
-    in-once k (suc n) h l = once-more _ _ (λ m. again (in-inv k n _ m)) (in-once k n h (omega arith))
-      where
-        again : SomeBelow n (λ j. indexOf t k j ≡ indexOf t k n) → ⊥
-        again w = omega (arith, w .1, same-index k (w .0) k n h (omega (arith, w .1)) h l (w .2) .1)
-
-    once : (n : ℕ) → n ≤ t .buckets → Once (indices t n)
-    unfolding indices
-    once zero l = once-none
-    once (suc n) l = once-append _ _ (in-once n (entries t n) l (omega arith)) (once n (omega arith))
-        (λ e a b. let w = in-inv n (entries t n) e a in let v = inv n e b in
-        omega (arith, v .1, same-index (v .0) (v .2 .0) n (w .0) (omega (arith, v .1)) (v .2 .1) l (w .1) (v .2 .2 ∙ sym (w .2)) .0))
+    -- counted from 1
+    low : (k j : ℕ) → k < t .buckets → j < entries t k → 1 ≤ indexOf t k j
+    low k j h l = all-good t ok k j h l .indexed .low
 
     pub all-carried : allEntries t + 1 ≡ count t → (i : ℕ) → 1 ≤ i → i < count t → Carried t i
-    unfolding allEntries
-    all-carried e i l h = inv (t .buckets) i (⊎-elim (λ q. absurd (omega arith)) (λ m. m) (List·Memᴰ·cases-cons
-        (pigeon-all (count t) (0 ∷ indices t (t .buckets)) (once-more _ _ none (once (t .buckets) (omega arith))) below (omega (arith, long (t .buckets))) i h)))
-      where
-        none : List·Memᴰ 0 (indices t (t .buckets)) → ⊥
-        none m = let w = inv (t .buckets) 0 m in omega (arith, all-good t ok (w .0) (w .2 .0) (w .1) (w .2 .1) .indexed .low, w .2 .2)
-
-        below : (a : ℕ) → List·Memᴰ a (0 ∷ indices t (t .buckets)) → a < count t
-        below a m = ⊎-elim (λ q. omega arith)
-            (λ m. let w = inv (t .buckets) a m in omega (arith, all-good t ok (w .0) (w .2 .0) (w .1) (w .2 .1) .indexed .high, w .2 .2))
-            (List·Memᴰ·cases-cons m)
+    all-carried e i l h =
+        let w =
+        all-taken t (λ k j. indexOf t k j - 1)
+        (λ k j m n a b c d q. same-index k j m n a b c d (omega (arith, low k j a b, low m n c d)))
+        (allEntries t) (omega arith) (λ k j a b. omega (arith, all-good t ok k j a b .indexed .high, low k j a b)) (i - 1) (omega arith) in
+        (w .0, w .1, (w .2 .0, w .2 .1, omega (arith, w .2 .2, low (w .0) (w .2 .0) (w .1) (w .2 .1))))
 
     pub enough : allEntries t + 1 ≡ count t → Clean (allPositionChecks t)
     enough e = positions-clean t (all-carried e)

@@ -1,3 +1,5 @@
 pub mod Listed
 pub mod Laws
+pub mod Numbered
 pub mod Enough
+pub mod Ranks

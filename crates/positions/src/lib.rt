@@ -1,7 +1,7 @@
 // Refusal 13, and all of 7 to 13 of a string table (01, "Refusal numbers").
 ghost use mathlib.Core.Path.{_≡_};
 ghost use Prim.Native.Nat.{_≤_, _<_, _^_};
-ghost use Rattle.verdict.specs.Checks.{Tells, firstFault};
+ghost use Rattle.verdict.specs.Checks.{Tells, Sure, firstFault};
 ghost use Rattle.verdict.specs.declared.Verdict.the-variants.{Accepted};
 ghost use Rattle.hash.specs.Table.{Tables};
 ghost use Rattle.layout.specs.Table.{count};
@@ -9,6 +9,10 @@ ghost use Rattle.strings.specs.Rules.{Carried};
 ghost use Rattle.strings.specs.Order.{allEntryChecks, allPositionChecks, stringChecks};
 ghost use Rattle.strings.specs.Held.{Held, heldTable};
 ghost use Rattle.positions.specs.Total.{allEntries};
+ghost use Rattle.positions.specs.Packed.{Packed};
+
+pub mod packing;
+
 use search::run;
 use strings::Strings;
 use strings::spot;
@@ -19,7 +23,7 @@ use verdict::Verdict;
 // Whether any entry carries index i: it would stand in the bucket of the text at list position i.
 fn carried(
     b: &[u8],
-    t: &[u32; 1024],
+    t: &[u32; 2048],
     s: Strings,
     samples: &[u32; 1024],
     starts: &[u32],
@@ -53,7 +57,7 @@ fn entry_total(b: &[u8], s: Strings, samples: &[u32; 1024], starts: &[u32]) -> u
 // Refusal 13 of every list position, where the entries passed 7 to 12.
 pub fn check_positions(
     b: &[u8],
-    t: &[u32; 1024],
+    t: &[u32; 2048],
     s: Strings,
     samples: &[u32; 1024],
     starts: &[u32],
@@ -78,19 +82,34 @@ pub fn check_positions(
     Verdict::Accepted
 }
 
+// What is found of a table: the first fault, and whether its texts are known to fill its characters.
+pub struct Checked {
+    pub answer: Verdict,
+    pub packed: bool,
+}
+
 // Refusals 7 to 13 of a table, up to the first fault.
 pub fn check_table(
     b: &[u8],
-    t: &[u32; 1024],
+    t: &[u32; 2048],
     s: Strings,
     samples: &[u32; 1024],
     starts: &[u32],
-) -> Verdict
+) -> Checked
     requires { ⌜ Tables (now t) × Held (now b) s (now samples) (now starts) ⌝ }
-    ensures { λ r. ⌜ r ≡ firstFault (stringChecks (heldTable (now (b .entry)) s (now (starts .entry)))) ⌝ }
+    ensures answer { λ r. ⌜ r .answer ≡ firstFault (stringChecks (heldTable (now (b .entry)) s (now (starts .entry)))) ⌝ }
+    ensures packed { λ r. ⌜ Sure (Packed (heldTable (now (b .entry)) s (now (starts .entry)))) (r .packed) ⌝ }
 {
-    match table::check_entries(b, t, s, samples, starts) {
-        Verdict::Accepted => check_positions(b, t, s, samples, starts),
-        Verdict::Refused(num, place) => Verdict::Refused(num, place),
+    let c = table::check_entries(b, t, s, samples, starts);
+    let found = c.answer;
+    if let Verdict::Refused(num, place) = found {
+        return Checked {
+            answer: Verdict::Refused(num, place),
+            packed: false,
+        };
+    }
+    Checked {
+        answer: check_positions(b, t, s, samples, starts),
+        packed: packing::is_packed(b, s, samples, starts, c.begun),
     }
 }

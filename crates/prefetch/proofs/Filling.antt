@@ -1,12 +1,12 @@
 -- How the arrays of a batch are filled, slot by slot. Assumes nothing.
-use Prim.Native.Nat.{ℕ, _+_, _%_, _≤_, _<_}
+use Prim.Native.Nat.{ℕ, _+_, _-_, _%_, _≤_, _<_}
 use native.Mathlib.Omega.{arith}
 use mathlib.Core.Path.{_≡_, sym, _∙_}
 use mathlib.Core.List.{List}
 use borrow.Author.Count.{below-none, below-more}
 use lib.ListN.{length, getD, set, length-set}
 use lib.Seq.{getD-set-same, getD-set-other}
-use Rattle.prefetch.specs.Batch.{TextSpot, AllSpots, AllSeen}
+use Rattle.prefetch.specs.Batch.{TextSpot, Fits, AllSpots, AllFit, AllSeen}
 use Rattle.le.specs.Le.{u16At}
 
 pub spots-none : {b : List ℕ} {r : ℕ} {slots at left : List ℕ} → AllSpots b r slots 0 at left
@@ -24,14 +24,29 @@ spots-more {b} {r} {slots} {at} {left} {j} {q} {x} {m} e f l a g s = record {
 pub spots-upto : {b : List ℕ} {r n j : ℕ} {slots at left : List ℕ} → n ≤ j → AllSpots b r slots j at left → AllSpots b r slots n at left
 spots-upto {n = n} {j = j} l a = record { each = λ i h. a .each i (omega arith) }
 
+pub fit-none : {b at left : List ℕ} → AllFit b 0 at left
+fit-none = record { each = below-none _ }
+
+pub fit-more : {b at left : List ℕ} {j x m : ℕ} → length at ≡ 64 → length left ≡ 64 → j < 64 → AllFit b j at left → Fits b x m
+    → AllFit b (j + 1) (set at j x) (set left j m)
+fit-more {b} {at} {left} {j} {x} {m} e f l a s = record {
+  each =
+      below-more (λ (i : ℕ). Fits b (getD (set at j x) i 0) (getD (set left j m) i 0)) j
+      (λ i k. rw (getD-set-other at j i x 0 (omega arith), getD-set-other left j i m 0 (omega arith)) (a .each i k))
+      (rw (getD-set-same at j x 0 (omega (arith, e)), getD-set-same left j m 0 (omega (arith, f))) s);
+}
+
+pub fit-upto : {b at left : List ℕ} {n j : ℕ} → n ≤ j → AllFit b j at left → AllFit b n at left
+fit-upto {n = n} {j = j} l a = record { each = λ i h. a .each i (omega arith) }
+
 pub seen-none : {b at seen : List ℕ} → AllSeen b 0 at seen
 seen-none = record { each = below-none _ }
 
-pub seen-more : {b at seen : List ℕ} {j x : ℕ} (c : ℕ) → length seen ≡ 64 → j < 64 → AllSeen b j at seen → x ≡ getD at j 0 → c % 65536 ≡ u16At b x
+pub seen-more : {b at seen : List ℕ} {j x : ℕ} (c : ℕ) → length seen ≡ 64 → j < 64 → AllSeen b j at seen → x ≡ getD at j 0 → c % 65536 ≡ u16At b (x - 2)
     → AllSeen b (j + 1) at (set seen j c)
 seen-more {b} {at} {seen} {j} {x} c e l a f h = record {
   each =
-      below-more (λ (i : ℕ). getD (set seen j c) i 0 % 65536 ≡ u16At b (getD at i 0)) j
+      below-more (λ (i : ℕ). getD (set seen j c) i 0 % 65536 ≡ u16At b (getD at i 0 - 2)) j
       (λ i k. rw (getD-set-other seen j i c 0 (omega arith)) (a .each i k))
       (rw (getD-set-same seen j c 0 (omega (arith, e)), sym f) h);
 }
@@ -44,10 +59,9 @@ pub length-kept : (xs : List ℕ) (j x n : ℕ) → length xs ≡ n → length (
 length-kept xs j x n e = length-set xs j x ∙ e
 
 -- what is read of one slot
-pub spot-read : {b : List ℕ} {r n : ℕ} {slots at left : List ℕ} → AllSpots b r slots n at left → (j : ℕ) → j < n
-    → {x m : ℕ} → x ≡ getD at j 0 → m ≡ getD left j 0 → TextSpot b r (getD slots j 0) x m
-spot-read a j l e f = rw (e, f) (a .each j l)
+pub fit-read : {b at left : List ℕ} {n : ℕ} → AllFit b n at left → (j : ℕ) → j < n → {x m : ℕ} → x ≡ getD at j 0 → m ≡ getD left j 0 → Fits b x m
+fit-read a j l e f = rw (e, f) (a .each j l)
 
 pub seen-read : {b at seen : List ℕ} {n : ℕ} → AllSeen b n at seen → (j : ℕ) → j < n → {x c : ℕ} → x ≡ getD at j 0 → c ≡ getD seen j 0
-    → c % 65536 ≡ u16At b x
+    → c % 65536 ≡ u16At b (x - 2)
 seen-read a j l e f = rw (e, f) (a .each j l)

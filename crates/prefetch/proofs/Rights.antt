@@ -1,43 +1,39 @@
 -- What the steps of a batch find out, and 19 of its attributes from that. Assumes nothing.
-use Prim.Native.Nat.{ℕ, _+_, _*_, _≤_, _<_}
+use Prim.Native.Nat.{ℕ, _+_, _-_, _*_, _%_, _≤_, _<_}
 use native.Mathlib.Omega.{arith}
 use mathlib.Core.Path.{_≡_, refl, ap, sym, subst, _∙_}
-use mathlib.Core.Bool.{false, false≢true}
+use mathlib.Core.Logic.{inl, inr, ⊎-elim}
+use mathlib.Core.Bool.{Bool}
 use mathlib.Core.List.{List}
 use borrow.Author.Count.{below-none, below-more}
 use lib.ListN.{length, getD}
 use Rattle.verdict.specs.Decide.{SomeBelow}
 use Rattle.le.specs.Le.{u16At, u32At}
 use Rattle.words.specs.Words.{extendedOf}
-use Rattle.hash.specs.Fold.{foldText, valueHash, valueHashOf}
-use Rattle.hash.proofs.Laws.{foldText-nil}
+use Rattle.hash.specs.Fold.{valueHash}
 use Rattle.region.specs.Region.{Laid, countOf, startOf, usedOf, placeOf}
 use Rattle.region.specs.Samples.{Mapped}
 use Rattle.region.specs.declared.Region.{Region}
 use Rattle.region.proofs.Samples.{segment-fits, start-more, used-at}
 use Rattle.text.specs.Text.{textIn}
-use Rattle.text.specs.Measure.{Hashed}
-use Rattle.text.specs.declared.Hashes.{Hashes}
-use Rattle.text.proofs.Laws.{text-stop, room-some}
-use Rattle.text.proofs.Walk.{hash-end}
+use Rattle.text.proofs.Laws.{room-some}
 use Rattle.layout.specs.Table.{Table, entries}
 use Rattle.layout.specs.Layout.{attributeSize, attributesAt, values}
 use Rattle.strings.specs.Texts.{spotAt, textTo}
 use Rattle.strings.specs.declared.spot.Spot.{Spot}
 use Rattle.strings.specs.declared.spot.Spot.the-variants.{At}
 use Rattle.strings.proofs.Spots.{spot-in, spot-text}
+use Rattle.strings.proofs.Begun.{begins-first, begins-behind}
+use Rattle.positions.specs.Packed.{Packed}
 use Rattle.nodes.specs.Attribute.{typeWord, textSegment, textElement}
-use Rattle.nodes.specs.Rules.{EntryAddress, TextRight, TextsRight}
-use Rattle.nodes.specs.Search.{Sure}
+use Rattle.strings.specs.Rules.{EntryAddress}
+use Rattle.nodes.specs.Rules.{TextRight, TextsRight}
+use Rattle.verdict.specs.Checks.{Sure}
 use Rattle.nodes.proofs.Addresses.{spot-fits, address-of}
 use Rattle.le.proofs.Numbers.{Bytes}
 use Rattle.search.specs.Run.{wordOf}
 use Rattle.nodes.proofs.Fields.{extended-is}
-use Rattle.prefetch.specs.Batch.{TextSpot, AllSpots, AllHashed, AllFound, AllRight}
-
--- false tells nothing
-pub unsure : {P : Type 0} → Sure P false
-unsure z = absurd (false≢true z)
+use Rattle.prefetch.specs.Batch.{TextSpot, Fits, Behind, AllSpots, AllBehind, AllHashed, AllFound, AllRight}
 
 -- an entry in one bucket has the address of the attribute's text
 pub entry-in : (b : List ℕ) → Bytes b → (q : ℕ) (t : Table) → t .bytes ≡ b → (k w : ℕ) → k < t .buckets → w ≡ u32At b (q + 4)
@@ -51,18 +47,6 @@ entry-in b f q t same k w l e s =
 pub found-at : (b : List ℕ) (t : Table) {q p : ℕ} → q ≡ p → EntryAddress t (textSegment b q) (textElement b q) → EntryAddress t (textSegment b p) (textElement b p)
 found-at b t e w = subst (λ (i : ℕ). EntryAddress t (textSegment b i) (textElement b i)) e w
 
--- a spot has at least one character
-pub spot-some : (b : List ℕ) (r seg el : ℕ) {x n : ℕ} {a : Spot} → a ≡ spotAt b r seg el → a ≡ At x n → 1 ≤ n
-spot-some b r seg el e f = let w = spot-in _ _ _ _ (sym e ∙ f) in omega (arith, w .2, room-some b r seg el (w .0))
-
--- at a spot there is at least one character, in the file
-module _ {b : List ℕ} {r q x n : ℕ} (laid : Laid 2 b r) (s : TextSpot b r q x n) where
-  pub some-there : 1 ≤ n
-  some-there = spot-some b r (textSegment b q) (textElement b q) refl (s .spot)
-
-  pub fits-there : x + 2 * n ≤ length b
-  fits-there = spot-fits b r (textSegment b q) (textElement b q) laid refl (s .spot)
-
 -- a spot found for the address that stands 4 bytes behind an attribute's place
 pub spot-of : {b : List ℕ} {r q x n : ℕ} {a : Spot} → a ≡ spotAt b r (u16At b (q + 4)) (u16At b (q + 4 + 2)) → a ≡ At x n → TextSpot b r q x n
 unfolding textSegment textElement
@@ -70,19 +54,48 @@ spot-of {b} {r} {q} e f =
     let z : q + 4 + 2 ≡ q + 6 = omega arith in
     record { spot = ap (λ (i : ℕ). spotAt b r (u16At b (q + 4)) (u16At b i)) (sym z) ∙ sym e ∙ f }
 
--- the extended code of one attribute is the value hash of its text, as they are read
-pub hashed-here : (b : List ℕ) (q p w v x y n m : ℕ) (h : Hashes) → p ≡ q → w ≡ u16At b (p + 2) → v ≡ extendedOf w → y ≡ x → m ≡ n → Hashed b y m h → v ≡ h .value
-    → extendedOf (typeWord b q) ≡ valueHash (textIn b x n)
-hashed-here b q p w v x y n m h a e f g i s z =
-    ap (λ (k : ℕ). extendedOf (typeWord b k)) (sym a) ∙ extended-is b p w e v f ∙ z ∙ s .value
-    ∙ ap (λ (k : ℕ). valueHash (textIn b k m)) g ∙ ap (λ (k : ℕ). valueHash (textIn b x k)) i
+-- and what is left there lies in the file
+pub fits-of : {b : List ℕ} {r x n : ℕ} {a : Spot} (q : ℕ) → Laid 2 b r → a ≡ spotAt b r (u16At b (q + 4)) (u16At b (q + 4 + 2)) → a ≡ At x n → Fits b x n
+unfolding placeOf
+fits-of {b} {r} q laid e f =
+    let w = spot-in _ _ _ _ (sym e ∙ f) in
+    record {
+      some = omega (arith, w .2, room-some b r (u16At b (q + 4)) (u16At b (q + 4 + 2)) (w .0));
+      past = omega (arith, w .1);
+      inside = spot-fits b r (u16At b (q + 4)) (u16At b (q + 4 + 2)) laid e f;
+    }
 
--- a text whose first character is 0
-pub none-hashed : (b : List ℕ) (p n : ℕ) → u16At b p ≡ 0 → Hashed b p n (record { hash = 0; value = 0 })
-unfolding valueHashOf
-none-hashed b p n z =
-    let e = text-stop b p n z in
-    record { hashed = sym (hash-end _ 0 e); value = ap valueHashOf (sym (hash-end _ 0 (ap foldText e ∙ foldText-nil))) }
+-- the extended code of one attribute is the value hash of its text, as they are read
+pub hashed-here : (b : List ℕ) (q x n w v h : ℕ) → w ≡ u16At b (q + 2) → v ≡ extendedOf w → h ≡ valueHash (textIn b x n) → v ≡ h
+    → extendedOf (typeWord b q) ≡ valueHash (textIn b x n)
+hashed-here b q x n w v h e f s z = extended-is b q w e v f ∙ z ∙ s
+
+-- a text can begin where it does, as that is read
+pub behind-first : (b : List ℕ) (q x w : ℕ) → w ≡ u16At b (q + 6) → w ≡ 0 → Behind b x (textElement b q)
+unfolding textElement
+behind-first b q x w e z = inl (sym e ∙ z)
+
+pub behind-zero : (b : List ℕ) (q x c : ℕ) → c % 65536 ≡ u16At b (x - 2) → c % 65536 ≡ 0 → Behind b x (textElement b q)
+behind-zero b q x c e z = inr (sym e ∙ z)
+
+-- what is told of one slot, as it is read
+abbrev Passed : List ℕ → Bool → ℕ → ℕ → ℕ → Type 0
+Passed b packed q x n = (extendedOf (typeWord b q) ≡ valueHash (textIn b x n)) × Sure (Behind b x (textElement b q)) packed
+
+-- one slot more
+pub passed-more : (b : List ℕ) (packed : Bool) (slots at left : List ℕ) (j : ℕ) {q x n : ℕ} → q ≡ getD slots j 0 → x ≡ getD at j 0 → n ≡ getD left j 0
+    → AllHashed b slots j at left × Sure (AllBehind b slots j at) packed → Passed b packed q x n
+    → AllHashed b slots (j + 1) at left × Sure (AllBehind b slots (j + 1) at) packed
+passed-more b packed slots at left j {q} {x} {n} e f g h p =
+    let w : Passed b packed (getD slots j 0) (getD at j 0) (getD left j 0) = rw (sym e, sym f, sym g) p in
+    (below-more _ _ (h .0) (w .0), λ z. below-more _ _ (h .1 z) (w .1 z))
+
+-- in a packed table each is at an entry's address
+pub all-found : (b : List ℕ) (t : Table) (slots at left : List ℕ) (n : ℕ) → t .bytes ≡ b → Packed t
+    → AllSpots (t .bytes) (t .at) slots n at left → AllBehind (t .bytes) slots n at → AllFound (t .bytes) t slots n
+all-found b t slots at left n y p s h j l =
+    let w = spot-in _ _ _ _ (s .each j l .spot) in
+    p _ _ (w .0) (⊎-elim (begins-first _ _ _ _) (begins-behind _ _ _ _ _ (w .1)) (h j l))
 
 -- 19 of every attribute of the batch
 pub all-right : (b : List ℕ) (t : Table) (slots at left : List ℕ) (n : ℕ) → t .bytes ≡ b → t ≡ values b → Laid 2 (t .bytes) (t .at)

@@ -1,16 +1,16 @@
 // All used attributes, in the order of the file.
 ghost use mathlib.Core.Path.{_≡_};
-ghost use Rattle.verdict.specs.Checks.{firstFault};
+ghost use Rattle.verdict.specs.Checks.{firstFault, Sure};
 ghost use Rattle.verdict.specs.declared.Verdict.the-variants.{Accepted};
 ghost use Rattle.hash.specs.Table.{Tables};
 ghost use Rattle.region.specs.Samples.{Mapped};
 ghost use Rattle.layout.specs.Layout.{attributeSize, attributesAt, values};
 ghost use Rattle.strings.specs.Order.{stringChecks};
 ghost use Rattle.strings.specs.Held.{Held, heldTable};
+ghost use Rattle.positions.specs.Packed.{Packed};
 ghost use Rattle.nodes.specs.Rules.{TextsRight};
 ghost use Rattle.nodes.specs.Order.{allNodeChecks};
 ghost use Rattle.nodes.specs.Held.{Ready};
-ghost use Rattle.nodes.specs.Search.{Sure};
 use crate::slots;
 use crate::steps;
 use keys::Names;
@@ -22,14 +22,16 @@ use verdict::Verdict;
 // Whether 19 is known to hold of every used attribute. False tells nothing: an attribute that no node has may be at fault.
 pub fn texts_right(
     b: &[u8],
-    t: &[u32; 1024],
+    t: &[u32; 2048],
     attributes: Region,
     s: Strings,
     samples: &[u32; 1024],
     starts: &[u32],
+    packed: bool,
 ) -> bool
     requires { ⌜ Tables (now t) × Held (now b) s (now samples) (now starts) × (heldTable (now b) s (now starts) ≡ values (now b))
-        × (firstFault (stringChecks (values (now b))) ≡ Accepted) × Mapped attributeSize (now b) (attributesAt (now b)) attributes ⌝ }
+        × (firstFault (stringChecks (values (now b))) ≡ Accepted) × Sure (Packed (values (now b))) packed
+        × Mapped attributeSize (now b) (attributesAt (now b)) attributes ⌝ }
     ensures { λ r. ⌜ Sure (TextsRight (now (b .entry))) r ⌝ }
 {
     let mut slots = [0u32; 64];
@@ -40,7 +42,7 @@ pub fn texts_right(
         let mut el = 0;
         while el < used {
             let taken = slots::take(b, at + 8, el, used, &mut slots);
-            if !steps::batch_right(b, t, s, samples, starts, &slots, taken.count) {
+            if !steps::batch_right(b, t, s, samples, starts, &slots, taken.count, packed) {
                 return false;
             }
             el = taken.next;
@@ -54,15 +56,17 @@ pub fn texts_right(
 // Refusals 16 to 19 and 23 of every used node, up to the first fault.
 pub fn check_nodes(
     b: &[u8],
-    t: &[u32; 1024],
+    t: &[u32; 2048],
     p: Places,
     names: Names,
     attribute_starts: &[u32; 1024],
     node_starts: &[u32; 1024],
     value_starts: &[u32; 1024],
     value_buckets: &[u32],
+    packed: bool,
 ) -> Verdict
-    requires { ⌜ Tables (now t) × Ready (now b) p names (now «attribute_starts») (now «node_starts») (now «value_starts») (now «value_buckets») ⌝ }
+    requires { ⌜ Tables (now t) × Ready (now b) p names (now «attribute_starts») (now «node_starts») (now «value_starts») (now «value_buckets»)
+        × Sure (Packed (values (now b))) packed ⌝ }
     ensures { λ r. ⌜ r ≡ firstFault (allNodeChecks (now (b .entry))) ⌝ }
 {
     let chars = p.value_chars;
@@ -70,7 +74,7 @@ pub fn check_nodes(
         chars,
         list: p.value_list,
     };
-    let known = texts_right(b, t, p.attributes, s, value_starts, value_buckets);
+    let known = texts_right(b, t, p.attributes, s, value_starts, value_buckets, packed);
     nodes::all::check_nodes(
         b,
         t,

@@ -1,25 +1,27 @@
 // The steps of a batch: each goes over all its slots.
 ghost use mathlib.Core.Path.{_≡_};
-ghost use Prim.Native.Nat.{_+_, _*_, _%_, _≤_, _<_, _^_};
+ghost use mathlib.Core.Logic.{_⊎_};
+ghost use Prim.Native.Nat.{_+_, _-_, _%_, _≤_, _<_, _^_};
 ghost use lib.ListN.{length};
-ghost use Rattle.verdict.specs.Checks.{firstFault};
+ghost use Rattle.verdict.specs.Checks.{firstFault, Sure};
 ghost use Rattle.verdict.specs.declared.Verdict.the-variants.{Accepted};
 ghost use Rattle.le.specs.Le.{u16At};
+ghost use Rattle.words.specs.Words.{extendedOf};
 ghost use Rattle.hash.specs.Table.{Tables};
-ghost use Rattle.region.specs.Region.{Laid};
+ghost use Rattle.hash.specs.Hash.{bucketOf};
+ghost use Rattle.hash.specs.Fold.{valueHash};
 ghost use Rattle.region.specs.Samples.{Mapped, Starts};
-ghost use Rattle.text.specs.Measure.{Hashed};
+ghost use Rattle.text.specs.Text.{textIn};
 ghost use Rattle.layout.specs.Layout.{values};
+ghost use Rattle.strings.specs.Rules.{EntryAddress};
 ghost use Rattle.strings.specs.Order.{allEntryChecks, stringChecks};
 ghost use Rattle.strings.specs.Held.{Held, heldTable};
-ghost use Rattle.hash.specs.Hash.{bucketOf};
 ghost use Rattle.search.specs.Lower.{Lower};
-ghost use Rattle.nodes.specs.Attribute.{textSegment, textElement};
-ghost use Rattle.nodes.specs.Rules.{EntryAddress};
-ghost use Rattle.nodes.specs.Search.{Sure};
-ghost use Rattle.prefetch.specs.Slots.{SlotsIn};
 ghost use Rattle.search.specs.Group.{AllLow, Lengths};
-ghost use Rattle.prefetch.specs.Batch.{AllSpots, AllSeen, AllHashed, AllFound, AllRight};
+ghost use Rattle.positions.specs.Packed.{Packed};
+ghost use Rattle.nodes.specs.Attribute.{typeWord, textSegment, textElement};
+ghost use Rattle.prefetch.specs.Slots.{SlotsIn};
+ghost use Rattle.prefetch.specs.Batch.{Fits, Behind, AllSpots, AllFit, AllSeen, AllBehind, AllHashed, AllFound, AllRight};
 use region::Region;
 use search::group;
 use search::run;
@@ -27,7 +29,6 @@ use strings::Strings;
 use strings::ahead;
 use strings::spot;
 use strings::spot::Spot;
-use text::Hashes;
 
 // Where the texts stand, and how many characters are left there.
 fn find_spots(
@@ -41,7 +42,8 @@ fn find_spots(
 ) -> bool
     requires { ⌜ Mapped 2 (now b) (chars .at) chars × Starts 2 (now b) (chars .at) (chars .shift) (now samples) × (length (now b) < 2 ^ 32)
         × (length (now slots) ≡ 64) × SlotsIn (now b) (now slots) n × (n ≤ 64) × (length (now at) ≡ 64) × (length (now left) ≡ 64) ⌝ }
-    ensures answer { λ r. ⌜ Sure (AllSpots (now (b .entry)) (chars .at) (now (slots .entry)) n (now (at .exit)) (now (left .exit))) r ⌝ }
+    ensures answer { λ r. ⌜ Sure (AllSpots (now (b .entry)) (chars .at) (now (slots .entry)) n (now (at .exit)) (now (left .exit))
+        × AllFit (now (b .entry)) n (now (at .exit)) (now (left .exit))) r ⌝ }
     ensures lengths { λ _. ⌜ (length (now (at .exit)) ≡ 64) × (length (now (left .exit)) ≡ 64) ⌝ }
 {
     let mut j = 0;
@@ -57,19 +59,10 @@ fn find_spots(
     true
 }
 
-// Their first characters. This is where the memory is waited for, so nothing else is done here: the fewer the instructions between two
+// The characters before them. This is where the memory is waited for, so nothing else is done here: the fewer the instructions between two
 // reads, the more of them the processor has under way.
-fn see(
-    b: &[u8],
-    chars: Region,
-    slots: &[u32; 64],
-    n: usize,
-    at: &[u32; 64],
-    left: &[u32; 64],
-    seen: &mut [u32; 64],
-)
-    requires { ⌜ Laid 2 (now b) (chars .at) × (n ≤ 64) × Lengths (now at) (now left) (now seen)
-        × AllSpots (now b) (chars .at) (now slots) n (now at) (now left) ⌝ }
+fn see(b: &[u8], n: usize, at: &[u32; 64], left: &[u32; 64], seen: &mut [u32; 64])
+    requires { ⌜ (n ≤ 64) × Lengths (now at) (now left) (now seen) × AllFit (now b) n (now at) (now left) ⌝ }
     ensures { λ _. ⌜ AllSeen (now (b .entry)) n (now (at .entry)) (now (seen .exit)) × (length (now (seen .exit)) ≡ 64) ⌝ }
 {
     let mut j = 0;
@@ -79,45 +72,93 @@ fn see(
     }
 }
 
-// Both hashes of a text whose first character was seen.
-fn both(b: &[u8], t: &[u32; 1024], p: usize, n: usize, c: usize) -> Hashes
-    requires { ⌜ Tables (now t) × (1 ≤ n) × (p + 2 * n ≤ length (now b)) × (c % 65536 ≡ u16At (now b) p) ⌝ }
-    ensures { λ r. ⌜ Hashed (now (b .entry)) p n r ⌝ }
+// Whether a text can begin at element el of its segment, by the character that was seen before it. In a table that is not packed that tells
+// nothing, and is not asked for.
+fn can_begin(el: usize, seen: usize, packed: bool) -> bool
+    ensures { λ r. ⌜ Sure (Sure ((el ≡ 0) ⊎ (seen % 65536 ≡ 0)) packed) r ⌝ }
 {
-    if c % 65536 == 0 {
-        return Hashes { hash: 0, value: 0 };
+    if !packed {
+        return true;
     }
-    text::both_hashes(b, t, p, n)
+    if el == 0 {
+        return true;
+    }
+    seen % 65536 == 0
 }
 
-// Whether the extended codes are the value hashes of the texts, whose hashes are kept.
-fn hash_texts(
+// Whether the text of the attribute at q, which stands at x with n characters left there, has the extended code for its value hash; and, in
+// a packed table, whether it can begin where it does, by the character that was seen before it.
+fn passes(
     b: &[u8],
-    t: &[u32; 1024],
-    chars: Region,
+    t: &[u32; 2048],
+    q: usize,
+    x: usize,
+    n: usize,
+    seen: usize,
+    packed: bool,
+) -> bool
+    requires { ⌜ Tables (now t) × (q + 12 ≤ length (now b)) × Fits (now b) x n × (seen % 65536 ≡ u16At (now b) (x - 2)) ⌝ }
+    ensures { λ r. ⌜ Sure ((extendedOf (typeWord (now (b .entry)) q) ≡ valueHash (textIn (now (b .entry)) x n))
+        × Sure (Behind (now (b .entry)) x (textElement (now (b .entry)) q)) packed) r ⌝ }
+{
+    if !can_begin(le::u16_at(b, q + 6), seen, packed) {
+        return false;
+    }
+    words::extended(le::u16_at(b, q + 2)) == text::value_hash(b, t, x, n)
+}
+
+// Whether each does.
+fn all_pass(
+    b: &[u8],
+    t: &[u32; 2048],
     slots: &[u32; 64],
     n: usize,
     at: &[u32; 64],
     left: &[u32; 64],
     seen: &[u32; 64],
-    hashes: &mut [u32; 64],
+    packed: bool,
 ) -> bool
-    requires { ⌜ Tables (now t) × Laid 2 (now b) (chars .at) × (length (now slots) ≡ 64) × SlotsIn (now b) (now slots) n × (n ≤ 64)
-        × Lengths (now at) (now left) (now seen) × AllSpots (now b) (chars .at) (now slots) n (now at) (now left)
-        × AllSeen (now b) n (now at) (now seen) × (length (now hashes) ≡ 64) ⌝ }
-    ensures answer { λ r. ⌜ Sure (AllHashed (now (b .entry)) (now (slots .entry)) n (now (at .entry)) (now (left .entry))) r ⌝ }
-    ensures hashes { λ _. ⌜ length (now (hashes .exit)) ≡ 64 ⌝ }
+    requires { ⌜ Tables (now t) × (length (now slots) ≡ 64) × SlotsIn (now b) (now slots) n × (n ≤ 64) × Lengths (now at) (now left) (now seen)
+        × AllFit (now b) n (now at) (now left) × AllSeen (now b) n (now at) (now seen) ⌝ }
+    ensures { λ r. ⌜ Sure (AllHashed (now (b .entry)) (now (slots .entry)) n (now (at .entry)) (now (left .entry))
+        × Sure (AllBehind (now (b .entry)) (now (slots .entry)) n (now (at .entry))) packed) r ⌝ }
 {
     let mut j = 0;
     while j < n {
-        let h = both(b, t, le::wide(at[j]), le::wide(left[j]), le::wide(seen[j]));
-        hashes[j] = h.hash as u32;
-        if words::extended(le::u16_at(b, le::wide(slots[j]) + 2)) != h.value {
+        if !passes(
+            b,
+            t,
+            le::wide(slots[j]),
+            le::wide(at[j]),
+            le::wide(left[j]),
+            le::wide(seen[j]),
+            packed,
+        ) {
             return false;
         }
         j += 1;
     }
     true
+}
+
+// The string hashes of the texts: any would do, but with these their entries are found.
+fn hash_texts(
+    b: &[u8],
+    t: &[u32; 2048],
+    n: usize,
+    at: &[u32; 64],
+    left: &[u32; 64],
+    hashes: &mut [u32; 64],
+)
+    requires { ⌜ Tables (now t) × (n ≤ 64) × Lengths (now at) (now left) (now hashes) × AllFit (now b) n (now at) (now left) ⌝ }
+    ensures { λ _. ⌜ length (now (hashes .exit)) ≡ 64 ⌝ }
+{
+    let mut j = 0;
+    while j < n {
+        let m = text::measure(b, t, le::wide(at[j]), le::wide(left[j]));
+        hashes[j] = m.hash as u32;
+        j += 1;
+    }
 }
 
 // Whether the text of the attribute at q, whose hash h stands at place `low` of its bucket, or would, is at an entry's address.
@@ -172,18 +213,21 @@ fn find_entries(
     true
 }
 
-// Whether 19 holds of the attributes in the first n slots.
+// Whether 19 holds of the attributes in the first n slots. In a packed table the character before a text tells that its address is an
+// entry's; in another the entry is looked for.
 pub fn batch_right(
     b: &[u8],
-    t: &[u32; 1024],
+    t: &[u32; 2048],
     s: Strings,
     samples: &[u32; 1024],
     starts: &[u32],
     slots: &[u32; 64],
     n: usize,
+    packed: bool,
 ) -> bool
     requires { ⌜ Tables (now t) × Held (now b) s (now samples) (now starts) × (heldTable (now b) s (now starts) ≡ values (now b))
-        × (firstFault (stringChecks (values (now b))) ≡ Accepted) × (length (now slots) ≡ 64) × SlotsIn (now b) (now slots) n × (n ≤ 64) ⌝ }
+        × (firstFault (stringChecks (values (now b))) ≡ Accepted) × (length (now slots) ≡ 64) × SlotsIn (now b) (now slots) n × (n ≤ 64)
+        × Sure (Packed (values (now b))) packed ⌝ }
     ensures { λ r. ⌜ Sure (AllRight (now (b .entry)) (now (slots .entry)) n) r ⌝ }
 {
     let mut at = [0u32; 64];
@@ -192,11 +236,15 @@ pub fn batch_right(
         return false;
     }
     let mut seen = [0u32; 64];
-    see(b, s.chars, slots, n, &at, &left, &mut seen);
-    let mut hashes = [0u32; 64];
-    if !hash_texts(b, t, s.chars, slots, n, &at, &left, &seen, &mut hashes) {
+    see(b, n, &at, &left, &mut seen);
+    if !all_pass(b, t, slots, n, &at, &left, &seen, packed) {
         return false;
     }
+    if packed {
+        return true;
+    }
+    let mut hashes = [0u32; 64];
+    hash_texts(b, t, n, &at, &left, &mut hashes);
     let mut low = [0usize; 64];
     group::settle(b, s, samples, starts, &hashes, n, &mut low);
     find_entries(b, s, samples, starts, slots, n, &hashes, &low)

@@ -25,7 +25,7 @@ pub enum Place {
 }
 
 // Where the segment behind the one at p starts.
-fn next_start(b: &[u8], p: usize, size: usize) -> usize
+pub fn next_start(b: &[u8], p: usize, size: usize) -> usize
     requires { ⌜ p + 8 + u32At (now b) p * size ≤ length (now b) ⌝ }
     ensures { λ q. ⌜ q ≡ p + 8 + u32At (now (b .entry)) p * size ⌝ }
 {

@@ -2,47 +2,29 @@
 use Prim.Native.Nat.{ℕ, _+_, _*_, _-_, _%_, _<_, _≤_}
 use native.Mathlib.Nat.{eq-or-lt-of-le}
 use native.Mathlib.Omega.{arith}
-use mathlib.Core.Path.{_≡_, ap, sym, subst, _∙_}
+use mathlib.Core.Path.{_≡_, refl, subst, _∙_}
 use mathlib.Core.Logic.{⊎-elim}
-use mathlib.Core.Bool.{Bool, true, false}
+use mathlib.Core.Bool.{Bool, false}
 use mathlib.Core.List.{List}
-use lib.ListN.{length, getD, set}
+use lib.ListN.{length, getD, set, length-set}
 use lib.Seq.{getD-set-same, getD-set-other}
 use Rattle.verdict.specs.Checks.{Tells}
-use Rattle.verdict.proofs.Laws.{tells-yes}
 use Rattle.le.specs.Le.{u16At}
-use Rattle.hash.specs.Hash.{hashOn, hashText}
 use Rattle.region.specs.Region.{Laid}
-use Rattle.text.specs.Text.{EndedIn}
-use Rattle.text.specs.Measure.{Measured}
-use Rattle.text.specs.declared.Extent.{Extent}
-use Rattle.text.proofs.Laws.{text-stop}
 use Rattle.layout.specs.Table.{Table, entries, segmentOf, elementOf}
 use Rattle.strings.specs.Texts.{spotAt}
 use Rattle.strings.specs.Rules.{Resolved, Indexed}
-use Rattle.strings.specs.Ahead.{Glanced, ReadAhead}
+use Rattle.strings.specs.Ahead.{Glanced, Room, ReadAhead, Ahead}
 use Rattle.strings.specs.declared.spot.Spot.the-variants.{At}
-use Rattle.strings.specs.declared.ahead.Glances.{Glances}
 use Rattle.strings.proofs.Spots.{Spotted, spot-text}
-
--- a text whose first character is 0
-pub empty-measured : (b : List ℕ) (p n : ℕ) (r : Extent) → 0 < n → u16At b p ≡ 0 → r .ended ≡ true → r .length ≡ 0 → r .hash ≡ 0 → Measured b p n r
-unfolding EndedIn hashOn
-empty-measured b p n r h z a l e =
-    let d : p + 2 * 0 ≡ p = omega arith in
-    record {
-      ended = rw a (tells-yes (0, h, ap (u16At b) d ∙ z));
-      long = l ∙ sym (ap length (text-stop b p n z));
-      hashed = e ∙ sym (ap hashText (text-stop b p n z));
-    }
 
 module _ (t : Table) (k j : ℕ) (x : Bool) (i : Tells (Indexed t k j) x) where
   pub unglanced : (Resolved t k j → ⊥) → Glanced t k j 0 0 0 x
-  unglanced f = record { nowhere = λ z. f; spot = λ h. absurd (omega arith); first = λ h. absurd (omega arith); listed = i }
+  unglanced f = record { nowhere = λ z. f; spot = λ h. absurd (omega arith); before = λ h. absurd (omega arith); listed = i }
 
-  pub glanced : (p n c : ℕ) → 0 < n → spotAt (t .bytes) (t .at) (segmentOf t k j) (elementOf t k j) ≡ At p n → c % 65536 ≡ u16At (t .bytes) p
+  pub glanced : (p n c : ℕ) → 0 < n → spotAt (t .bytes) (t .at) (segmentOf t k j) (elementOf t k j) ≡ At p n → c % 65536 ≡ u16At (t .bytes) (p - 2)
       → Glanced t k j p n c x
-  glanced p n c h q f = record { nowhere = λ z. absurd (omega arith); spot = λ l. q; first = λ l. f; listed = i }
+  glanced p n c h q f = record { nowhere = λ z. absurd (omega arith); spot = λ l. q; before = λ l. f; listed = i }
 
 pub glanced-spot : (t : Table) (k j p n c : ℕ) (x : Bool) → Laid 2 (t .bytes) (t .at) → Glanced t k j p n c x → 0 < n
     → Spotted t (segmentOf t k j) (elementOf t k j) p n
@@ -70,18 +52,34 @@ glanced-more t k j i p n c x at left seen listed f g a l s e y h =
     same-glance : (y : ℕ) {p q n m c d : ℕ} {u v : Bool} → q ≡ p → m ≡ n → d ≡ c → v ≡ u → Glanced t k y p n c u → Glanced t k y q m d v
     same-glance y a b c d h = rw (a, b, c, d) h
 
--- 16 glances serve the entries from one multiple of 16 up to the next
-module _ (t : Table) (k j : ℕ) (r : Glances) where
-  pub near-first : j % 16 ≡ 0 → ReadAhead t k j r → ReadAhead t k (j - j % 16) r
-  near-first h g = let z : j ≡ j - j % 16 = omega arith in subst (λ (x : ℕ). ReadAhead t k x r) z g
+-- lists of 64, with one place set in each
+pub room-kept : {at left seen : List ℕ} {listed : List Bool} → Room at left seen listed → (i p n c : ℕ) (x : Bool)
+    → Room (set at i p) (set left i n) (set seen i c) (set listed i x)
+room-kept {at} {left} {seen} {listed} r i p n c x = record {
+  at-long = length-set at i p ∙ r .at-long;
+  left-long = length-set left i n ∙ r .left-long;
+  seen-long = length-set seen i c ∙ r .seen-long;
+  listed-long = length-set listed i x ∙ r .listed-long;
+}
 
-  pub near-next : ((j + 1) % 16 ≡ 0 → ⊥) → ReadAhead t k (j - j % 16) r → ReadAhead t k (j + 1 - (j + 1) % 16) r
-  near-next h g = let z : j - j % 16 ≡ j + 1 - (j + 1) % 16 = omega arith in subst (λ (x : ℕ). ReadAhead t k x r) z g
+-- 64 glances serve the entries from one multiple of 64 up to the next
+module _ {t : Table} {k : ℕ} {at left seen : List ℕ} {listed : List Bool} (j : ℕ) where
+  pub near-first : j % 64 ≡ 0 → ReadAhead t k j at left seen listed → ReadAhead t k (j - j % 64) at left seen listed
+  near-first h g = let z : j ≡ j - j % 64 = omega arith in subst (λ (x : ℕ). ReadAhead t k x at left seen listed) z g
 
-  pub near-at : ReadAhead t k (j - j % 16) r → j < entries t k
-      → Glanced t k j (getD (r .at) (j % 16) 0) (getD (r .left) (j % 16) 0) (getD (r .seen) (j % 16) 0) (getD (r .listed) (j % 16) false)
+  pub near-next : ReadAhead t k (j - j % 64) at left seen listed → Ahead t k (j + 1) at left seen listed
+  near-next g = record {
+    room = g .room;
+    rest = λ h. let z : j - j % 64 ≡ j + 1 - (j + 1) % 64 = omega arith in subst (λ (x : ℕ). ReadAhead t k x at left seen listed) z g;
+  }
+
+  pub near-at : ReadAhead t k (j - j % 64) at left seen listed → j < entries t k
+      → Glanced t k j (getD at (j % 64) 0) (getD left (j % 64) 0) (getD seen (j % 64) 0) (getD listed (j % 64) false)
   near-at g h =
-      let z : j - j % 16 + j % 16 ≡ j = omega arith in
-      subst
-      (λ (x : ℕ). Glanced t k x (getD (r .at) (j % 16) 0) (getD (r .left) (j % 16) 0) (getD (r .seen) (j % 16) 0) (getD (r .listed) (j % 16) false)) z
-      (g .glanced (j % 16) (omega arith) (omega arith))
+      let z : j - j % 64 + j % 64 ≡ j = omega arith in
+      subst (λ (x : ℕ). Glanced t k x (getD at (j % 64) 0) (getD left (j % 64) 0) (getD seen (j % 64) 0) (getD listed (j % 64) false)) z
+      (g .glanced (j % 64) (omega arith) (omega arith))
+
+-- nothing is read yet
+pub ahead-none : {t : Table} {k : ℕ} {at left seen : List ℕ} {listed : List Bool} → Room at left seen listed → Ahead t k 0 at left seen listed
+ahead-none r = record { room = r; rest = λ h. absurd (h refl) }

@@ -2,6 +2,7 @@ pub mod Accepted
 pub mod Places
 pub mod Spots
 pub mod Glances
+pub mod Begun
 pub mod Checks
 pub mod Runs
 pub mod Left

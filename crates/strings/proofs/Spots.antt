@@ -86,10 +86,11 @@ pub record Spotted (t : Table) (seg el p n : ℕ) : Type 0 where
   pub text : textIn (t .bytes) p n ≡ textTo t seg el
   pub ended : EndedIn (t .bytes) p n ↔ EndedAt (t .bytes) (t .at) seg el
   pub some : 0 < n
+  pub past : 8 ≤ p
   pub fits : p + 2 * n ≤ length (t .bytes)
 
 pub spot-text : (t : Table) (seg el : ℕ) {p n : ℕ} → Laid 2 (t .bytes) (t .at) → spotAt (t .bytes) (t .at) seg el ≡ At p n → Spotted t seg el p n
-unfolding textTo textAt EndedAt
+unfolding textTo textAt EndedAt placeOf
 spot-text t seg el {p} {n} laid e =
     let w = spot-in _ _ _ _ e in
     let l = room-fits (t .bytes) (t .at) _ _ laid (w .0) in
@@ -101,6 +102,7 @@ spot-text t seg el {p} {n} laid e =
         λ h. subst (λ (x : ℕ). EndedIn (t .bytes) x n) (sym (w .1)) (subst (EndedIn (t .bytes) _) (sym (w .2)) h),
       );
       some = omega (arith, room-some (t .bytes) (t .at) _ _ (w .0), w .2);
+      past = omega (arith, w .1);
       fits = omega (arith, w .1, w .2);
     }
 

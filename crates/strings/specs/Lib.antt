@@ -3,4 +3,5 @@ pub mod Rules
 pub mod Decisions
 pub mod Order
 pub mod Held
+pub mod Begins
 pub mod Ahead

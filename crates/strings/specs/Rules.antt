@@ -42,6 +42,10 @@ Twin t k j = SomeBelow j (λ i. textOf t k i ≡ textOf t k j)
 abbrev pub Carried : Table → ℕ → Type 0
 Carried t i = SomeBelow (t .buckets) (λ k. SomeBelow (entries t k) (λ j. indexOf t k j ≡ i))
 
+-- An address is that of some entry of a table.
+abbrev pub EntryAddress : Table → ℕ → ℕ → Type 0
+EntryAddress t seg el = SomeBelow (t .buckets) (λ k. SomeBelow (entries t k) (λ j. (segmentOf t k j ≡ seg) × (elementOf t k j ≡ el)))
+
 -- The rules of an entry by itself.
 pub record EntryRules (t : Table) (k j : ℕ) : Type 0 where
   pub resolved : Resolved t k j

@@ -1,13 +1,13 @@
 // Reading ahead. The entries of a bucket stand by hash, their texts and list positions anywhere, so that the processor would
-// wait for each in turn. Here 16 entries are glanced at together: none of these reads waits for another, and the texts are
+// wait for each in turn. Here 64 entries are glanced at together: none of these reads waits for another, and the texts are
 // near when they are checked.
 ghost use mathlib.Core.Path.{_≡_};
-ghost use Prim.Native.Nat.{ℕ, _+_, _*_, _%_, _≤_, _<_, _^_};
+ghost use Prim.Native.Nat.{ℕ, _+_, _-_, _*_, _%_, _≤_, _<_, _^_};
 ghost use lib.ListN.{length};
 ghost use Rattle.le.specs.Le.{u16At};
 ghost use Rattle.layout.specs.Table.{entries};
 ghost use Rattle.strings.specs.Held.{Held, heldTable, Here};
-ghost use Rattle.strings.specs.Ahead.{Glanced, ReadAhead};
+ghost use Rattle.strings.specs.Ahead.{Glanced, ReadAhead, Ahead};
 use crate::Strings;
 use crate::entry;
 use crate::spot;
@@ -22,25 +22,17 @@ pub struct Glance {
     pub listed: bool,
 }
 
-// The same for 16 entries in a row, a list for each field.
-pub struct Glances {
-    pub at: [usize; 16],
-    pub left: [usize; 16],
-    pub seen: [usize; 16],
-    pub listed: [bool; 16],
-}
-
-// The first of the n characters at p, plus 65,536 times the one 31 further on, if there is one. That one has no meaning: it is
+// The character before the n at p, plus 65,536 times the one 31 further on than the first, if there is one. That one has no meaning: it is
 // read only so that its part of a text is near, too.
 pub fn touch(b: &[u8], p: usize, n: usize) -> usize
-    requires { ⌜ (0 < n) × (p + 2 * n ≤ length (now b)) ⌝ }
-    ensures { λ r. ⌜ (r % 65536 ≡ u16At (now (b .entry)) p) × (r < 2 ^ 32) ⌝ }
+    requires { ⌜ (2 ≤ p) × (0 < n) × (p + 2 * n ≤ length (now b)) ⌝ }
+    ensures { λ r. ⌜ (r % 65536 ≡ u16At (now (b .entry)) (p - 2)) × (r < 2 ^ 32) ⌝ }
 {
-    let first = le::u16_at(b, p);
+    let before = le::u16_at(b, p - 2);
     if n > 31 {
-        return first + 65536 * le::u16_at(b, p + 62);
+        return before + 65536 * le::u16_at(b, p + 62);
     }
-    first
+    before
 }
 
 // A glance at entry j of bucket k.
@@ -75,14 +67,15 @@ fn glance_at(
 }
 
 // How many entries are glanced at, of those that are left.
-fn at_most_16(left: usize) -> usize
-    ensures { λ r. ⌜ (r ≤ left) × (r ≤ 16) × ((i : ℕ) → i < left → i < 16 → i < r) ⌝ }
+fn at_most_64(left: usize) -> usize
+    ensures { λ r. ⌜ (r ≤ left) × (r ≤ 64) × ((i : ℕ) → i < left → i < 64 → i < r) ⌝ }
 {
-    if left < 16 { left } else { 16 }
+    if left < 64 { left } else { 64 }
 }
 
-// Glances at entry j of bucket k, which has n, and at the 15 behind it, as far as there are so many.
-pub fn read_ahead(
+// Sees to it that entry j of bucket k, which has n, was glanced at: at each multiple of 64 it and the 63 behind it are, as far as there are
+// so many.
+pub fn keep_ahead(
     b: &[u8],
     s: Strings,
     samples: &[u32; 1024],
@@ -90,16 +83,20 @@ pub fn read_ahead(
     k: usize,
     n: usize,
     j: usize,
-) -> Glances
+    at: &mut [usize; 64],
+    left: &mut [usize; 64],
+    seen: &mut [usize; 64],
+    listed: &mut [bool; 64],
+)
     requires { ⌜ Held (now b) s (now samples) (now starts) × (k < length (now starts))
-        × (n ≡ entries (heldTable (now b) s (now starts)) k) × (j ≤ n) ⌝ }
-    ensures { λ r. ⌜ ReadAhead (heldTable (now (b .entry)) s (now (starts .entry))) k j r ⌝ }
+        × (n ≡ entries (heldTable (now b) s (now starts)) k) × (j ≤ n)
+        × Ahead (heldTable (now b) s (now starts)) k j (now at) (now left) (now seen) (now listed) ⌝ }
+    ensures { λ _. ⌜ ReadAhead (heldTable (now (b .entry)) s (now (starts .entry))) k (j - j % 64) (now (at .exit)) (now (left .exit)) (now (seen .exit)) (now (listed .exit)) ⌝ }
 {
-    let mut at = [0usize; 16];
-    let mut left = [0usize; 16];
-    let mut seen = [0usize; 16];
-    let mut listed = [false; 16];
-    let m = at_most_16(n - j);
+    if j % 64 != 0 {
+        return;
+    }
+    let m = at_most_64(n - j);
     let mut i = 0;
     while i < m {
         let g = glance_at(b, s, samples, starts, k, j + i);
@@ -108,11 +105,5 @@ pub fn read_ahead(
         seen[i] = g.seen;
         listed[i] = g.listed;
         i += 1;
-    }
-    Glances {
-        at,
-        left,
-        seen,
-        listed,
     }
 }

@@ -5,8 +5,6 @@ ghost use lib.ListN.{length};
 ghost use Rattle.verdict.specs.Checks.{Tells, firstFault};
 ghost use Rattle.verdict.specs.declared.Verdict.the-variants.{Accepted};
 ghost use Rattle.hash.specs.Table.{Tables};
-ghost use Rattle.le.specs.Le.{u16At};
-ghost use Rattle.text.specs.Measure.{Measured};
 ghost use Rattle.layout.specs.Table.{entryAt, entries};
 ghost use Rattle.strings.specs.Rules.{Resolved, Placed, Indexed, Twin};
 ghost use Rattle.strings.specs.Order.{entryChecks};
@@ -17,7 +15,6 @@ use crate::Strings;
 use crate::ahead::Glance;
 use crate::spot;
 use crate::spot::Spot;
-use text::Extent;
 use verdict::Verdict;
 
 // Where entry j of bucket k stands.
@@ -171,26 +168,10 @@ fn check_order(
     Verdict::Accepted
 }
 
-// The text at p, of at most n characters, where what was seen of it ends in the first one. The test of that character is what
-// keeps the read ahead: the compiler drops a read that nothing asks for.
-fn measure_seen(b: &[u8], t: &[u32; 1024], p: usize, n: usize, seen: usize) -> Extent
-    requires { ⌜ Tables (now t) × (0 < n) × (p + 2 * n ≤ length (now b)) × (seen % 65536 ≡ u16At (now b) p) ⌝ }
-    ensures { λ r. ⌜ Measured (now (b .entry)) p n r ⌝ }
-{
-    if seen % 65536 == 0 {
-        return Extent {
-            ended: true,
-            length: 0,
-            hash: 0,
-        };
-    }
-    text::measure(b, t, p, n)
-}
-
 // Refusals 7 to 12 of an entry that was glanced at, where those before it in the bucket passed.
 pub fn check_entry(
     b: &[u8],
-    t: &[u32; 1024],
+    t: &[u32; 2048],
     s: Strings,
     samples: &[u32; 1024],
     starts: &[u32],
@@ -207,7 +188,7 @@ pub fn check_entry(
     if g.left == 0 {
         return Verdict::Refused(7, e);
     }
-    let m = measure_seen(b, t, g.at, g.left, g.seen);
+    let m = text::measure(b, t, g.at, g.left);
     if !m.ended {
         return Verdict::Refused(8, e);
     }

@@ -1,53 +1,109 @@
 // All entries of a table.
 ghost use mathlib.Core.Path.{_≡_};
-ghost use Rattle.verdict.specs.Checks.{firstFault};
+ghost use mathlib.Core.Bool.{true};
+ghost use Rattle.verdict.specs.Checks.{firstFault, Sure};
+ghost use Rattle.verdict.specs.declared.Verdict.the-variants.{Accepted};
 ghost use Rattle.hash.specs.Table.{Tables};
-ghost use Rattle.strings.specs.Order.{allEntryChecks};
-ghost use Rattle.strings.specs.Held.{Held, heldTable};
+ghost use Rattle.strings.specs.Order.{entryChecks, allEntryChecks};
+ghost use Rattle.strings.specs.Begins.{Begun, AllBegun};
+ghost use Rattle.strings.specs.Ahead.{Glanced};
+ghost use Rattle.strings.specs.Held.{Held, heldTable, Here};
 use crate::Strings;
 use crate::ahead;
 use crate::ahead::Glance;
 use crate::entry;
 use verdict::Verdict;
 
-// Refusals 7 to 12 of every entry, up to the first fault.
-pub fn check_entries(
+// What is found of the entries: the first fault, and whether their texts are known to stand where texts can begin.
+pub struct Checked {
+    pub answer: Verdict,
+    pub begun: bool,
+}
+
+// Whether the text of entry j of bucket k, which passed, stands where one can begin; and so do those before it.
+fn still_begun(
     b: &[u8],
-    t: &[u32; 1024],
     s: Strings,
     samples: &[u32; 1024],
     starts: &[u32],
-) -> Verdict
-    requires { ⌜ Tables (now t) × Held (now b) s (now samples) (now starts) ⌝ }
-    ensures { λ r. ⌜ r ≡ firstFault (allEntryChecks (heldTable (now (b .entry)) s (now (starts .entry)))) ⌝ }
+    k: usize,
+    j: usize,
+    g: Glance,
+    before: bool,
+) -> bool
+    requires { ⌜ Held (now b) s (now samples) (now starts) × Here (heldTable (now b) s (now starts)) k j
+        × (firstFault (entryChecks (heldTable (now b) s (now starts)) k j) ≡ Accepted)
+        × Glanced (heldTable (now b) s (now starts)) k j (g .at) (g .left) (g .seen) (g .listed) ⌝ }
+    ensures { λ r. ⌜ Sure ((before ≡ true) × Begun (heldTable (now (b .entry)) s (now (starts .entry))) k j) r ⌝ }
 {
+    if !before {
+        return false;
+    }
+    let e = entry::entry_at(b, s, samples, starts, k, j);
+    if le::u16_at(b, e + 14) == 0 {
+        return true;
+    }
+    g.seen % 65536 == 0
+}
+
+// Refusals 7 to 12 of every entry, up to the first fault.
+pub fn check_entries(
+    b: &[u8],
+    t: &[u32; 2048],
+    s: Strings,
+    samples: &[u32; 1024],
+    starts: &[u32],
+) -> Checked
+    requires { ⌜ Tables (now t) × Held (now b) s (now samples) (now starts) ⌝ }
+    ensures answer { λ r. ⌜ r .answer ≡ firstFault (allEntryChecks (heldTable (now (b .entry)) s (now (starts .entry)))) ⌝ }
+    ensures begun { λ r. ⌜ Sure (AllBegun (heldTable (now (b .entry)) s (now (starts .entry)))) (r .begun) ⌝ }
+{
+    let mut at = [0usize; 64];
+    let mut left = [0usize; 64];
+    let mut seen = [0usize; 64];
+    let mut listed = [false; 64];
     let mut fault = Verdict::Accepted;
+    let mut begun = true;
     let mut k = 0;
     'buckets: while k < starts.len() {
         let n = entry::entry_count(b, s, samples, starts, k);
-        let mut near = ahead::read_ahead(b, s, samples, starts, k, n, 0);
         let mut j = 0;
         while j < n {
-            let i = j % 16;
+            ahead::keep_ahead(
+                b,
+                s,
+                samples,
+                starts,
+                k,
+                n,
+                j,
+                &mut at,
+                &mut left,
+                &mut seen,
+                &mut listed,
+            );
+            let i = j % 64;
             let g = Glance {
-                at: near.at[i],
-                left: near.left[i],
-                seen: near.seen[i],
-                listed: near.listed[i],
+                at: at[i],
+                left: left[i],
+                seen: seen[i],
+                listed: listed[i],
             };
             match entry::check_entry(b, t, s, samples, starts, k, j, g) {
                 Verdict::Accepted => {}
                 Verdict::Refused(num, place) => {
                     fault = Verdict::Refused(num, place);
+                    begun = false;
                     break 'buckets;
                 }
             }
+            begun = still_begun(b, s, samples, starts, k, j, g, begun);
             j += 1;
-            if j % 16 == 0 {
-                near = ahead::read_ahead(b, s, samples, starts, k, n, j);
-            }
         }
         k += 1;
     }
-    fault
+    Checked {
+        answer: fault,
+        begun,
+    }
 }

@@ -1,3 +1,6 @@
 pub mod Laws
 pub mod Walk
+pub mod Passed
+pub mod Words
 pub mod OneByOne
+pub mod Counted

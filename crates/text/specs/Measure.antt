@@ -5,22 +5,19 @@ use mathlib.Core.List.{List}
 use lib.ListN.{length}
 use Rattle.verdict.specs.Checks.{Tells}
 use Rattle.le.specs.Le.{u16At}
-use Rattle.hash.specs.Hash.{hashText}
-use Rattle.hash.specs.Fold.{valueHash}
+use Rattle.hash.specs.Hash.{hashOn}
 use Rattle.text.specs.Text.{textIn, EndedIn}
 use Rattle.text.specs.declared.Extent.{Extent}
-use Rattle.text.specs.declared.Hashes.{Hashes}
 
--- Whether a 0 ends it, how many characters it has (the 0 not counted), and its hash.
-pub record Measured (b : List ℕ) (p n : ℕ) (r : Extent) : Type 0 where
+-- Whether a 0 ends it, how many characters it has (the 0 not counted), and its hash, on from the hash h of what stands before it.
+pub record MeasuredOn (b : List ℕ) (p n h : ℕ) (r : Extent) : Type 0 where
   pub ended : Tells (EndedIn b p n) (r .ended)
   pub long : r .length ≡ length (textIn b p n)
-  pub hashed : r .hash ≡ hashText (textIn b p n)
+  pub hashed : r .hash ≡ hashOn h (textIn b p n)
 
--- Its hash and its value hash.
-pub record Hashed (b : List ℕ) (p n : ℕ) (r : Hashes) : Type 0 where
-  pub hashed : r .hash ≡ hashText (textIn b p n)
-  pub value : r .value ≡ valueHash (textIn b p n)
+-- The same of a text before which nothing stands.
+abbrev pub Measured : List ℕ → ℕ → ℕ → Extent → Type 0
+Measured b p n r = MeasuredOn b p n 0 r
 
 -- Character i of the n at p, or 0 past them.
 pub record CharOrEnd (b : List ℕ) (p n i r : ℕ) : Type 0 where

@@ -1,13 +1,15 @@
 // Texts among the characters of a string table, and the texts that a caller asks with.
 ghost use mathlib.Core.Path.{_≡_};
+ghost use mathlib.Core.Bool.{true};
 ghost use Prim.Native.Nat.{_+_, _*_, _≤_, _<_, _^_};
 ghost use lib.ListN.{length};
 ghost use Rattle.verdict.specs.Checks.{Tells};
 ghost use Rattle.hash.specs.Table.{Tables};
-ghost use Rattle.hash.specs.Hash.{hashChar, hashText};
-ghost use Rattle.hash.specs.Fold.{folded, valueHashOf};
+ghost use Rattle.hash.specs.Hash.{hashOn, hashText};
+ghost use Rattle.hash.specs.Fold.{foldText, valueHashOf, valueHash};
 ghost use Rattle.text.specs.Text.{chars, textIn};
-ghost use Rattle.text.specs.Measure.{Measured, Hashed, CharOrEnd};
+ghost use Rattle.text.specs.Zeros.{zerosIn};
+ghost use Rattle.text.specs.Measure.{MeasuredOn, Measured, CharOrEnd};
 
 // What is measured of a text: whether a 0 ends it, its characters, its hash.
 pub struct Extent {
@@ -16,112 +18,165 @@ pub struct Extent {
     pub hash: usize,
 }
 
-// The string hash and the value hash of a text.
-pub struct Hashes {
-    pub hash: usize,
-    pub value: usize,
+// A text that a 0 ends.
+fn ended(length: usize, hash: usize) -> Extent
+    ensures { λ r. ⌜ (r .ended ≡ true) × (r .length ≡ length) × (r .hash ≡ hash) ⌝ }
+{
+    Extent {
+        ended: true,
+        length,
+        hash,
+    }
 }
 
-// The text at offset p, of at most n characters: two in a step, while two are left.
-pub fn measure(b: &[u8], t: &[u32; 1024], p: usize, n: usize) -> Extent
+// The text at offset p, of at most n characters: four in a step, while four are left.
+pub fn measure(b: &[u8], t: &[u32; 2048], p: usize, n: usize) -> Extent
     requires { ⌜ Tables (now t) × (p + 2 * n ≤ length (now b)) ⌝ }
     ensures { λ r. ⌜ Measured (now (b .entry)) p n r ⌝ }
 {
     let mut h = 0;
     let mut i = 0;
-    while i + 1 < n {
-        let w = le::u32_at(b, p + 2 * i);
+    while i + 3 < n {
+        let v = le::u32_at(b, p + 2 * i);
+        if v & 65535 == 0 {
+            return ended(i, h);
+        }
+        if v < 65536 {
+            return ended(i + 1, hash::char_on(t, h, v));
+        }
+        let w = le::u32_at(b, p + 2 * (i + 2));
         if w & 65535 == 0 {
-            return Extent {
-                ended: true,
-                length: i,
-                hash: h,
-            };
+            return ended(i + 2, hash::pair_on(t, h, v));
         }
         if w < 65536 {
-            return Extent {
-                ended: true,
-                length: i + 1,
-                hash: hash::char_on(t, h, w),
-            };
+            return ended(i + 3, hash::char_on(t, hash::pair_on(t, h, v), w));
         }
-        h = hash::pair_on(t, h, w);
-        i += 2;
+        h = hash::quad_on(t, h, v, w);
+        i += 4;
     }
-    let c = char_or_end(b, p, n, i);
-    if c == 0 {
-        return Extent {
-            ended: i < n,
-            length: i,
-            hash: h,
-        };
-    }
+    let few = measure_few(b, t, p + 2 * i, n - i, h);
     Extent {
-        ended: false,
-        length: i + 1,
-        hash: hash::char_on(t, h, c),
+        ended: few.ended,
+        length: i + few.length,
+        hash: few.hash,
     }
 }
 
-// Both hashes of the text at offset p in one pass: an attribute's text is looked up by the one and checked by the other.
-pub fn both_hashes(b: &[u8], t: &[u32; 1024], p: usize, n: usize) -> Hashes
+// The same by single characters, on from the hash h: where a segment ends, fewer than four are left.
+fn measure_few(b: &[u8], t: &[u32; 2048], p: usize, n: usize, h: usize) -> Extent
+    requires { ⌜ Tables (now t) × (p + 2 * n ≤ length (now b)) × (h < 2 ^ 32) ⌝ }
+    ensures { λ r. ⌜ MeasuredOn (now (b .entry)) p n h r ⌝ }
+{
+    let mut g = h;
+    let mut i = 0;
+    loop {
+        let c = char_or_end(b, p, n, i);
+        if c == 0 {
+            return Extent {
+                ended: i < n,
+                length: i,
+                hash: g,
+            };
+        }
+        g = hash::char_on(t, g, c);
+        i += 1;
+    }
+}
+
+// The value hash of the text at offset p, of at most n characters: four in a step, while four are left.
+pub fn value_hash(b: &[u8], t: &[u32; 2048], p: usize, n: usize) -> usize
     requires { ⌜ Tables (now t) × (p + 2 * n ≤ length (now b)) ⌝ }
-    ensures { λ r. ⌜ Hashed (now (b .entry)) p n r ⌝ }
+    ensures { λ r. ⌜ r ≡ valueHash (textIn (now (b .entry)) p n) ⌝ }
 {
     let mut h = 0;
-    let mut v = 0;
     let mut i = 0;
-    while i + 1 < n {
-        let w = le::u32_at(b, p + 2 * i);
+    while i + 3 < n {
+        let v = le::u32_at(b, p + 2 * i);
+        let w = le::u32_at(b, p + 2 * (i + 2));
+        let f = hash::fold_quad(v, w);
+        if v & 65535 == 0 {
+            return hash::value_hash(h);
+        }
+        if v < 65536 {
+            return hash::value_hash(hash::char_on(t, h, f.first));
+        }
         if w & 65535 == 0 {
-            return Hashes {
-                hash: h,
-                value: hash::value_hash(v),
-            };
+            return hash::value_hash(hash::pair_on(t, h, f.first));
         }
         if w < 65536 {
-            return with_last(t, h, v, w);
+            return hash::value_hash(hash::char_on(t, hash::pair_on(t, h, f.first), f.second));
         }
-        h = hash::pair_on(t, h, w);
-        v = hash::pair_on(t, v, hash::fold_pair(w));
-        i += 2;
+        h = hash::quad_on(t, h, f.first, f.second);
+        i += 4;
     }
-    let c = char_or_end(b, p, n, i);
-    if c == 0 {
-        return Hashes {
-            hash: h,
-            value: hash::value_hash(v),
-        };
-    }
-    with_last(t, h, v, c)
+    value_hash_few(b, t, p + 2 * i, n - i, h)
 }
 
-// Both hashes with the last character.
-fn with_last(t: &[u32; 1024], h: usize, v: usize, c: usize) -> Hashes
-    requires { ⌜ Tables (now t) × (h < 2 ^ 32) × (v < 2 ^ 32) × (c < 65536) ⌝ }
-    ensures { λ r. ⌜ (r .hash ≡ hashChar h c) × (r .value ≡ valueHashOf (hashChar v (folded c))) ⌝ }
+// The same by single characters, on from the hash h of the folded characters before them.
+fn value_hash_few(b: &[u8], t: &[u32; 2048], p: usize, n: usize, h: usize) -> usize
+    requires { ⌜ Tables (now t) × (p + 2 * n ≤ length (now b)) × (h < 2 ^ 32) ⌝ }
+    ensures { λ r. ⌜ r ≡ valueHashOf (hashOn h (foldText (textIn (now (b .entry)) p n))) ⌝ }
 {
-    Hashes {
-        hash: hash::char_on(t, h, c),
-        value: hash::value_hash(hash::char_on(t, v, hash::fold(c))),
+    let mut g = h;
+    let mut i = 0;
+    loop {
+        let c = char_or_end(b, p, n, i);
+        if c == 0 {
+            return hash::value_hash(g);
+        }
+        g = hash::char_on(t, g, hash::fold(c));
+        i += 1;
     }
 }
 
-// The hash of k characters that a caller asks with.
-pub fn hash_chars(s: &[u8], t: &[u32; 1024], p: usize, k: usize) -> usize
+// How many of the n characters at p are 0. They are counted in 16 bits, since the compiler then takes many characters at a step.
+pub fn zeros(b: &[u8], p: usize, n: usize) -> usize
+    requires { ⌜ (p + 2 * n ≤ length (now b)) × (n < 65536) ⌝ }
+    ensures { λ r. ⌜ (r ≡ zerosIn (now (b .entry)) p n) × (r ≤ n) ⌝ }
+{
+    let end = p + 2 * n;
+    let mut found = 0u16;
+    let mut at = p;
+    while at < end {
+        if le::u16_at(b, at) == 0 {
+            found += 1;
+        }
+        at += 2;
+    }
+    found as usize
+}
+
+// The hash of k characters that a caller asks with: four in a step, while four are left.
+pub fn hash_chars(s: &[u8], t: &[u32; 2048], p: usize, k: usize) -> usize
     requires { ⌜ Tables (now t) × (p + 2 * k ≤ length (now s)) ⌝ }
     ensures { λ r. ⌜ (r ≡ hashText (chars (now (s .entry)) p k)) × (r < 2 ^ 32) ⌝ }
 {
     let mut h = 0;
     let mut i = 0;
-    while i + 1 < k {
-        h = hash::pair_on(t, h, le::u32_at(s, p + 2 * i));
-        i += 2;
+    while i + 3 < k {
+        let v = le::u32_at(s, p + 2 * i);
+        h = hash::quad_on(t, h, v, le::u32_at(s, p + 2 * (i + 2)));
+        i += 4;
     }
-    if i >= k {
+    hash_few(s, t, p + 2 * i, k - i, h)
+}
+
+// The same of fewer than four characters, on from the hash h.
+fn hash_few(s: &[u8], t: &[u32; 2048], p: usize, k: usize, h: usize) -> usize
+    requires { ⌜ Tables (now t) × (p + 2 * k ≤ length (now s)) × (k < 4) × (h < 2 ^ 32) ⌝ }
+    ensures { λ r. ⌜ (r ≡ hashOn h (chars (now (s .entry)) p k)) × (r < 2 ^ 32) ⌝ }
+{
+    if k == 0 {
         return h;
     }
-    hash::char_on(t, h, le::u16_at(s, p + 2 * i))
+    if k == 1 {
+        return hash::char_on(t, h, le::u16_at(s, p));
+    }
+    let g = hash::pair_on(t, h, le::u32_at(s, p));
+    if k == 2 {
+        return g;
+    }
+    hash::char_on(t, g, le::u16_at(s, p + 4))
 }
 
 // Whether two texts of the file are the same: that at p with m characters left, and that at q with n.

@@ -11,7 +11,7 @@ use Rattle.verdict.specs.declared.Verdict.the-variants.{Accepted, Refuse
 use mathlib.Core.Bool.{true, false, true≢false, false≢true}
 use lib.Dec.{eqb, leb}
 use borrow.Author.Tests.{eqb-true, eqb-false, leb-true, leb-false}
-use Rattle.verdict.specs.Checks.{Check, check, firstFault, each, Tells}
+use Rattle.verdict.specs.Checks.{Check, check, firstFault, each, Tells, Sure}
 
 -- none of the checks fails
 abbrev pub Clean : List Check → Type 0
@@ -131,6 +131,10 @@ module _ {P : Type 0} where
 
   pub tells-no : (P → ⊥) → Tells P false
   tells-no h = record { so = λ w. absurd (false≢true w); not = λ w. h }
+
+  -- false tells nothing
+  pub unsure : Sure P false
+  unsure w = absurd (false≢true w)
 
   pub tells-eqb : (a b : ℕ) → (a ≡ b → P) → (P → a ≡ b) → Tells P (eqb a b)
   tells-eqb a b f g = record { so = λ w. f (eqb-true a b w); not = λ w p. eqb-false a b w (g p) }

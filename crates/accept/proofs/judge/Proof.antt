@@ -14,7 +14,7 @@ use Rattle.nodes.specs.Held.{valueStrings}
 use Rattle.accept.specs.Held.{nameStrings}
 use Rattle.accept.proofs.Numbers.{calm-strings, calm-special, calm-keys, calm-nodes}
 use Rattle.accept.proofs.Groups.{left-values, left-names, left-special, left-keys, left-nodes, left-tree, settled}
-use Rattle.accept.proofs.Held.{values-held, values-long, values-told, names-table, names-held, names-long, names-told, nodes-ready, tree-ready, used-told}
+use Rattle.accept.proofs.Held.{values-held, values-long, values-told, values-packed, names-table, names-held, names-long, names-told, nodes-ready, tree-ready, used-told}
 use Rattle.accept.proofs.judge.Statement.{statement}
 use Rattle.accept.proofs.judge.Tie as tie
 
@@ -23,13 +23,13 @@ values-done : (c : tie.After-enum-told) → firstFault (stringChecks (values (c 
 unfolding valueStrings
 values-done c =
     let s = c .before .before .before .before .before .before .before .before .before .before .before .before .before .before .before .before in
-    values-told (s .args .b .now) (s .args .v) (s .pre) (c .before .before .check-table .ensures) (c .enum-told .given .1)
+    values-told (s .args .b .now) (s .args .v) (s .pre) (c .before .before .check-table .ensures .0) (c .enum-told .given .1)
 
 names-done : (c : tie.After-enum-told2) → firstFault (stringChecks (names (c .before .before .before .before .before .before .before .before .before .before .before .before .before .before .before .before .before .before .before .before .before .before .args .b .now))) ≡ Accepted
 unfolding nameStrings
 names-done c =
     let s = c .before .before .before .before .before .before .before .before .before .before .before .before .before .before .before .before .before .before .before .before .before .before in
-    names-told (s .args .b .now) (s .args .v) (s .pre) (c .before .before .check-table2 .ensures) (c .enum-told2 .given .1)
+    names-told (s .args .b .now) (s .args .v) (s .pre) (c .before .before .check-table2 .ensures .0) (c .enum-told2 .given .1)
 
 special-done : (c : tie.After-enum-told3) → firstFault (specialChecks (c .before .before .before .before .before .before .before .before .before .before .before .before .before .before .before .before .before .before .before .before .before .before .before .before .before .before .before .args .b .now)) ≡ Accepted
 special-done c = sym (c .before .before .check-special .ensures .answer) ∙ c .enum-told3 .given .1
@@ -52,7 +52,7 @@ unfolding valueStrings
 returns c =
     let s = c .before .before .before .before .before .before .before .before .before .before .before .before .before .before .before .before .before in
     settled _ _ _ _ (left-values _ (s .args .v) (s .pre) _) (calm-strings _)
-    (values-told (s .args .b .now) (s .args .v) (s .pre) (c .before .before .before .check-table .ensures) (c .before .a .given .1))
+    (values-told (s .args .b .now) (s .args .v) (s .pre) (c .before .before .before .check-table .ensures .0) (c .before .a .given .1))
 
 slice-aggregate-check-table-2 : tie.Need-slice-aggregate-check-table-2
 slice-aggregate-check-table-2 c = let s = c .before .before .before .before .before .before .before .before .before .before .before .before .before .before .before .before .before .before .before in names-long (s .args .b .now) (s .args .v) (s .pre)
@@ -66,7 +66,7 @@ unfolding nameStrings
 returns-2 c =
     let s = c .before .before .before .before .before .before .before .before .before .before .before .before .before .before .before .before .before .before .before .before .before .before .before in
     settled _ _ _ _ (left-names _ (s .args .v) (s .pre) _ (values-done (c .before .before .before .before .before .before .before))) (calm-strings _)
-    (names-told (s .args .b .now) (s .args .v) (s .pre) (c .before .before .before .check-table2 .ensures) (c .before .c .given .1))
+    (names-told (s .args .b .now) (s .args .v) (s .pre) (c .before .before .before .check-table2 .ensures .0) (c .before .c .given .1))
 
 slice-aggregate-check-special : tie.Need-slice-aggregate-check-special
 slice-aggregate-check-special c = let s = c .before .before .before .before .before .before .before .before .before .before .before .before .before .before .before .before .before .before .before .before .before .before .before .before in names-long (s .args .b .now) (s .args .v) (s .pre)
@@ -99,10 +99,12 @@ slice-aggregate-check-nodes : tie.Need-slice-aggregate-check-nodes
 slice-aggregate-check-nodes c = let s = c .before .before .before .before .before .before .before .before .before .before .before .before .before .before .before .before .before .before .before .before .before .before .before .before .before .before .before .before .before .before .before .before .before .before .before .before .before .before .before in values-long (s .args .b .now) (s .args .v) (s .pre)
 
 check-nodes-requires : tie.Need-check-nodes-requires
+unfolding valueStrings
 check-nodes-requires c κs =
     let s = c .before .before .before .before .before .before .before .before .before .before .before .before .before .before .before .before .before .before .before .before .before .before .before .before .before .before .before .before .before .before .before .before .before .before .before .before .before .before .before in (
       c .before .before .before .before .before .before .before .before .before .before .before .before .before .before .before .before .before .before .before .before .before .before .before .before .before .before .before .before .before .before .before .before .before .before .before .before .tables .ensures,
       nodes-ready (s .args .b .now) (s .args .v) (s .pre) _ (c .before .before .before .before .before .before .before .before .before .before .before .before .before .before .check-special .ensures .names (c .before .before .before .before .before .before .before .before .before .before .before .before .enum-told3 .given .1)) (values-done (c .before .before .before .before .before .before .before .before .before .before .before .before .before .before .before .before .before .before .before .before .before .before .before)),
+      values-packed (s .args .b .now) (s .args .v) (s .pre) (c .before .before .before .before .before .before .before .before .before .before .before .before .before .before .before .before .before .before .before .before .before .before .before .before .before .check-table .ensures .1),
     )
 
 returns-5 : tie.Need-returns-5

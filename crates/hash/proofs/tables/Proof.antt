@@ -14,10 +14,10 @@ abbrev μ-loop : tie.MeasureT-loop
 μ-loop source t₀ i₀ t i = 256 - i
 
 abbrev Inv-loop2 : tie.InvT-loop2
-Inv-loop2 source t₀ i₀ t i = (256 ≤ i) × (i ≤ 1024) × Filled t i × Source source
+Inv-loop2 source t₀ i₀ t i = (256 ≤ i) × (i ≤ 2048) × Filled t i × Source source
 
 abbrev μ-loop2 : tie.MeasureT-loop2
-μ-loop2 source t₀ i₀ t i = 1024 - i
+μ-loop2 source t₀ i₀ t i = 2048 - i
 
 loop-holds : tie.Need-loop-holds Inv-loop μ-loop Inv-loop2 μ-loop2
 unfolding T entryOf

@@ -1,9 +1,9 @@
 use Prim.Native.Nat.{_-_, _^_, _≤_, _<_}
-use mathlib.Core.Path.{_≡_, ap, sym, _∙_}
-use lib.Bits.{bitAnd}
+use mathlib.Core.Path.{_≡_, refl, ap, sym, _∙_}
 use Rattle.hash.specs.Hash.{hashOn, hashText}
 use Rattle.text.specs.Text.{chars}
-use Rattle.text.proofs.Walk.{charsFrom, chars-start, chars-over, chars-next, hash-end, hash-next, Two, two, chars-pair}
+use Rattle.text.proofs.Walk.{charsFrom, chars-start, hash-rest}
+use Rattle.text.proofs.Words.{first-two, next-two, chars-pair}
 use native.Mathlib.Omega.{arith}
 use borrow.Author.Needs.{needs}
 use Rattle.text.proofs.hash_chars.Statement.{statement}
@@ -15,35 +15,27 @@ Inv-loop s t p k h₀ i₀ h i = (i ≤ k) × (h < 2 ^ 32) × (hashText (chars s
 abbrev μ-loop : tie.MeasureT-loop
 μ-loop s t p k h₀ i₀ h i = k - i
 
-word : (c : tie.After-u32-at Inv-loop μ-loop)
-    → Two (c .before .before .before .before .args .s .now) (c .before .before .before .before .args .p) (c .before .before .before .before .args .k) (c .before .before .loop .i)
-    (bitAnd (c .u32-at .result) 65535) (c .u32-at .result)
-word c =
-    two _ _ _ _ _ (λ i. omega (arith, c .before .before .before .shared-slice-known .given i)) (c .before .loop-test .taken) (c .u32-at .ensures .0)
-
 loop-holds : tie.Need-loop-holds Inv-loop μ-loop
 loop-holds c = (search needs, search needs, ap hashText (sym (chars-start _ _ _)))
 
 loop-again : tie.Need-loop-again Inv-loop μ-loop
 loop-again c =
-    let u = c .before in
-    (omega arith, c .pair-on .ensures .1, u .before .before .loop .inv .2 ∙ chars-pair (word u) _ _ (c .pair-on .ensures .0))
+    let w = c .before in
+    let v = w .before in
+    let l = v .before .loop-test .taken in
+    let q = first-two _ _ _ _ _ (λ i. omega (arith, v .before .before .before .shared-slice-known .given i)) l (v .u32-at .ensures .0) in
+    let r = next-two _ _ _ _ _ (λ i. omega (arith, v .before .before .before .shared-slice-known .given i)) l (w .u32-at2 .ensures .0) in (
+      omega arith,
+      c .quad-on .ensures .1,
+      v .before .before .loop .inv .2 ∙ chars-pair q _ _ _ refl refl ∙ chars-pair r _ _ _ (omega arith) (c .quad-on .ensures .0),
+    )
 
 returns : tie.Need-returns Inv-loop μ-loop
-returns c = let i = c .before .before .loop .inv in (sym (i .2 ∙ hash-end _ _ (chars-over _ _ _ _ (c .if1 .taken))), i .1)
-
-returns-2 : tie.Need-returns-2 Inv-loop μ-loop
-returns-2 c =
-    let i = c .before .before .before .before .loop .inv in (
-      sym (i .2
-          ∙ hash-next _ _ _ _ _ (chars-next _ _ _ _ _ (c .before .before .if1 .left) (c .before .u16-at .ensures .0)) (c .char-on .ensures .0)
-          ∙ hash-end _ _ (chars-over _ _ _ _ (c .before .before .before .loop-test .left))),
-      c .char-on .ensures .1,
-    )
+returns c = (hash-rest _ _ _ _ _ _ _ (c .before .before .loop .inv .2) (c .hash-few .ensures .0), c .hash-few .ensures .1)
 
 pub hash-chars-spec : {M : Type 1} → statement M
 hash-chars-spec =
     tie.close
     (tie.spec Inv-loop μ-loop loop-holds (λ c. search needs) (λ c. search needs) (λ c. search needs) (λ c κs. search needs)
-    (λ c κs. search needs) (λ c. search needs) (λ c. search needs) loop-again returns (λ c. search needs) (λ c. search needs)
-    (λ c κs. search needs) (λ c κs. search needs) returns-2)
+    (λ c. search needs) (λ c. search needs) (λ c. search needs) (λ c κs. search needs) (λ c κs. search needs) (λ c. search needs)
+    (λ c. search needs) loop-again (λ c. search needs) (λ c. search needs) (λ c. search needs) (λ c κs. search needs) returns)

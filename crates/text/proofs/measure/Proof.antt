@@ -1,65 +1,90 @@
-use Prim.Native.Nat.{_-_}
+use Prim.Native.Nat.{_+_, _-_, _*_}
 use mathlib.Core.Path.{refl}
 use lib.Bits.{bitAnd}
-use Rattle.verdict.proofs.Laws.{tells-yes, tells-no}
-use Rattle.text.proofs.Walk.{text-over, Passed, passed-start, passed-next, measured, tells-lt, Two, two, two-shut, two-only, two-last, passed-pair, char-end, char-in, char-next}
+use Rattle.hash.proofs.Laws.{char-lt}
+use Rattle.text.proofs.Laws.{text-length-le}
+use Rattle.text.proofs.Passed.{Passed, passed-start, measured-rest}
+use Rattle.text.proofs.Words.{Two, first-two, next-two, measured-none, measured-one, passed-pair}
 use native.Mathlib.Omega.{arith}
 use borrow.Author.Needs.{needs}
 use Rattle.text.proofs.measure.Statement.{statement}
 use Rattle.text.proofs.measure.Tie as tie
 
 abbrev Inv-loop : tie.InvT-loop
-Inv-loop b t p n h₀ i₀ h i = Passed b p n i h
+Inv-loop b t p n h₀ i₀ h i = Passed b p n 0 i h
 
 abbrev μ-loop : tie.MeasureT-loop
 μ-loop b t p n h₀ i₀ h i = n - i
 
-word : (c : tie.After-u32-at Inv-loop μ-loop)
+first : (c : tie.After-u32-at Inv-loop μ-loop)
     → Two (c .before .before .before .before .args .b .now) (c .before .before .before .before .args .p) (c .before .before .before .before .args .n) (c .before .before .loop .i)
     (bitAnd (c .u32-at .result) 65535) (c .u32-at .result)
-word c =
-    two _ _ _ _ _ (λ i. omega (arith, c .before .before .before .shared-slice-known .given i)) (c .before .loop-test .taken) (c .u32-at .ensures .0)
+first c =
+    first-two _ _ _ _ _ (λ i. omega (arith, c .before .before .before .shared-slice-known .given i)) (c .before .loop-test .taken) (c .u32-at .ensures .0)
+
+next : (c : tie.After-u32-at2 Inv-loop μ-loop)
+    → let v = c .before .before .before in
+    let s = v .before .before .before .before .args in
+    Two (s .b .now) (s .p) (s .n) (v .before .before .loop .i + 2) (bitAnd (c .u32-at2 .result) 65535) (c .u32-at2 .result)
+next c =
+    let v = c .before .before .before in
+    next-two _ _ _ _ _ (λ i. omega (arith, v .before .before .before .shared-slice-known .given i)) (v .before .loop-test .taken) (c .u32-at2 .ensures .0)
 
 loop-holds : tie.Need-loop-holds Inv-loop μ-loop
-loop-holds c = passed-start _ _ _
+loop-holds c = passed-start _ _ _ _ (omega arith)
 
 returns : tie.Need-returns Inv-loop μ-loop
 returns c =
-    let u = c .before in measured _ _ _ _ _ _ (u .before .before .loop .inv) (two-shut (word u) (c .if1 .taken)) (tells-yes (omega arith))
+    let v = c .before .before in
+    measured-none (first v) (v .before .before .loop .inv) (c .before .if1 .taken) (c .ended .ensures)
 
 returns-2 : tie.Need-returns-2 Inv-loop μ-loop
 returns-2 c =
-    let u = c .before .before .before in
-    let q = word u in
-    measured _ _ _ _ _ _
-    (passed-next _ _ _ _ _ _ _ _ (u .before .before .loop .inv) refl (omega arith) (two-only q (c .before .before .if1 .left) (c .before .if2 .taken)) (c .char-on .ensures))
-    (two-last q (c .before .if2 .taken)) (tells-yes (u .before .loop-test .taken))
-
-loop-again : tie.Need-loop-again Inv-loop μ-loop
-loop-again c =
-    let u = c .before .before .before in
-    passed-pair (word u) _ _ (u .before .before .loop .inv) (c .before .before .if1 .left) (c .before .if2 .left) (c .pair-on .ensures)
+    let d = c .before .before in
+    let v = d .before .before in
+    measured-one (first v) (v .before .before .loop .inv) (d .before .if1 .left) (d .if2 .taken) (c .before .char-on .ensures) (c .ended2 .ensures)
 
 returns-3 : tie.Need-returns-3 Inv-loop μ-loop
 returns-3 c =
-    measured _ _ _ _ _ _ (c .before .before .before .loop .inv) (char-end _ _ _ _ _ (c .before .char-or-end .ensures) (c .if3 .taken)) (tells-lt _ _)
-
-char-on-requires-2 : tie.Need-char-on-requires-2 Inv-loop μ-loop
-char-on-requires-2 c κs = (c .before .before .before .before .before .pre .0, c .before .before .before .loop .inv .small, c .before .char-or-end .ensures .small)
+    let d = c .before .before in
+    let w = d .before in
+    let v = w .before .before .before in
+    let k = passed-pair (first v) _ (v .before .before .loop .inv) (w .before .before .if1 .left) (w .before .if2 .left) refl (c .before .pair-on .ensures) in
+    measured-none (next w) k (d .if3 .taken) (c .ended3 .ensures)
 
 returns-4 : tie.Need-returns-4 Inv-loop μ-loop
 returns-4 c =
-    let e = c .before .before in
-    let a = e .before in
-    let k = e .char-or-end .ensures in
-    let z = c .before .if3 .left in
-    measured _ _ _ _ _ _
-    (passed-next _ _ _ _ _ _ _ _ (a .before .loop .inv) refl (char-in _ _ _ _ _ k z) (char-next _ _ _ _ _ k z) (c .char-on2 .ensures))
-    (text-over _ _ _ _ (a .loop-test .left)) (tells-no (λ l. omega arith))
+    let d = c .before .before .before in
+    let w = d .before .before in
+    let v = w .before .before .before in
+    let k = passed-pair (first v) _ (v .before .before .loop .inv) (w .before .before .if1 .left) (w .before .if2 .left) refl (c .before .before .pair-on2 .ensures) in
+    let e = c .ended4 .ensures in
+    measured-one (next w) k (d .before .if3 .left) (d .if4 .taken) (c .before .char-on2 .ensures) (e .0, omega arith, e .2)
+
+loop-again : tie.Need-loop-again Inv-loop μ-loop
+loop-again c =
+    let d = c .before in
+    let w = d .before .before in
+    let v = w .before .before .before in
+    let i = v .before .before .loop .inv in
+    let k = passed-pair (first v) _ i (w .before .before .if1 .left) (w .before .if2 .left) refl (refl, char-lt _ _ (char-lt _ _ (i .small))) in
+    passed-pair (next w) _ k (d .before .if3 .left) (d .if4 .left) (omega arith) (c .quad-on .ensures)
+
+add-t21 : tie.Need-add-t21 Inv-loop μ-loop
+add-t21 c =
+    let s = c .before .before .before .before .before .args in
+    let i = c .before .before .before .loop .i in
+    record { fits = omega (arith, c .before .measure-few .ensures .long, text-length-le (s .b .now) (s .p + 2 * i) (s .n - i)) }
+
+returns-5 : tie.Need-returns-5 Inv-loop μ-loop
+returns-5 c = measured-rest _ _ _ _ _ _ _ _ (c .before .before .before .loop .inv) (c .before .measure-few .ensures) refl
 
 pub measure-spec : {M : Type 1} → statement M
 measure-spec =
     tie.close
-    (tie.spec Inv-loop μ-loop loop-holds (λ c. search needs) (λ c. search needs) (λ c. search needs) (λ c κs. search needs) returns
-    (λ c. search needs) (λ c κs. search needs) returns-2 (λ c κs. search needs) (λ c. search needs) (λ c. search needs) loop-again
-    (λ c κs. search needs) returns-3 (λ c. search needs) char-on-requires-2 returns-4)
+    (tie.spec Inv-loop μ-loop loop-holds (λ c. search needs) (λ c. search needs) (λ c. search needs) (λ c κs. search needs)
+    (λ c κs. search needs) returns (λ c. search needs) (λ c κs. search needs) (λ c κs. search needs) returns-2 (λ c. search needs)
+    (λ c. search needs) (λ c. search needs) (λ c κs. search needs) (λ c. search needs) (λ c κs. search needs) (λ c κs. search needs)
+    returns-3 (λ c. search needs) (λ c κs. search needs) (λ c κs. search needs) (λ c κs. search needs) returns-4
+    (λ c κs. search needs) (λ c. search needs) (λ c. search needs) loop-again (λ c. search needs) (λ c. search needs)
+    (λ c. search needs) (λ c κs. search needs) add-t21 returns-5)

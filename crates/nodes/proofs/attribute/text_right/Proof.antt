@@ -13,14 +13,17 @@ returns-2 c =
     let p = c .before .before .before .before .before .before .before .before .pre in
     text-nowhere _ _ _ _ (c .before .before .before .before .before .u16-at .ensures .0) (c .before .before .before .before .kind .ensures .0) (c .before .before .before .if1 .left) _ (p .2) (p .3) (c .before .before .spot-to .ensures) (c .enum-told .given .1)
 
-both-hashes-requires : tie.Need-both-hashes-requires
-both-hashes-requires c κs = let p = c .before .before .before .before .before .before .before .before .before .pre in (p .0, spot-fits _ _ _ _ (p .1 .laid .characters) (c .before .before .before .spot-to .ensures) (c .before .a .given .1))
+value-hash-requires : tie.Need-value-hash-requires
+value-hash-requires c κs = let p = c .before .before .before .before .before .before .before .before .before .before .pre in (p .0, spot-fits _ _ _ _ (p .1 .laid .characters) (c .before .before .before .before .spot-to .ensures) (c .before .before .a .given .1))
 
 returns-3 : tie.Need-returns-3
 returns-3 c =
-    let p = c .before .before .before .before .before .before .before .before .before .before .before .before .before .pre in
-    text-differs _ _ _ _ (c .before .before .before .before .before .before .before .before .before .before .u16-at .ensures .0) (c .before .before .before .before .before .before .before .before .before .kind .ensures .0) (c .before .before .before .before .before .before .before .before .if1 .left) _ (p .2) (p .3) (c .before .before .before .before .before .before .before .spot-to .ensures) (c .before .before .before .before .before .a .given .1) _ (c .before .before .before .both-hashes .ensures) _
-    (c .before .before .extended .ensures) (c .if2 .taken)
+    let p = c .before .before .before .before .before .before .before .before .before .before .before .before .pre in
+    text-differs _ _ _ _ (c .before .before .before .before .before .before .before .before .before .u16-at .ensures .0) (c .before .before .before .before .before .before .before .before .kind .ensures .0) (c .before .before .before .before .before .before .before .if1 .left) _ (p .2) (p .3) (c .before .before .before .before .before .before .spot-to .ensures) (c .before .before .before .before .a .given .1) _
+    (c .before .value-hash .ensures) _ (c .before .before .extended .ensures) (c .if2 .taken)
+
+measure-requires : tie.Need-measure-requires
+measure-requires c κs = let p = c .before .before .before .before .before .before .before .before .before .before .before .before .pre in (p .0, spot-fits _ _ _ _ (p .1 .laid .characters) (c .before .before .before .before .before .before .spot-to .ensures) (c .before .before .before .before .a .given .1))
 
 lower-requires : tie.Need-lower-requires
 lower-requires c κs = let p = c .before .before .before .before .before .before .before .before .before .before .before .before .before .before .pre in (p .1, c .bucket .ensures .1, clean-entries _ _ (p .2) (p .3))
@@ -31,12 +34,13 @@ run-has-requires c κs = let p = c .before .before .before .before .before .befo
 returns-4 : tie.Need-returns-4
 returns-4 c =
     let p = c .before .before .before .before .before .before .before .before .before .before .before .before .before .before .before .before .before .pre in
-    text-told _ _ _ _ (c .before .before .before .before .before .before .before .before .before .before .before .before .before .before .u16-at .ensures .0) (c .before .before .before .before .before .before .before .before .before .before .before .before .before .kind .ensures .0) (c .before .before .before .before .before .before .before .before .before .before .before .before .if1 .left) _ (p .2) (p .3) (c .before .before .before .before .before .before .before .before .before .before .before .spot-to .ensures) (c .before .before .before .before .before .before .before .before .before .a .given .1) _ (c .before .before .before .before .before .before .before .both-hashes .ensures) _
-    (c .before .before .before .before .before .before .extended .ensures) (λ i. omega (arith, c .before .before .before .before .before .before .before .before .before .before .before .before .before .before .before .before .shared-slice-known .given i)) refl (c .before .before .before .before .if2 .left) _ (c .before .before .before .bucket .ensures) _ (c .before .u32-at .ensures .0) (c .run-has .ensures)
+    text-told _ _ _ _ (c .before .before .before .before .before .before .before .before .before .before .before .before .before .before .u16-at .ensures .0) (c .before .before .before .before .before .before .before .before .before .before .before .before .before .kind .ensures .0) (c .before .before .before .before .before .before .before .before .before .before .before .before .if1 .left) _ (p .2) (p .3) (c .before .before .before .before .before .before .before .before .before .before .before .spot-to .ensures) (c .before .before .before .before .before .before .before .before .before .a .given .1) _
+    (c .before .before .before .before .before .before .value-hash .ensures) _ (c .before .before .before .before .before .before .before .extended .ensures) (λ i. omega (arith, c .before .before .before .before .before .before .before .before .before .before .before .before .before .before .before .before .shared-slice-known .given i)) refl (c .before .before .before .before .before .if2 .left) _ (c .before .before .before .before .measure .ensures .hashed) _
+    (c .before .before .before .bucket .ensures) _ (c .before .u32-at .ensures .0) (c .run-has .ensures)
 
 pub text-right-spec : {M : Type 1} → statement M
 text-right-spec =
     tie.close
     (tie.spec (λ c. search needs) (λ c κs. search needs) (λ c κs. search needs) returns (λ c. search needs) (λ c κs. search needs)
-    (λ c. search needs) (λ c. search needs) returns-2 both-hashes-requires (λ c κs. search needs) returns-3 (λ c κs. search needs)
+    (λ c. search needs) (λ c. search needs) returns-2 (λ c κs. search needs) value-hash-requires returns-3 measure-requires (λ c κs. search needs)
     lower-requires (λ c. search needs) (λ c κs. search needs) run-has-requires returns-4)

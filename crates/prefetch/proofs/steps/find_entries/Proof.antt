@@ -4,7 +4,8 @@ use Rattle.search.proofs.Groups.{low-read}
 use Rattle.strings.specs.Held.{heldTable}
 use Prim.Native.Nat.{_-_}
 use borrow.Author.Count.{below-none, below-more}
-use Rattle.prefetch.proofs.Rights.{found-at, unsure}
+use Rattle.verdict.proofs.Laws.{unsure}
+use Rattle.prefetch.proofs.Rights.{found-at}
 use borrow.Author.Tests.{not-false}
 use native.Mathlib.Omega.{arith}
 use borrow.Author.Needs.{needs}

@@ -1,6 +1,7 @@
-use Rattle.prefetch.specs.Batch.{AllSpots}
-use Rattle.prefetch.proofs.Rights.{unsure, spot-of}
-use Rattle.prefetch.proofs.Filling.{spots-none, spots-more, spots-upto}
+use Rattle.prefetch.specs.Batch.{AllSpots, AllFit}
+use Rattle.verdict.proofs.Laws.{unsure}
+use Rattle.prefetch.proofs.Rights.{spot-of, fits-of}
+use Rattle.prefetch.proofs.Filling.{spots-none, spots-more, spots-upto, fit-none, fit-more, fit-upto}
 use Rattle.nodes.proofs.Addresses.{spot-fits}
 use lib.ListN.{length, length-set}
 use mathlib.Core.Path.{_≡_}
@@ -11,7 +12,7 @@ use Rattle.prefetch.proofs.steps.find_spots.Statement.{statement}
 use Rattle.prefetch.proofs.steps.find_spots.Tie as tie
 
 abbrev Inv-loop : tie.InvT-loop
-Inv-loop b chars samples slots n at₀ left₀ j₀ at left j = (length at ≡ 64) × (length left ≡ 64) × AllSpots b (chars .at) slots j at left
+Inv-loop b chars samples slots n at₀ left₀ j₀ at left j = (length at ≡ 64) × (length left ≡ 64) × AllSpots b (chars .at) slots j at left × AllFit b j at left
 
 abbrev μ-loop : tie.MeasureT-loop
 μ-loop b chars samples slots n at₀ left₀ j₀ at left j = n - j
@@ -20,7 +21,7 @@ fits : (c : tie.After-known-told Inv-loop μ-loop) → c .before .a .given .0 .0
 fits c = spot-fits _ _ _ _ (c .before .before .before .before .before .before .before .before .before .pre .0 .laid) (c .before .before .before .spot-to .ensures) (c .before .a .given .1)
 
 loop-holds : tie.Need-loop-holds Inv-loop μ-loop
-loop-holds c = (c .before .pre .6, c .before .pre .7, spots-none)
+loop-holds c = (c .before .pre .6, c .before .pre .7, spots-none, fit-none)
 
 spot-to-requires : tie.Need-spot-to-requires Inv-loop μ-loop
 spot-to-requires c κs = let p = c .before .before .before .before .before .pre in (p .0, p .1, omega (arith, c .wide .ensures .0, p .4 _ (c .before .before .loop-test .taken)))
@@ -40,10 +41,11 @@ loop-again c =
       simp length-set (i .0),
       simp length-set (i .1),
       spots-more (i .0) (i .1) (omega (arith, c .before .before .before .before .before .before .loop-test .taken, c .before .before .before .before .before .before .before .before .before .pre .5)) (i .2) (c .before .before .before .before .wide .ensures .0) (spot-of (c .before .before .before .spot-to .ensures) (c .before .a .given .1)),
+      fit-more (i .0) (i .1) (omega (arith, c .before .before .before .before .before .before .loop-test .taken, c .before .before .before .before .before .before .before .before .before .pre .5)) (i .3) (fits-of _ (c .before .before .before .before .before .before .before .before .before .pre .0 .laid) (c .before .before .before .spot-to .ensures) (c .before .a .given .1)),
     )
 
 returns-2 : tie.Need-returns-2 Inv-loop μ-loop
-returns-2 c = let i = c .before .loop .inv in (λ z. spots-upto (c .loop-test .left) (i .2), (i .0, i .1))
+returns-2 c = let i = c .before .loop .inv in (λ z. (spots-upto (c .loop-test .left) (i .2), fit-upto (c .loop-test .left) (i .3)), (i .0, i .1))
 
 pub find-spots-spec : {M : Type 1} → statement M
 find-spots-spec =

@@ -1,4 +1,5 @@
 use mathlib.Core.Path.{_∙_}
+use native.Mathlib.Omega.{arith}
 use borrow.Author.Needs.{needs}
 use Rattle.strings.proofs.Glances.{unglanced, glanced}
 use Rattle.strings.proofs.Spots.{found, spotted, unspotted}
@@ -15,7 +16,7 @@ touch-requires c κs =
     let w =
     spotted _ _ _ _ (c .before .before .before .before .before .entry-at .ensures .0) (c .before .before .before .spot-to .ensures)
     (c .before .before .before .before .before .before .before .before .pre .0 .laid .characters) (c .before .a .given .1) in
-    (w .some, w .fits)
+    (omega (arith, w .past), w .some, w .fits)
 
 returns-2 : tie.Need-returns-2
 returns-2 c =

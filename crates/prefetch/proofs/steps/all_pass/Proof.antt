@@ -1,0 +1,43 @@
+use Rattle.verdict.specs.Checks.{Sure}
+use Rattle.verdict.proofs.Laws.{unsure}
+use Rattle.prefetch.specs.Batch.{AllHashed, AllBehind}
+use Rattle.prefetch.proofs.Filling.{fit-read, seen-read}
+use Rattle.prefetch.proofs.Rights.{passed-more}
+use Prim.Native.Nat.{_-_}
+use borrow.Author.Count.{below-none}
+use borrow.Author.Tests.{not-false}
+use native.Mathlib.Omega.{arith}
+use borrow.Author.Needs.{needs}
+use Rattle.prefetch.proofs.steps.all_pass.Statement.{statement}
+use Rattle.prefetch.proofs.steps.all_pass.Tie as tie
+
+abbrev Inv-loop : tie.InvT-loop
+Inv-loop b t slots n at left seen packed j₀ j = AllHashed b slots j at left × Sure (AllBehind b slots j at) packed
+
+abbrev μ-loop : tie.MeasureT-loop
+μ-loop b t slots n at left seen packed j₀ j = n - j
+
+loop-holds : tie.Need-loop-holds Inv-loop μ-loop
+loop-holds c = (below-none _, λ z. below-none _)
+
+passes-requires : tie.Need-passes-requires Inv-loop μ-loop
+passes-requires c κs =
+    let p = c .before .before .before .before .before .before .before .before .before .before .before .pre in
+    let l = c .before .before .before .before .before .before .before .before .loop-test .taken in
+    (p .0, omega (arith, c .before .before .before .before .before .before .wide .ensures .0, p .2 _ l), fit-read (p .5) _ l (c .before .before .before .before .wide2 .ensures .0) (c .before .before .wide3 .ensures .0), seen-read (p .6) _ l (c .before .before .before .before .wide2 .ensures .0) (c .wide4 .ensures .0))
+
+returns : tie.Need-returns Inv-loop μ-loop
+returns c = unsure
+
+loop-again : tie.Need-loop-again Inv-loop μ-loop
+loop-again c = let g = c .before .before .before .before .before .before .before .before .before .before .before .before .before .args in passed-more _ _ (g .slots .now) (g .at .now) (g .left .now) _ (c .before .before .before .before .before .before .before .before .wide .ensures .0) (c .before .before .before .before .before .before .wide2 .ensures .0) (c .before .before .before .before .wide3 .ensures .0) (c .before .before .before .before .before .before .before .before .before .before .before .loop .inv) (c .before .passes .ensures (not-false _ (c .if1 .left)))
+
+returns-2 : tie.Need-returns-2 Inv-loop μ-loop
+returns-2 c = let i = c .before .loop .inv in λ z. (λ k l. i .0 k (omega (arith, c .loop-test .left)), λ y k l. i .1 y k (omega (arith, c .loop-test .left)))
+
+pub all-pass-spec : {M : Type 1} → statement M
+all-pass-spec =
+    tie.close
+    (tie.spec Inv-loop μ-loop loop-holds (λ c. search needs) (λ c. search needs) (λ c κs. search needs) (λ c. search needs) (λ c. search needs)
+    (λ c κs. search needs) (λ c. search needs) (λ c. search needs) (λ c κs. search needs) (λ c. search needs) (λ c. search needs) (λ c κs. search needs)
+    passes-requires returns (λ c. search needs) (λ c. search needs) loop-again returns-2)

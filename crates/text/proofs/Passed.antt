@@ -1,0 +1,98 @@
+-- What the loops that hash hold: h is the hash, on from s, of the i characters passed. Assumes nothing.
+use Prim.Native.Nat.{ℕ, suc, _+_, _-_, _*_, _^_, _≤_, _<_}
+use native.Mathlib.Omega.{arith}
+use mathlib.Core.Path.{_≡_, ap, sym, _∙_}
+use mathlib.Core.List.{List, [], _∷_}
+use borrow.Author.Tests.{ltb-true, ltb-false}
+use lib.Dec.{ltb}
+use lib.ListN.{length}
+use Rattle.verdict.specs.Checks.{Tells}
+use Rattle.hash.specs.Hash.{hashChar, hashOn}
+use Rattle.hash.specs.Fold.{folded, foldText, valueHashOf}
+use Rattle.text.specs.declared.Extent.{Extent}
+use Rattle.text.specs.Text.{textIn}
+use Rattle.text.specs.Measure.{MeasuredOn}
+use Rattle.text.proofs.Laws.{ended-iff}
+use Rattle.text.proofs.Walk.{textFrom, text-start, text-rest, hash-end, hash-next}
+
+fold-end : (xs : List ℕ) → xs ≡ [] → foldText xs ≡ []
+unfolding foldText
+fold-end xs e = ap foldText e
+
+fold-next : (xs ys : List ℕ) (c d : ℕ) → xs ≡ c ∷ ys → d ≡ folded c → foldText xs ≡ d ∷ foldText ys
+unfolding foldText
+fold-next xs ys c d e q = ap foldText e ∙ ap (λ (x : ℕ). x ∷ foldText ys) (sym q)
+
+pub record Passed (b : List ℕ) (p n s i h : ℕ) : Type 0 where
+  pub inside : i ≤ n
+  pub small : h < 2 ^ 32
+  pub long : length (textIn b p n) ≡ i + length (textFrom b p n i)
+  pub hashed : hashOn s (textIn b p n) ≡ hashOn h (textFrom b p n i)
+
+-- the same of characters that are folded
+pub record PassedFolded (b : List ℕ) (p n s i h : ℕ) : Type 0 where
+  pub inside : i ≤ n
+  pub small : h < 2 ^ 32
+  pub hashed : hashOn s (foldText (textIn b p n)) ≡ hashOn h (foldText (textFrom b p n i))
+
+module _ (b : List ℕ) (p n s : ℕ) where
+  pub passed-start : s < 2 ^ 32 → Passed b p n s 0 s
+  passed-start l = record {
+    inside = omega arith;
+    small = l;
+    long = let e : length (textFrom b p n 0) ≡ length (textIn b p n) = ap length (text-start b p n) in omega arith;
+    hashed = ap (hashOn s) (sym (text-start b p n));
+  }
+
+  pub passed-next : (i j h c g : ℕ) → Passed b p n s i h → j ≡ i + 1 → i < n → textFrom b p n i ≡ c ∷ textFrom b p n j → (g ≡ hashChar h c) × (g < 2 ^ 32)
+      → Passed b p n s j g
+  passed-next i j h c g k d l t e =
+      let m : length (textFrom b p n i) ≡ suc (length (textFrom b p n j)) = ap length t in record {
+        inside = omega arith;
+        small = e .1;
+        long = omega arith;
+        hashed = k .hashed ∙ hash-next _ _ _ _ _ t (e .0);
+      }
+
+  pub folded-start : s < 2 ^ 32 → PassedFolded b p n s 0 s
+  folded-start l = record { inside = omega arith; small = l; hashed = ap (λ (t : List ℕ). hashOn s (foldText t)) (sym (text-start b p n)) }
+
+  pub folded-next : (i j h c d g : ℕ) → PassedFolded b p n s i h → j ≡ i + 1 → i < n → textFrom b p n i ≡ c ∷ textFrom b p n j → d ≡ folded c
+      → (g ≡ hashChar h d) × (g < 2 ^ 32) → PassedFolded b p n s j g
+  folded-next i j h c d g k a l t f e = record { inside = omega arith; small = e .1; hashed = k .hashed ∙ hash-next _ _ _ _ _ (fold-next _ _ _ _ t f) (e .0) }
+
+  -- no text is left: it is measured, and a 0 ends it where characters are left
+  pub measured : (i h : ℕ) (r : Extent) → Passed b p n s i h → textFrom b p n i ≡ [] → Tells (i < n) (r .ended) → (r .length ≡ i) × (r .hash ≡ h)
+      → MeasuredOn b p n s r
+  measured i h r k t w e =
+      let m : length (textFrom b p n i) ≡ 0 = ap length t in record {
+        ended = record { so = λ q. let l = w .so q in ended-iff b p n .1 (omega arith); not = λ q f. w .not q (omega (arith, ended-iff b p n .0 f)) };
+        long = omega arith;
+        hashed = e .1 ∙ sym (k .hashed ∙ hash-end _ _ t);
+      }
+
+  pub value-hashed : (i h r : ℕ) → PassedFolded b p n s i h → textFrom b p n i ≡ [] → r ≡ valueHashOf h → r ≡ valueHashOf (hashOn s (foldText (textIn b p n)))
+  value-hashed i h r k t e = e ∙ ap valueHashOf (sym (k .hashed ∙ hash-end _ _ (fold-end _ t)))
+
+  -- what is left is measured from there on
+  pub measured-rest : (i h : ℕ) (r q : Extent) → Passed b p n s i h → MeasuredOn b (p + 2 * i) (n - i) h r
+      → q ≡ record { ended = r .ended; length = i + r .length; hash = r .hash } → MeasuredOn b p n s q
+  measured-rest i h r q k m e =
+      let x : length (textIn b (p + 2 * i) (n - i)) ≡ length (textFrom b p n i) = ap length (text-rest b p n i) in
+      let u = k .inside in
+      rw e (record {
+        ended = record {
+          so = λ q. let l = ended-iff b (p + 2 * i) (n - i) .0 (m .ended .so q) in ended-iff b p n .1 (omega (arith, k .long));
+          not = λ q f. let l = ended-iff b p n .0 f in m .ended .not q (ended-iff b (p + 2 * i) (n - i) .1 (omega (arith, k .long)));
+        };
+        long = omega (arith, k .long, m .long);
+        hashed = m .hashed ∙ ap (hashOn h) (text-rest b p n i) ∙ sym (k .hashed);
+      })
+
+  pub value-rest : (i h r : ℕ) → PassedFolded b p n s i h → r ≡ valueHashOf (hashOn h (foldText (textIn b (p + 2 * i) (n - i))))
+      → r ≡ valueHashOf (hashOn s (foldText (textIn b p n)))
+  value-rest i h r k e = e ∙ ap valueHashOf (ap (λ (t : List ℕ). hashOn h (foldText t)) (text-rest b p n i) ∙ sym (k .hashed))
+
+-- a test tells what it asks
+pub tells-lt : (i n : ℕ) → Tells (i < n) (ltb i n)
+tells-lt i n = record { so = ltb-true i n; not = λ q l. let m = ltb-false i n q in omega arith }
