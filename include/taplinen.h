@@ -2,7 +2,8 @@
  * buffers it is lent, and to answer as below for any bytes and any lengths: callers check nothing first.
  *
  * Who owns what. The caller owns every buffer. Nothing is kept after a call, nothing is allocated. A buffer of length 0 may be a
- * null pointer. The buffers of one call must not overlap, and nobody may change them while the call runs.
+ * null pointer. The buffers of one call must not overlap, and nobody may change them while the call runs. A call takes about 140 KB
+ * of its thread's stack, whatever the file; calls are tested in threads of 256 KB.
  *
  * The workspace. Every question first accepts the file, and needs a workspace of a byte for each used node of it. Ask
  * taplinen_accept with any workspace, an empty one too: where only the workspace is too short the refusal is 20, and its value is

@@ -24,7 +24,7 @@ const SIZES: [usize; 3] = [8, 64, 256];
 const NAMES: usize = 8_000_000;
 const VALUES: usize = 4_000_000;
 const ACCEPT_ROUNDS: usize = 9;
-const LOOKUP_ROUNDS: usize = 4;
+const LOOKUP_ROUNDS: usize = 8;
 
 /// One loader's numbers on one file.
 struct Numbers {
