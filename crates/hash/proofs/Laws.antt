@@ -40,10 +40,6 @@ pub fold-fold : (c : ℕ) → folded (folded c) ≡ folded c
 unfolding folded loses
 fold-fold c = fold-ways (λ (r : ℕ). folded r ≡ r) c (λ e. refl) (λ e. refl) (λ e. refl) (lost-stays c) (λ e. e)
 
-pub foldText-nil : foldText [] ≡ []
-unfolding foldText
-foldText-nil = refl
-
 pub foldText-append : (xs ys : List ℕ) → foldText (xs ++ ys) ≡ foldText xs ++ foldText ys
 unfolding foldText
 foldText-append [] ys = refl

@@ -1,7 +1,5 @@
 -- What the code finds out on the way to 19 and 23.
 use Prim.Native.Nat.{ℕ, _+_, _*_, _≤_, _<_}
-use mathlib.Core.Path.{_≡_}
-use mathlib.Core.Bool.{Bool, true}
 use mathlib.Core.List.{List}
 use Rattle.layout.specs.Layout.{nodeSize}
 use Rattle.nodes.specs.Node.{nodeName, Live}

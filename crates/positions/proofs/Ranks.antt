@@ -16,7 +16,7 @@ use Rattle.region.specs.Samples.{Mapped}
 use Rattle.region.specs.declared.Region.{Region}
 use Rattle.region.proofs.Samples.{used-at}
 use Rattle.text.specs.Zeros.{zerosIn}
-use Rattle.layout.specs.Table.{Table, entries, segmentOf, elementOf}
+use Rattle.layout.specs.Table.{Table, segmentOf, elementOf}
 use Rattle.strings.specs.Begins.{begins, AllBegun}
 use Rattle.strings.specs.Order.{allEntryChecks}
 use Rattle.strings.proofs.Accepted.{all-good}

@@ -1,21 +1,18 @@
 -- Laws of specs/Begins.antt: what the code reads to tell that a text can begin. Assumes nothing.
-use Prim.Native.Nat.{ℕ, zero, suc, _+_, _-_, _*_, _%_, _<_, _≤_}
+use Prim.Native.Nat.{ℕ, zero, suc, _+_, _-_, _%_, _<_, _≤_}
 use native.Mathlib.Omega.{arith}
-use mathlib.Core.Path.{_≡_, refl, ap, sym, subst, _∙_}
+use mathlib.Core.Path.{_≡_, refl, ap, sym, _∙_}
 use mathlib.Core.Bool.{Bool, true}
 use mathlib.Core.List.{List}
-use borrow.Author.Count.{below-none, below-more}
+use borrow.Author.Count.{below-more}
 use borrow.Author.Tests.{eq-eqb}
-use Rattle.verdict.specs.Checks.{Sure}
 use Rattle.verdict.proofs.Laws.{Clean}
 use Rattle.le.specs.Le.{u16At}
 use Rattle.region.specs.Region.{placeOf}
 use Rattle.layout.specs.Table.{Table, entries, elementOf}
-use Rattle.strings.specs.Texts.{spotAt}
 use Rattle.strings.specs.Begins.{begins, Begun, AllBegun}
 use Rattle.strings.specs.Ahead.{Glanced}
 use Rattle.strings.specs.Order.{entryChecks}
-use Rattle.strings.specs.declared.spot.Spot.the-variants.{At}
 use Rattle.strings.proofs.Spots.{spot-in}
 use Rattle.strings.proofs.Accepted.{entry-good}
 

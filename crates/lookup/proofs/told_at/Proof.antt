@@ -1,4 +1,3 @@
-use mathlib.Core.Path.{_∙_}
 use Rattle.lookup.proofs.Told.{tells-name, tells-value}
 use native.Mathlib.Omega.{arith}
 use borrow.Author.Needs.{needs}

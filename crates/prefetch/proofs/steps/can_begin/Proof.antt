@@ -1,4 +1,4 @@
-use mathlib.Core.Bool.{false, true, false≢true}
+use mathlib.Core.Bool.{false≢true}
 use mathlib.Core.Path.{sym, _∙_}
 use mathlib.Core.Logic.{inl, inr}
 use borrow.Author.Tests.{not-true, eqb-true}

@@ -1,4 +1,4 @@
-use Prim.Native.Nat.{_-_, _≤_}
+use Prim.Native.Nat.{_-_}
 use mathlib.Core.Logic.{⊎-elim}
 use Rattle.strings.specs.Held.{heldTable}
 use Rattle.strings.proofs.Places.{here-in, hash-at}
