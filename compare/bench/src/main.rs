@@ -1,6 +1,6 @@
 //! The benchmark: both loaders on made files of 8, 64 and 256 MB, whose texts
-//! stand in the order of their first use, as builders write them; and acceptance
-//! once more on files whose texts are strewn.
+//! stand in the order of their first use, as builders write them; then the cost
+//! of a byte as files grow, on such files and on files whose texts are strewn.
 //!
 //! Before each measurement the workspace is zeroed and every page of the file
 //! has been touched; the best of several rounds counts, in processor time of the
@@ -9,6 +9,7 @@
 //! a held view.
 
 mod clock;
+mod growth;
 mod memory;
 mod subject;
 
@@ -167,7 +168,6 @@ fn main() {
     let sizes: Vec<usize> = SIZES.into_iter().filter(|&size| size <= most).collect();
     let subjects = subjects();
     println!("workspace zeroed, file pages touched; times as multiples of the first line's");
-    let mut costs: Vec<Vec<f64>> = vec![Vec::new(); subjects.len()];
     let mut reads = Vec::new();
     for &size in &sizes {
         let file = large(size, Order::AsUsed);
@@ -180,31 +180,19 @@ fn main() {
         );
         let all = measure(&subjects, &file);
         reads.push(memory::random_read(&file.bytes));
-        for (i, (subject, numbers)) in subjects.iter().zip(&all).enumerate() {
+        for (subject, numbers) in subjects.iter().zip(&all) {
             print(subject.title(), &file, numbers, &all[0]);
-            costs[i].push(numbers.accept * 1e9 / file.bytes.len() as f64);
         }
     }
-    let mut strewn: Vec<Vec<f64>> = vec![Vec::new(); subjects.len()];
-    for &size in &sizes {
-        let file = large(size, Order::Strewn);
-        for (costs, seconds) in strewn.iter_mut().zip(accept(&subjects, &file)) {
-            costs.push(seconds * 1e9 / file.bytes.len() as f64);
-        }
-    }
-    for (title, costs) in [("in the order of their first use", costs), ("strewn", strewn)] {
-        println!("acceptance, ns a byte, as files grow, texts {title}:");
-        for (subject, costs) in subjects.iter().zip(costs) {
-            print_growth(subject.title(), &costs);
+    for (title, order) in
+        [("in the order of their first use", Order::AsUsed), ("strewn", Order::Strewn)]
+    {
+        println!("acceptance of as many bytes in larger files, ns a byte, texts {title}:");
+        let costs = growth::costs(&subjects, &sizes, order);
+        for (subject, costs) in subjects.iter().zip(&costs) {
+            growth::print(subject.title(), costs);
         }
     }
     println!("one read at random in such a file, ns, none waiting for another:");
-    print_growth("memory", &reads);
-}
-
-/// Costs on the files in order, and by how much the last is above the first.
-fn print_growth(title: &str, costs: &[f64]) {
-    let growth = costs.last().unwrap_or(&0.0) / costs.first().unwrap_or(&1.0);
-    let shown: Vec<String> = costs.iter().map(|cost| format!("{cost:.2}")).collect();
-    println!("  {title:18} {} (last over first {growth:.2})", shown.join(" "));
+    growth::print("memory", &reads);
 }

@@ -165,9 +165,13 @@ impl<T: Clone + Default> Packed<T> {
     }
 }
 
+/// A full segment keeps what no block fitted into; the last is no longer than
+/// what is used, so that files of all sizes are equally full.
 fn fill_up<T: Clone + Default>(region: &mut Region<T>) {
-    for segment in &mut region.segments {
-        segment.slack.resize(FULL - segment.used.len(), T::default());
+    if let Some((_, full)) = region.segments.split_last_mut() {
+        for segment in full {
+            segment.slack.resize(FULL - segment.used.len(), T::default());
+        }
     }
 }
 
