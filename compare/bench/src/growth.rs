@@ -9,23 +9,26 @@
 
 use maker::large::{large, Order};
 
+use crate::pages::{Pages, Size};
 use crate::subject::Subject;
 
 const ROUNDS: usize = 9;
 
 /// Equal files, one after the other.
 struct Set {
-    bytes: Vec<u8>,
+    bytes: Pages,
     length: usize,
     nodes: usize,
 }
 
 impl Set {
     /// As many files of this size as go into so many megabytes.
-    fn new(size: usize, most: usize, order: Order) -> Set {
+    fn new(size: usize, most: usize, order: Order, pages: Size) -> Set {
         let file = large(size, order);
-        let bytes = file.bytes.repeat((most / size).max(1));
-        Set { bytes, length: file.bytes.len(), nodes: file.nodes }
+        let length = file.bytes.len();
+        let mut bytes = Pages::new(length * (most / size).max(1), pages);
+        bytes.chunks_mut(length).for_each(|place| place.copy_from_slice(&file.bytes));
+        Set { bytes, length, nodes: file.nodes }
     }
 
     /// Nanoseconds a byte over all files.
@@ -41,9 +44,14 @@ impl Set {
 }
 
 /// The cost of a byte for each loader, on each size.
-pub fn costs(subjects: &[Box<dyn Subject>], sizes: &[usize], order: Order) -> Vec<Vec<f64>> {
+pub fn costs(
+    subjects: &[Box<dyn Subject>],
+    sizes: &[usize],
+    order: Order,
+    pages: Size,
+) -> Vec<Vec<f64>> {
     let most = sizes.iter().copied().max().unwrap_or(1);
-    let sets: Vec<Set> = sizes.iter().map(|&size| Set::new(size, most, order)).collect();
+    let sets: Vec<Set> = sizes.iter().map(|&size| Set::new(size, most, order, pages)).collect();
     let mut best = vec![vec![f64::MAX; sets.len()]; subjects.len()];
     for _ in 0..ROUNDS {
         for (i, set) in sets.iter().enumerate() {

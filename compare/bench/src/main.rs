@@ -11,6 +11,7 @@
 mod clock;
 mod growth;
 mod memory;
+mod pages;
 mod subject;
 
 use maker::large::{large, Large, Order};
@@ -18,6 +19,7 @@ use maker::rng::Rng;
 use maker::text::{to_bytes, Text};
 use second::{Marked, Plain, Right, Which};
 
+use pages::Size;
 use subject::{Batch, Exported, Held, Subject};
 
 const SIZES: [usize; 3] = [8, 64, 256];
@@ -184,11 +186,14 @@ fn main() {
             print(subject.title(), &file, numbers, &all[0]);
         }
     }
-    for (title, order) in
-        [("in the order of their first use", Order::AsUsed), ("strewn", Order::Strewn)]
-    {
-        println!("acceptance of as many bytes in larger files, ns a byte, texts {title}:");
-        let costs = growth::costs(&subjects, &sizes, order);
+    let cases = [
+        ("texts in the order of their first use", Order::AsUsed, Size::Small),
+        ("the same in huge pages", Order::AsUsed, Size::Huge),
+        ("texts strewn", Order::Strewn, Size::Small),
+    ];
+    for (title, order, pages) in cases {
+        println!("acceptance of as many bytes in larger files, ns a byte, {title}:");
+        let costs = growth::costs(&subjects, &sizes, order, pages);
         for (subject, costs) in subjects.iter().zip(&costs) {
             growth::print(subject.title(), costs);
         }
