@@ -29,17 +29,12 @@ fn typed(b: &[u8], q: usize) -> bool
 {
     let word = le::u16_at(b, q + 2);
     let kind = words::kind(word);
-    if kind == 3 {
-        return true;
-    }
-    if kind == 0 {
-        return false;
-    }
     let extended = words::extended(word);
-    if extended == 0 {
-        return true;
+    // A text, whose code 19 looks at, or code 0: types come and go too irregularly for a branch each.
+    if extended * (3 - kind) == 0 {
+        return kind >= 1;
     }
-    if kind == 2 {
+    if kind != 1 {
         return false;
     }
     if extended != 1 {
