@@ -2,7 +2,7 @@
 use Prim.Native.Nat.{ℕ, zero, suc, _+_, _-_, _%_, _<_, _≤_}
 use native.Mathlib.Omega.{arith}
 use mathlib.Core.Path.{_≡_, refl, ap, sym, _∙_}
-use mathlib.Core.Bool.{Bool, true}
+use mathlib.Core.Bool.{true}
 use mathlib.Core.List.{List}
 use borrow.Author.Count.{below-more}
 use borrow.Author.Tests.{eq-eqb}
@@ -30,15 +30,15 @@ module _ (b : List ℕ) (r seg : ℕ) where
   begins-behind (suc el) x e z = eq-eqb _ 0 (ap (u16At b) (omega arith) ∙ z)
 
 -- an entry that passed, by what was read ahead of it
-module _ (t : Table) (k j : ℕ) {p n c : ℕ} {x : Bool} (ok : Clean (entryChecks t k j)) (g : Glanced t k j p n c x) where
+module _ (t : Table) (k j : ℕ) {p n c : ℕ} (ok : Clean (entryChecks t k j)) (g : Glanced t k j p n c) where
   pub begun-first : (el : ℕ) → el ≡ elementOf t k j → el ≡ 0 → Begun t k j
   begun-first el e z = begins-first _ _ _ _ (sym e ∙ z)
 
   pub begun-behind : c % 65536 ≡ 0 → Begun t k j
   begun-behind w =
-      let z : n ≡ 0 → ⊥ = λ q. g .nowhere q (entry-good t k j ok .resolved) in
+      let z : n ≡ 0 → ⊥ = λ q. g .standing .nowhere q (entry-good t k j ok .resolved) in
       let h : 0 < n = omega (arith, z) in
-      begins-behind _ _ _ _ _ (spot-in _ _ _ _ (g .spot h) .1) (sym (g .before h) ∙ w)
+      begins-behind _ _ _ _ _ (spot-in _ _ _ _ (g .standing .spot h) .1) (sym (g .before h) ∙ w)
 
 -- the entries of the buckets before k, and those of bucket k before j
 abbrev pub BegunBefore : Table → ℕ → Type 0

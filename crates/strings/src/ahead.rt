@@ -1,76 +1,135 @@
-// Reading ahead. The entries of a bucket stand by hash, their texts and list positions anywhere, so that the processor would
-// wait for each in turn. Here 64 entries are glanced at together: none of these reads waits for another, and the texts are
-// near when they are checked.
+// Reading ahead. The entries of a bucket stand by hash, their texts anywhere, so that the processor would wait for each in turn. Here 64
+// entries are glanced at together: none of these reads waits for another, and the texts are near when they are checked.
 ghost use mathlib.Core.Path.{_≡_};
 ghost use Prim.Native.Nat.{ℕ, _+_, _-_, _*_, _%_, _≤_, _<_, _^_};
 ghost use lib.ListN.{length};
 ghost use Rattle.le.specs.Le.{u16At};
 ghost use Rattle.layout.specs.Table.{entries};
 ghost use Rattle.strings.specs.Held.{Held, heldTable, Here};
-ghost use Rattle.strings.specs.Ahead.{Glanced, ReadAhead, Ahead};
+ghost use Rattle.strings.specs.Ahead.{Standing, Seen, Stood, SeenBefore, ReadAhead, Ahead};
 use crate::Strings;
 use crate::entry;
 use crate::spot;
 use crate::spot::Spot;
 
-// The spot of an entry, what touch reads there, and whether the list has the entry's address at its index. Where the address
-// does not resolve, no characters are left.
+// The spot of an entry's text. Where its address does not resolve, no characters are left.
+pub struct Stretch {
+    pub at: usize,
+    pub left: usize,
+}
+
+// The same, and what touch_whole reads there.
 pub struct Glance {
     pub at: usize,
     pub left: usize,
     pub seen: usize,
-    pub listed: bool,
 }
 
-// The character before the n at p, plus 65,536 times the one 31 further on than the first, if there is one. That one has no meaning: it is
-// read only so that its part of a text is near, too.
+fn least(a: usize, b: usize) -> usize
+    ensures { λ r. ⌜ (r ≤ a) × (r ≤ b) × ((i : ℕ) → i < a → i < b → i < r) ⌝ }
+{
+    if a < b { a } else { b }
+}
+
+// The character before the n at p, plus 65,536 times the mean of two further on, where there are so many. The mean has no meaning: the
+// two are read only so that most of a text is near, however long it is.
 pub fn touch(b: &[u8], p: usize, n: usize) -> usize
     requires { ⌜ (2 ≤ p) × (0 < n) × (p + 2 * n ≤ length (now b)) ⌝ }
     ensures { λ r. ⌜ (r % 65536 ≡ u16At (now (b .entry)) (p - 2)) × (r < 2 ^ 32) ⌝ }
 {
     let before = le::u16_at(b, p - 2);
-    if n > 31 {
-        return before + 65536 * le::u16_at(b, p + 62);
+    if n > 47 {
+        return before + 65536 * ((le::u16_at(b, p + 62) + le::u16_at(b, p + 94)) / 2);
     }
     before
 }
 
-// A glance at entry j of bucket k.
-fn glance_at(
+// The character before the n at p, if there are any, plus 65,536 times a number without meaning: with the length of the text at hand its
+// end is read, and a middle where it is long.
+fn touch_whole(b: &[u8], p: usize, n: usize, length: usize) -> usize
+    requires { ⌜ (0 < n → 2 ≤ p) × (0 < n → p + 2 * n ≤ lib.ListN.length (now b)) ⌝ }
+    ensures { λ r. ⌜ Seen (now (b .entry)) p n r ⌝ }
+{
+    if n == 0 {
+        return 0;
+    }
+    let first = p - 2;
+    let all = least(length, n);
+    let most = least(all, 32);
+    le::u16_at(b, first)
+        + 65536 * (le::u16_at(b, first + 2 * all) + le::u16_at(b, first + 2 * most))
+}
+
+// Where the text of entry j of bucket k stands.
+fn stretch_at(
     b: &[u8],
     s: Strings,
     samples: &[u32; 1024],
     starts: &[u32],
     k: usize,
     j: usize,
-) -> Glance
+) -> Stretch
     requires { ⌜ Held (now b) s (now samples) (now starts) × Here (heldTable (now b) s (now starts)) k j ⌝ }
-    ensures { λ r. ⌜ Glanced (heldTable (now (b .entry)) s (now (starts .entry))) k j (r .at) (r .left) (r .seen) (r .listed) ⌝ }
+    ensures { λ r. ⌜ Standing (heldTable (now (b .entry)) s (now (starts .entry))) k j (r .at) (r .left) ⌝ }
 {
     let e = entry::entry_at(b, s, samples, starts, k, j);
-    let listed = entry::indexed(b, s, samples, starts, k, j);
     let a = spot::spot_to(b, s.chars, samples, e + 12);
     let Spot::At(p, n) = a else {
-        return Glance {
-            at: 0,
-            left: 0,
-            seen: 0,
-            listed,
-        };
+        return Stretch { at: 0, left: 0 };
     };
-    Glance {
-        at: p,
-        left: n,
-        seen: touch(b, p, n),
-        listed,
+    Stretch { at: p, left: n }
+}
+
+// Where the texts of m entries of bucket k from j on stand.
+fn find_stretches(
+    b: &[u8],
+    s: Strings,
+    samples: &[u32; 1024],
+    starts: &[u32],
+    k: usize,
+    j: usize,
+    m: usize,
+    at: &mut [usize; 64],
+    left: &mut [usize; 64],
+)
+    requires { ⌜ Held (now b) s (now samples) (now starts) × (k < length (now starts))
+        × (j + m ≤ entries (heldTable (now b) s (now starts)) k) × (m ≤ 64) × (length (now at) ≡ 64) × (length (now left) ≡ 64) ⌝ }
+    ensures { λ _. ⌜ Stood (heldTable (now (b .entry)) s (now (starts .entry))) k j m (now (at .exit)) (now (left .exit)) ⌝ }
+{
+    let mut i = 0;
+    while i < m {
+        let w = stretch_at(b, s, samples, starts, k, j + i);
+        at[i] = w.at;
+        left[i] = w.left;
+        i += 1;
     }
 }
 
-// How many entries are glanced at, of those that are left.
-fn at_most_64(left: usize) -> usize
-    ensures { λ r. ⌜ (r ≤ left) × (r ≤ 64) × ((i : ℕ) → i < left → i < 64 → i < r) ⌝ }
+// What touch_whole reads of them. This is where the memory is waited for, so little else is done here: the fewer the instructions between
+// two reads, the more of them the processor has under way.
+fn see(
+    b: &[u8],
+    s: Strings,
+    samples: &[u32; 1024],
+    starts: &[u32],
+    k: usize,
+    j: usize,
+    m: usize,
+    at: &[usize; 64],
+    left: &[usize; 64],
+    seen: &mut [usize; 64],
+)
+    requires { ⌜ Held (now b) s (now samples) (now starts) × (k < length (now starts))
+        × (j + m ≤ entries (heldTable (now b) s (now starts)) k) × (m ≤ 64) × (length (now seen) ≡ 64)
+        × Stood (heldTable (now b) s (now starts)) k j m (now at) (now left) ⌝ }
+    ensures { λ _. ⌜ SeenBefore (now (b .entry)) m (now (at .entry)) (now (left .entry)) (now (seen .exit)) ⌝ }
 {
-    if left < 64 { left } else { 64 }
+    let mut i = 0;
+    while i < m {
+        let e = entry::entry_at(b, s, samples, starts, k, j + i);
+        seen[i] = touch_whole(b, at[i], left[i], le::u32_at(b, e + 4));
+        i += 1;
+    }
 }
 
 // Sees to it that entry j of bucket k, which has n, was glanced at: at each multiple of 64 it and the 63 behind it are, as far as there are
@@ -86,24 +145,16 @@ pub fn keep_ahead(
     at: &mut [usize; 64],
     left: &mut [usize; 64],
     seen: &mut [usize; 64],
-    listed: &mut [bool; 64],
 )
     requires { ⌜ Held (now b) s (now samples) (now starts) × (k < length (now starts))
         × (n ≡ entries (heldTable (now b) s (now starts)) k) × (j ≤ n)
-        × Ahead (heldTable (now b) s (now starts)) k j (now at) (now left) (now seen) (now listed) ⌝ }
-    ensures { λ _. ⌜ ReadAhead (heldTable (now (b .entry)) s (now (starts .entry))) k (j - j % 64) (now (at .exit)) (now (left .exit)) (now (seen .exit)) (now (listed .exit)) ⌝ }
+        × Ahead (heldTable (now b) s (now starts)) k j (now at) (now left) (now seen) ⌝ }
+    ensures { λ _. ⌜ ReadAhead (heldTable (now (b .entry)) s (now (starts .entry))) k (j - j % 64) (now (at .exit)) (now (left .exit)) (now (seen .exit)) ⌝ }
 {
     if j % 64 != 0 {
         return;
     }
-    let m = at_most_64(n - j);
-    let mut i = 0;
-    while i < m {
-        let g = glance_at(b, s, samples, starts, k, j + i);
-        at[i] = g.at;
-        left[i] = g.left;
-        seen[i] = g.seen;
-        listed[i] = g.listed;
-        i += 1;
-    }
+    let m = least(n - j, 64);
+    find_stretches(b, s, samples, starts, k, j, m, at, left);
+    see(b, s, samples, starts, k, j, m, at, left, seen);
 }

@@ -2,7 +2,7 @@
 ghost use mathlib.Core.Path.{_≡_};
 ghost use Prim.Native.Nat.{ℕ, _+_, _*_, _≤_, _<_};
 ghost use lib.ListN.{length};
-ghost use Rattle.verdict.specs.Checks.{Tells, firstFault};
+ghost use Rattle.verdict.specs.Checks.{Tells, Sure, firstFault};
 ghost use Rattle.verdict.specs.declared.Verdict.the-variants.{Accepted};
 ghost use Rattle.hash.specs.Table.{Tables};
 ghost use Rattle.layout.specs.Table.{entryAt, entries};
@@ -168,7 +168,27 @@ fn check_order(
     Verdict::Accepted
 }
 
-// Refusals 7 to 12 of an entry that was glanced at, where those before it in the bucket passed.
+// Whether refusal 11 is not due, where that may be known already.
+fn index_passes(
+    b: &[u8],
+    s: Strings,
+    samples: &[u32; 1024],
+    starts: &[u32],
+    k: usize,
+    j: usize,
+    known: bool,
+) -> bool
+    requires { ⌜ Held (now b) s (now samples) (now starts) × Here (heldTable (now b) s (now starts)) k j
+        × Sure (Indexed (heldTable (now b) s (now starts)) k j) known ⌝ }
+    ensures { λ r. ⌜ Tells (Indexed (heldTable (now (b .entry)) s (now (starts .entry))) k j) r ⌝ }
+{
+    if known {
+        return true;
+    }
+    indexed(b, s, samples, starts, k, j)
+}
+
+// Refusals 7 to 12 of an entry that was glanced at, where those before it in the bucket passed; 11 may be known not to be due.
 pub fn check_entry(
     b: &[u8],
     t: &[u32; 2048],
@@ -178,10 +198,12 @@ pub fn check_entry(
     k: usize,
     j: usize,
     g: Glance,
+    listed: bool,
 ) -> Verdict
     requires { ⌜ Tables (now t) × Held (now b) s (now samples) (now starts) × Here (heldTable (now b) s (now starts)) k j
         × ((i : ℕ) → i < j → firstFault (entryChecks (heldTable (now b) s (now starts)) k i) ≡ Accepted)
-        × Glanced (heldTable (now b) s (now starts)) k j (g .at) (g .left) (g .seen) (g .listed) ⌝ }
+        × Glanced (heldTable (now b) s (now starts)) k j (g .at) (g .left) (g .seen)
+        × Sure (Indexed (heldTable (now b) s (now starts)) k j) listed ⌝ }
     ensures { λ r. ⌜ r ≡ firstFault (entryChecks (heldTable (now (b .entry)) s (now (starts .entry))) k j) ⌝ }
 {
     let e = entry_at(b, s, samples, starts, k, j);
@@ -198,5 +220,6 @@ pub fn check_entry(
     if le::u32_at(b, e) != m.hash {
         return Verdict::Refused(9, e);
     }
-    check_order(b, s, samples, starts, k, j, g.listed)
+    let right = index_passes(b, s, samples, starts, k, j, listed);
+    check_order(b, s, samples, starts, k, j, right)
 }

@@ -12,6 +12,7 @@ use crate::Strings;
 use crate::ahead;
 use crate::ahead::Glance;
 use crate::entry;
+use crate::listed;
 use verdict::Verdict;
 
 // What is found of the entries: the first fault, and whether their texts are known to stand where texts can begin.
@@ -33,7 +34,7 @@ fn still_begun(
 ) -> bool
     requires { ⌜ Held (now b) s (now samples) (now starts) × Here (heldTable (now b) s (now starts)) k j
         × (firstFault (entryChecks (heldTable (now b) s (now starts)) k j) ≡ Accepted)
-        × Glanced (heldTable (now b) s (now starts)) k j (g .at) (g .left) (g .seen) (g .listed) ⌝ }
+        × Glanced (heldTable (now b) s (now starts)) k j (g .at) (g .left) (g .seen) ⌝ }
     ensures { λ r. ⌜ Sure ((before ≡ true) × Begun (heldTable (now (b .entry)) s (now (starts .entry))) k j) r ⌝ }
 {
     if !before {
@@ -58,10 +59,10 @@ pub fn check_entries(
     ensures answer { λ r. ⌜ r .answer ≡ firstFault (allEntryChecks (heldTable (now (b .entry)) s (now (starts .entry)))) ⌝ }
     ensures begun { λ r. ⌜ Sure (AllBegun (heldTable (now (b .entry)) s (now (starts .entry)))) (r .begun) ⌝ }
 {
+    let right = listed::all_listed(b, s, samples, starts);
     let mut at = [0usize; 64];
     let mut left = [0usize; 64];
     let mut seen = [0usize; 64];
-    let mut listed = [false; 64];
     let mut fault = Verdict::Accepted;
     let mut begun = true;
     let mut k = 0;
@@ -80,16 +81,14 @@ pub fn check_entries(
                 &mut at,
                 &mut left,
                 &mut seen,
-                &mut listed,
             );
             let i = j % 64;
             let g = Glance {
                 at: at[i],
                 left: left[i],
                 seen: seen[i],
-                listed: listed[i],
             };
-            match entry::check_entry(b, t, s, samples, starts, k, j, g) {
+            match entry::check_entry(b, t, s, samples, starts, k, j, g, right) {
                 Verdict::Accepted => {}
                 Verdict::Refused(num, place) => {
                     fault = Verdict::Refused(num, place);

@@ -20,29 +20,29 @@ use Rattle.strings.proofs.table.check_entries.Statement.{statement}
 use Rattle.strings.proofs.table.check_entries.Tie as tie
 
 abbrev Inv-loop : tie.InvT-loop
-Inv-loop b t s samples starts at₀ left₀ seen₀ listed₀ fault₀ begun₀ k n j₀ at left seen listed fault begun j =
+Inv-loop b t s samples starts right at₀ left₀ seen₀ fault₀ begun₀ k n j₀ at left seen fault begun j =
     (j ≤ n) × (n ≡ entries (heldTable b s starts) k) × (fault ≡ Accepted) × (firstFault (allEntryChecks (heldTable b s starts)) ≡ entriesLeft (heldTable b s starts) k j)
-    × ((i : ℕ) → i < j → firstFault (entryChecks (heldTable b s starts) k i) ≡ Accepted) × Ahead (heldTable b s starts) k j at left seen listed
+    × ((i : ℕ) → i < j → firstFault (entryChecks (heldTable b s starts) k i) ≡ Accepted) × Ahead (heldTable b s starts) k j at left seen
     × Sure (BegunBefore (heldTable b s starts) k × ((i : ℕ) → i < j → Begun (heldTable b s starts) k i)) begun
 
 abbrev μ-loop : tie.MeasureT-loop
-μ-loop b t s samples starts at₀ left₀ seen₀ listed₀ fault₀ begun₀ k n j₀ at left seen listed fault begun j =
+μ-loop b t s samples starts right at₀ left₀ seen₀ fault₀ begun₀ k n j₀ at left seen fault begun j =
     n - j
 
 abbrev Inv-buckets : tie.InvT-buckets
-Inv-buckets b t s samples starts at₀ left₀ seen₀ listed₀ fault₀ begun₀ k₀ at left seen listed fault begun k =
+Inv-buckets b t s samples starts right at₀ left₀ seen₀ fault₀ begun₀ k₀ at left seen fault begun k =
     (k ≤ length starts) × (fault ≡ Accepted) × (firstFault (allEntryChecks (heldTable b s starts)) ≡ bucketsLeft (heldTable b s starts) k)
-    × Room at left seen listed × Sure (BegunBefore (heldTable b s starts) k) begun
+    × Room at left seen × Sure (BegunBefore (heldTable b s starts) k) begun
 
 abbrev μ-buckets : tie.MeasureT-buckets
-μ-buckets b t s samples starts at₀ left₀ seen₀ listed₀ fault₀ begun₀ k₀ at left seen listed fault begun k =
+μ-buckets b t s samples starts right at₀ left₀ seen₀ fault₀ begun₀ k₀ at left seen fault begun k =
     length starts - k
 
 buckets-holds : tie.Need-buckets-holds Inv-loop μ-loop Inv-buckets μ-buckets
-buckets-holds c = (search needs, refl, left-start _, record { at-long = refl; left-long = refl; seen-long = refl; listed-long = refl }, λ z. below-none _)
+buckets-holds c = (search needs, refl, left-start _, record { at-long = refl; left-long = refl; seen-long = refl }, λ z. below-none _)
 
 entry-count-requires : tie.Need-entry-count-requires Inv-loop μ-loop Inv-buckets μ-buckets
-entry-count-requires c κs = (c .before .before .before .before .pre .1, c .buckets-test .taken)
+entry-count-requires c κs = (c .before .before .before .before .before .pre .1, c .buckets-test .taken)
 
 loop-holds : tie.Need-loop-holds Inv-loop μ-loop Inv-buckets μ-buckets
 loop-holds c =
@@ -51,25 +51,27 @@ loop-holds c =
 
 keep-ahead-requires : tie.Need-keep-ahead-requires Inv-loop μ-loop Inv-buckets μ-buckets
 keep-ahead-requires c κs =
-    let l = c .before .before .before .before .before .loop .inv in
-    (c .before .before .before .before .before .before .before .before .before .before .before .pre .1, c .before .before .before .before .before .before .before .buckets-test .taken, l .1, l .0, l .5)
+    let l = c .before .before .before .before .loop .inv in
+    (c .before .before .before .before .before .before .before .before .before .before .before .pre .1, c .before .before .before .before .before .before .buckets-test .taken, l .1, l .0, l .5)
 
 check-entry-requires : tie.Need-check-entry-requires Inv-loop μ-loop Inv-buckets μ-buckets
 check-entry-requires c κs =
     let p = c .before .before .before .before .before .before .before .before .before .before .before .before .pre in
-    let l = c .before .before .before .before .before .before .loop .inv in
-    let h = c .before .before .before .before .before .loop-test .taken in
-    (p .0, p .1, here-in _ _ _ _ (c .before .before .before .before .before .before .before .before .buckets-test .taken) (l .1) h, l .4, near-at _ (c .keep-ahead .ensures) (omega (arith, l .1, h)))
+    let l = c .before .before .before .before .before .loop .inv in
+    let h = c .before .before .before .before .loop-test .taken in
+    let k = c .before .before .before .before .before .before .before .buckets-test .taken in
+    let e = here-in _ _ _ _ k (l .1) h in
+    (p .0, p .1, e, l .4, near-at _ (c .keep-ahead .ensures) (e .entry), λ z. c .before .before .before .before .before .before .before .before .before .all-listed .ensures z _ k _ (e .entry))
 
 still-begun-requires : tie.Need-still-begun-requires Inv-loop μ-loop Inv-buckets μ-buckets
 still-begun-requires c κs =
-    let l = c .before .before .before .before .before .before .before .before .before .loop .inv in
-    let h = c .before .before .before .before .before .before .before .before .loop-test .taken in
-    (c .before .before .before .before .before .before .before .before .before .before .before .before .before .before .before .pre .1, here-in _ _ _ _ (c .before .before .before .before .before .before .before .before .before .before .before .buckets-test .taken) (l .1) h, sym (c .before .before .check-entry .ensures) ∙ c .enum-told .given .1, near-at _ (c .before .before .before .keep-ahead .ensures) (omega (arith, l .1, h)))
+    let l = c .before .before .before .before .before .before .before .before .loop .inv in
+    let e = here-in _ _ _ _ (c .before .before .before .before .before .before .before .before .before .before .buckets-test .taken) (l .1) (c .before .before .before .before .before .before .before .loop-test .taken) in
+    (c .before .before .before .before .before .before .before .before .before .before .before .before .before .before .before .pre .1, e, sym (c .before .before .check-entry .ensures) ∙ c .enum-told .given .1, near-at _ (c .before .before .before .keep-ahead .ensures) (e .entry))
 
 loop-again : tie.Need-loop-again Inv-loop μ-loop Inv-buckets μ-buckets
 loop-again c =
-    let l = c .before .before .before .before .before .before .before .before .before .before .loop .inv in
+    let l = c .before .before .before .before .before .before .before .before .before .loop .inv in
     let e = sym (c .before .before .before .check-entry .ensures) ∙ c .before .enum-told .given .1 in (
       omega arith,
       l .1,
@@ -92,10 +94,13 @@ returns c =
 
 returns-2 : tie.Need-returns-2 Inv-loop μ-loop Inv-buckets μ-buckets
 returns-2 c =
-    let l = c .before .before .before .before .before .before .before .before .before .before .loop .inv in
+    let l = c .before .before .before .before .before .before .before .before .before .loop .inv in
     (sym (l .3 ∙ left-stop _ _ _ (omega (arith, l .1)) (sym (c .before .before .before .check-entry .ensures) ∙ c .before .num .given .1)), unsure)
 
 pub check-entries-spec : {M : Type 1} → statement M
 check-entries-spec =
     tie.close
-    (tie.spec Inv-loop μ-loop Inv-buckets μ-buckets buckets-holds entry-count-requires loop-holds keep-ahead-requires (λ c. search needs) (λ c. search needs) (λ c. search needs) (λ c. search needs) (λ c. search needs) (λ c. search needs) (λ c. search needs) check-entry-requires (λ c. search needs) (λ c. search needs) still-begun-requires (λ c. search needs) (λ c. search needs) loop-again (λ c. search needs) (λ c. search needs) buckets-again returns returns-2)
+    (tie.spec Inv-loop μ-loop Inv-buckets μ-buckets (λ c κs. search needs) buckets-holds entry-count-requires loop-holds keep-ahead-requires
+    (λ c. search needs) (λ c. search needs) (λ c. search needs) (λ c. search needs) (λ c. search needs) (λ c. search needs)
+    check-entry-requires (λ c. search needs) (λ c. search needs) still-begun-requires (λ c. search needs) (λ c. search needs) loop-again
+    (λ c. search needs) (λ c. search needs) buckets-again returns returns-2)

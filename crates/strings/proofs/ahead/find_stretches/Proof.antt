@@ -1,0 +1,42 @@
+use Prim.Native.Nat.{_-_, _≤_}
+use native.Mathlib.Omega.{arith}
+use borrow.Author.Needs.{needs}
+use Rattle.strings.specs.Held.{heldTable}
+use Rattle.strings.specs.Ahead.{Stood}
+use Rattle.strings.proofs.Glances.{stood-none, stood-more, stood-upto}
+use Rattle.strings.proofs.Places.{few-entries}
+use Rattle.strings.proofs.ahead.find_stretches.Statement.{statement}
+use Rattle.strings.proofs.ahead.find_stretches.Tie as tie
+
+abbrev Inv-loop : tie.InvT-loop
+Inv-loop b s samples starts k j m at₀ left₀ i₀ at left i = Stood (heldTable b s starts) k j i at left
+
+abbrev μ-loop : tie.MeasureT-loop
+μ-loop b s samples starts k j m at₀ left₀ i₀ at left i = m - i
+
+loop-holds : tie.Need-loop-holds Inv-loop μ-loop
+loop-holds c = stood-none (c .before .before .pre .4) (c .before .before .pre .5)
+
+add-stretch-at : tie.Need-add-stretch-at Inv-loop μ-loop
+add-stretch-at c =
+    let p = c .before .before .before .before .pre in
+    record { fits = omega (arith, few-entries _ _ _ _ (p .0) _ (p .1), p .2, c .loop-test .taken) }
+
+stretch-at-requires : tie.Need-stretch-at-requires Inv-loop μ-loop
+stretch-at-requires c κs =
+    let p = c .before .before .before .before .pre in
+    (p .0, record { bucket = p .1; entry = omega (arith, p .2, c .loop-test .taken) })
+
+loop-again : tie.Need-loop-again Inv-loop μ-loop
+loop-again c =
+    let p = c .before .before .before .before .before .pre in
+    stood-more (c .before .before .loop .inv) (omega (arith, p .3, c .before .loop-test .taken)) _ _ (c .stretch-at .ensures)
+
+returns : tie.Need-returns Inv-loop μ-loop
+returns c = stood-upto (c .before .loop .inv) (c .loop-test .left)
+
+pub find-stretches-spec : {M : Type 1} → statement M
+find-stretches-spec =
+    tie.close
+    (tie.spec Inv-loop μ-loop loop-holds add-stretch-at stretch-at-requires (λ c. search needs) (λ c. search needs) (λ c. search needs)
+    (λ c. search needs) (λ c. search needs) (λ c. search needs) loop-again returns)

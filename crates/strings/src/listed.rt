@@ -1,0 +1,40 @@
+// Refusal 11, first for all entries. An index leads anywhere in the address list, which is small beside the texts: in a pass of its own the
+// list stays near, where between texts it would be read from afar each time.
+ghost use Prim.Native.Nat.{_<_};
+ghost use lib.ListN.{length};
+ghost use Rattle.verdict.specs.Checks.{Sure};
+ghost use Rattle.strings.specs.Held.{Held, heldTable};
+ghost use Rattle.strings.specs.Ahead.{BucketIndexed, AllIndexed};
+use crate::Strings;
+use crate::entry;
+
+// Whether the indices of bucket k are right.
+fn bucket_listed(b: &[u8], s: Strings, samples: &[u32; 1024], starts: &[u32], k: usize) -> bool
+    requires { ⌜ Held (now b) s (now samples) (now starts) × (k < length (now starts)) ⌝ }
+    ensures { λ r. ⌜ Sure (BucketIndexed (heldTable (now (b .entry)) s (now (starts .entry))) k) r ⌝ }
+{
+    let n = entry::entry_count(b, s, samples, starts, k);
+    let mut j = 0;
+    while j < n {
+        if !entry::indexed(b, s, samples, starts, k, j) {
+            return false;
+        }
+        j += 1;
+    }
+    true
+}
+
+// Whether those of every bucket are. False tells only that some entry is at fault, and not which fault comes first.
+pub fn all_listed(b: &[u8], s: Strings, samples: &[u32; 1024], starts: &[u32]) -> bool
+    requires { ⌜ Held (now b) s (now samples) (now starts) ⌝ }
+    ensures { λ r. ⌜ Sure (AllIndexed (heldTable (now (b .entry)) s (now (starts .entry)))) r ⌝ }
+{
+    let mut k = 0;
+    while k < starts.len() {
+        if !bucket_listed(b, s, samples, starts, k) {
+            return false;
+        }
+        k += 1;
+    }
+    true
+}
