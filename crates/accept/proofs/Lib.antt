@@ -1,4 +1,5 @@
 pub mod Accepted
+pub mod Given
 pub mod Held
 pub mod Numbers
 pub mod Groups

@@ -1,4 +1,5 @@
 pub mod Verdict
 pub mod Rules
+pub mod Given
 pub mod Accepted
 pub mod Held

@@ -11,7 +11,6 @@ use lib.Dec.{eqb}
 use lib.ListN.{length}
 use Rattle.verdict.specs.Decide.{SomeBelow}
 use Rattle.tree.specs.Chain.{Tree, LiveIn, child, Chain, Before}
-use Rattle.tree.specs.Rules.{Deep}
 use Rattle.outline.specs.Lined.{leads, Rising}
 
 -- f j ++ f (j + 1) ++ .., n of them
@@ -23,24 +22,6 @@ row f j (suc n) = f j ++ row f (j + 1) n
 unfoldable pub chains : Tree → ℕ → ℕ → List (List ℕ)
 chains t zero a = [] ∷ []
 chains t (suc n) a = [] ∷ row (λ j. cond (eqb (t .name (child t a j)) 0) [] (map (_∷_ j) (chains t n (child t a j)))) 0 (t .count a)
-
--- ---- how long a chain is
-
--- a chain from a live child is one place longer from its parent
-pub deeper : (t : Tree) (n a j : ℕ) → j < t .count a → LiveIn t (child t a j) → Deep t n (child t a j) → Deep t (suc n) a
-unfolding Chain
-deeper t n a j l h d = (j ∷ d .0, d .1, ap suc (d .2), (l, (h, d .3)))
-
-pub none-deep : (t : Tree) (a : ℕ) → Deep t 0 a
-unfolding Chain
-none-deep t a = ([], a, refl, refl)
-
--- where no chain has more than n places, a chain has at most n
-pub no-longer : (t : Tree) (n a : ℕ) (ps : List ℕ) (e : ℕ) → (Deep t (suc n) a → ⊥) → Chain t ps a e → length ps ≤ n
-unfolding Chain
-no-longer t n a [] e f c = omega arith
-no-longer t zero a (j ∷ ps) e f c = absurd (f (deeper t 0 a j (c .0) (c .1 .0) (none-deep t (child t a j))))
-no-longer t (suc n) a (j ∷ ps) e f c = omega (arith, no-longer t n (child t a j) ps e (λ d. f (deeper t (suc n) a j (c .0) (c .1 .0) d)) (c .1 .1))
 
 -- ---- rows and maps
 

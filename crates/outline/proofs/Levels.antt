@@ -12,7 +12,7 @@ use Rattle.tree.specs.File.{nodeOf, treeOf}
 use Rattle.tree.specs.Rules.{Deep}
 use Rattle.accept.specs.Rules.{FileRules}
 use Rattle.outline.specs.Outline.{line, shown, block, outlineOf}
-use Rattle.outline.proofs.Chains.{none-deep, deeper}
+use Rattle.tree.proofs.Depths.{none-deep, deeper}
 
 -- where each of n elements adds the same, all of them do
 ranged-same : (f g : ℕ → List ℕ) (a n : ℕ) → ((j : ℕ) → j < n → f (a + j) ≡ g (a + j)) → ranged f a n ≡ ranged g a n

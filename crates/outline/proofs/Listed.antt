@@ -12,7 +12,8 @@ use Rattle.tree.specs.File.{nodeOf, treeOf}
 use Rattle.accept.specs.Rules.{FileRules}
 use Rattle.outline.specs.Outline.{line, shown, block, outlineOf}
 use Rattle.outline.specs.Lined.{leads, Lined}
-use Rattle.outline.proofs.Chains.{no-longer, row, chains, through, chain-leads, chains-sound, chains-complete, chains-rising}
+use Rattle.tree.proofs.Depths.{no-longer}
+use Rattle.outline.proofs.Chains.{row, chains, through, chain-leads, chains-sound, chains-complete, chains-rising}
 
 -- ---- laws of flatMap
 

@@ -13,7 +13,7 @@ use lib.ListN.{length, getD}
 use Rattle.keys.specs.Names.{nameCount, nameText, Bears}
 use Rattle.tree.specs.Chain.{Tree, LiveIn, child, Chain, ranged}
 use Rattle.tree.specs.File.{nodeOf, Used, treeOf}
-use Rattle.tree.specs.Rules.{Deep}
+use Rattle.tree.proofs.Depths.{no-longer}
 use Rattle.accept.specs.Rules.{FileRules}
 use Rattle.path.specs.Names.{namesOf}
 use Rattle.path.specs.Matches.{BearingChain}
@@ -30,15 +30,6 @@ ranged-same f g a (suc n) h =
     let z = add-zero a in
     let p : f a ≡ g a = ap f (sym z) ∙ h 0 (omega arith) ∙ ap g z in
     rw (p, ranged-same f g (a + 1) n (λ j l. let e : a + 1 + j ≡ a + suc j = omega arith in rw e (h (suc j) (omega arith))))
-
--- a chain has every shorter one in front of it
-chain-front : (t : Tree) (n : ℕ) (ps : List ℕ) (a e : ℕ) → n ≤ length ps → Chain t ps a e → Deep t n a
-unfolding Chain
-chain-front t zero ps a e h c = ([], a, refl, refl)
-chain-front t (suc n) [] a e h c = absurd (not-suc-le-zero h)
-chain-front t (suc n) (j ∷ ps) a e h c =
-    let r = chain-front t n ps (child t a j) e (omega arith) (c .1 .1) in
-    (j ∷ r .0, r .1, ap suc (r .2), (c .0, (c .1 .0, r .3)))
 
 -- a list that nothing is in
 empty : (l : List ℕ) → ((e : ℕ) → List·Memᴰ e l → ⊥) → l ≡ []
@@ -97,7 +88,7 @@ module _ (b : List ℕ) (r : FileRules b) where
         empty _ (λ e m.
         let s = sound (treeOf b) (nameText b) (namesOf path) 0 e m in
         let n = bearing-length (treeOf b) (nameText b) (namesOf path) (s .0) 0 e (s .1) in
-        r .depth (chain-front (treeOf b) 64 (s .0) 0 e (omega arith) (bearing-chain (treeOf b) (nameText b) (namesOf path) (s .0) 0 e (s .1))))
+        let d = no-longer (treeOf b) 63 0 (s .0) e (r .depth) (bearing-chain (treeOf b) (nameText b) (namesOf path) (s .0) 0 e (s .1)) in omega arith)
 
   module _ (one : (i k : ℕ) (x : List ℕ) → Bears b i x → Bears b k x → i ≡ k) where
     -- a child bears a name exactly when it has its index

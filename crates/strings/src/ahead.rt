@@ -44,17 +44,17 @@ pub fn touch(b: &[u8], p: usize, n: usize) -> usize
     before
 }
 
-// The character before the n at p, if there are any, plus 65,536 times a number without meaning: with the length of the text at hand its
-// end is read, and a middle where it is long.
-fn touch_whole(b: &[u8], p: usize, n: usize, length: usize) -> usize
-    requires { ⌜ (0 < n → 2 ≤ p) × (0 < n → p + 2 * n ≤ lib.ListN.length (now b)) ⌝ }
+// The character before the n at p, if there are any, plus 65,536 times a number without meaning: where a length is told for the text, its end is
+// read, and its middle if it is long.
+fn touch_whole(b: &[u8], p: usize, n: usize, told: usize) -> usize
+    requires { ⌜ (0 < n → 2 ≤ p) × (0 < n → p + 2 * n ≤ length (now b)) ⌝ }
     ensures { λ r. ⌜ Seen (now (b .entry)) p n r ⌝ }
 {
     if n == 0 {
         return 0;
     }
     let first = p - 2;
-    let all = least(length, n);
+    let all = least(told, n);
     let most = least(all, 32);
     le::u16_at(b, first)
         + 65536 * (le::u16_at(b, first + 2 * all) + le::u16_at(b, first + 2 * most))

@@ -1,4 +1,4 @@
--- Refusals 20 to 22 find nothing exactly when their rules hold, and then no node has two chains. Assumes nothing.
+-- Refusals 20 to 22 find nothing exactly when their rules hold. Assumes nothing.
 use Prim.Native.Nat.{ℕ, _/_, _%_}
 use native.Mathlib.Omega.{arith}
 use mathlib.Core.Path.{_≡_, _∙_}
@@ -9,14 +9,11 @@ use Rattle.verdict.specs.declared.Verdict.the-variants.{Accepted}
 use Rattle.verdict.proofs.Laws.{Clean, pass, clean-inv, append-inv, fault-append, fault-none, each-inv, each-clean}
 use Rattle.region.specs.Region.{Laid}
 use Rattle.layout.specs.Layout.{nodeSize, nodesAt}
-use Rattle.nodes.specs.Rules.{NodesRules}
-use Rattle.tree.specs.Chain.{Chain}
-use Rattle.tree.specs.File.{address, Used, treeOf}
+use Rattle.tree.specs.File.{address, Used}
 use Rattle.tree.specs.Rules.{RangeRule, TreeRules}
 use Rattle.tree.specs.Order.{roomChecks, rangeChecks, segmentRangeChecks, allRangeChecks, depthChecks}
 use Rattle.tree.specs.Outcome.{treeChecks}
 use Rattle.tree.proofs.Addresses.{address-of, used-of}
-use Rattle.tree.proofs.Unique.{one-chain, one-parent}
 
 module _ (b : List ℕ) (g : Laid nodeSize b (nodesAt b)) where
   pub ranges-inv : Clean (allRangeChecks b) → (a : ℕ) → Used b a → RangeRule b a
@@ -48,7 +45,3 @@ module _ (b : List ℕ) (g : Laid nodeSize b (nodesAt b)) where
 
     pub tree-iff : firstFault (treeChecks b bytes) ≡ Accepted ↔ TreeRules b bytes
     tree-iff = (accepted-tree, tree-accepted)
-
-    -- any two chains from the root that end at the same node are the same chain
-    pub file-chains : NodesRules b → TreeRules b bytes → (ps qs : List ℕ) (e : ℕ) → Chain (treeOf b) ps 0 e → Chain (treeOf b) qs 0 e → ps ≡ qs
-    file-chains n r = one-chain (treeOf b) (Used b) (one-parent b g n (r .ranges))

@@ -1,6 +1,7 @@
 pub mod Addresses
 pub mod Ranged
 pub mod Chains
+pub mod Depths
 pub mod Unique
 pub mod Children
 pub mod Deepest

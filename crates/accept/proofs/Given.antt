@@ -1,0 +1,77 @@
+-- An accepted file gives what specs/Given.antt says. Assumes nothing.
+use Prim.Native.Nat.{ℕ, _/_, _%_, _+_, _≤_, _<_}
+use native.Mathlib.Omega.{arith}
+use mathlib.Core.Path.{_≡_, ap, subst, _∙_}
+use mathlib.Core.Logic.{⊎-elim}
+use mathlib.Core.List.{List}
+use Rattle.verdict.specs.declared.Verdict.the-variants.{Accepted}
+use Rattle.region.proofs.Laws.{range-each}
+use Rattle.layout.specs.Table.{Table, count}
+use Rattle.layout.specs.Layout.{attributeSize, attributesAt, names, values}
+use Rattle.strings.specs.Rules.{TableRules, EntryAddress}
+use Rattle.strings.proofs.Accepted.{strings-iff}
+use Rattle.keys.specs.Names.{nameCount}
+use Rattle.keys.proofs.Only.{position-resolves}
+use Rattle.nodes.specs.Rules.{NodeRules}
+use Rattle.tree.specs.Chain.{child}
+use Rattle.tree.specs.File.{Used, nodeOf, treeOf}
+use Rattle.tree.proofs.Depths.{no-longer}
+use Rattle.tree.proofs.Unique.{one-chain, one-parent}
+use Rattle.accept.specs.Verdict.{verdictOf}
+use Rattle.accept.specs.Rules.{FileRules}
+use Rattle.accept.specs.Given.{Ends, ListedEnds, TableGiven, NodeGiven, TreeGiven, Given}
+use Rattle.accept.proofs.Accepted.{accepted-iff}
+
+module _ (t : Table) (r : TableRules t) where
+  table-given : TableGiven t
+  table-given = record {
+    entry = λ k j h l. let e = r .entry k j h l in record { resolves = e .resolved; ended = e .delimited .ended };
+    position = λ i l h. let p = position-resolves t (strings-iff t .1 r) i l h in record { resolves = p .0; ended = p .1 };
+  }
+
+  -- an address that an entry has
+  address-ends : (seg el : ℕ) → EntryAddress t seg el → Ends t seg el
+  address-ends seg el a =
+      rw (a .2 .2 .0, a .2 .2 .1) at (table-given .entry (a .0) (a .2 .0) (a .1) (a .2 .1))
+
+module _ (b : List ℕ) (r : FileRules b) where
+  -- a name index
+  name-ends : (i : ℕ) → 1 ≤ i → i ≤ nameCount b → ListedEnds (names b) i
+  unfolding nameCount
+  name-ends i l h = table-given (names b) (r .name-table) .position i l (omega arith)
+
+  node-given : (a : ℕ) → Used b a → NodeGiven b a
+  unfolding nodeOf
+  node-given a u =
+      let n = r .nodes .each (a / 65536) (a % 65536) u in
+      record {
+        name = λ l. name-ends _ (omega (arith, l)) (n .node .name);
+        attribute = λ i l. ⊎-elim (λ z. absurd (omega arith)) (λ h. range-each attributeSize b (attributesAt b) _ _ _ i h l) (n .attributes);
+        attribute-name = λ i l. let x = n .attribute i l in name-ends _ (x .low) (x .high);
+        text = λ i l z. address-ends (values b) (r .value-table) _ _ (n .text i l z .entry);
+      }
+
+  tree-given : TreeGiven b
+  tree-given =
+      let p = one-parent b (r .laid .nodes) (r .nodes) (r .range) in
+      record {
+        root = p .root;
+        child-used = p .within;
+        rootless = p .rootless;
+        one-range = λ a c j k h m l d q.
+            let e = p .one a c j k h m l d q in
+            let f = ap (treeOf b .first) e in
+            (e, omega (arith, q, f));
+        one-chain = one-chain (treeOf b) (Used b) p;
+        depth = λ ps e c. no-longer (treeOf b) 63 0 ps e (r .depth) c;
+      }
+
+pub accepted-gives : (b : List ℕ) (room : ℕ) → verdictOf b room ≡ Accepted → Given b
+accepted-gives b room e =
+    let r = accepted-iff b room .0 e .0 in
+    record {
+      value-table = table-given (values b) (r .value-table);
+      name-table = table-given (names b) (r .name-table);
+      node = node-given b r;
+      tree = tree-given b r;
+    }

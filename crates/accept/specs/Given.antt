@@ -1,0 +1,56 @@
+-- What acceptance gives to whoever holds the file: each address that an entry, a list, a node or an attribute names resolves, each text ends,
+-- and the used nodes form a tree.
+use Prim.Native.Nat.{ℕ, _+_, _≤_, _<_}
+use mathlib.Core.Path.{_≡_}
+use mathlib.Core.List.{List}
+use lib.ListN.{length}
+use Rattle.words.specs.Words.{typeOf}
+use Rattle.region.specs.Region.{Resolves}
+use Rattle.text.specs.Text.{EndedAt}
+use Rattle.layout.specs.Table.{Table, entries, segmentOf, elementOf, count, listedSegment, listedElement}
+use Rattle.layout.specs.Layout.{attributeSize, attributesAt, values, names}
+use Rattle.nodes.specs.Node.{nodeName, attributeSegment, attributeElement, attributeCount, attributeAt, Live}
+use Rattle.nodes.specs.Attribute.{attributeName, typeWord, textSegment, textElement}
+use Rattle.tree.specs.Chain.{child, Chain}
+use Rattle.tree.specs.File.{Used, nodeOf, treeOf}
+
+-- An address of a string table resolves, and its text ends.
+pub record Ends (t : Table) (seg el : ℕ) : Type 0 where
+  pub resolves : Resolves 2 (t .bytes) (t .at) seg el
+  pub ended : EndedAt (t .bytes) (t .at) seg el
+
+-- So does that of list position i.
+abbrev pub ListedEnds : Table → ℕ → Type 0
+ListedEnds t i = Ends t (listedSegment t i) (listedElement t i)
+
+-- Of a string table: those of every entry and of every list position do.
+pub record TableGiven (t : Table) : Type 0 where
+  pub entry : (k j : ℕ) → k < t .buckets → j < entries t k → Ends t (segmentOf t k j) (elementOf t k j)
+  pub position : (i : ℕ) → 1 ≤ i → i < count t → ListedEnds t i
+
+-- Of node a: its attributes are used ones; where it is live, its own name ends; so do the names of its attributes, and their texts.
+pub record NodeGiven (b : List ℕ) (a : ℕ) : Type 0 where
+  pub name : Live b (nodeOf b a) → ListedEnds (names b) (nodeName b (nodeOf b a))
+  pub attribute : (i : ℕ) → i < attributeCount b (nodeOf b a)
+      → Resolves attributeSize b (attributesAt b) (attributeSegment b (nodeOf b a)) (attributeElement b (nodeOf b a) + i)
+  pub attribute-name : (i : ℕ) → i < attributeCount b (nodeOf b a) → ListedEnds (names b) (attributeName b (attributeAt b (nodeOf b a) i))
+  pub text : (i : ℕ) → i < attributeCount b (nodeOf b a) → typeOf (typeWord b (attributeAt b (nodeOf b a) i)) ≡ 3
+      → Ends (values b) (textSegment b (attributeAt b (nodeOf b a) i)) (textElement b (attributeAt b (nodeOf b a) i))
+
+-- Of the tree: the root is a used node and in no child range; each element of a child range is a used node, and at one place of one range
+-- only; no node has two chains; and a chain has at most 64 nodes, so 63 places.
+pub record TreeGiven (b : List ℕ) : Type 0 where
+  pub root : Used b 0
+  pub child-used : (a j : ℕ) → Used b a → j < treeOf b .count a → Used b (child (treeOf b) a j)
+  pub rootless : (a j : ℕ) → Used b a → j < treeOf b .count a → child (treeOf b) a j ≡ 0 → ⊥
+  pub one-range : (a c j k : ℕ) → Used b a → Used b c → j < treeOf b .count a → k < treeOf b .count c
+      → child (treeOf b) a j ≡ child (treeOf b) c k → (a ≡ c) × (j ≡ k)
+  pub one-chain : (ps qs : List ℕ) (e : ℕ) → Chain (treeOf b) ps 0 e → Chain (treeOf b) qs 0 e → ps ≡ qs
+  pub depth : (ps : List ℕ) (e : ℕ) → Chain (treeOf b) ps 0 e → length ps ≤ 63
+
+-- All of it.
+pub record Given (b : List ℕ) : Type 0 where
+  pub value-table : TableGiven (values b)
+  pub name-table : TableGiven (names b)
+  pub node : (a : ℕ) → Used b a → NodeGiven b a
+  pub tree : TreeGiven b
