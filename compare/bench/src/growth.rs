@@ -12,7 +12,7 @@ use maker::large::{large, Order};
 use crate::pages::{Pages, Size};
 use crate::subject::Subject;
 
-const ROUNDS: usize = 9;
+const ROUNDS: usize = 15;
 
 /// Equal files, one after the other.
 struct Set {
