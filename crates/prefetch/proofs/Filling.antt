@@ -3,9 +3,9 @@ use Prim.Native.Nat.{ℕ, _+_, _-_, _%_, _≤_, _<_}
 use native.Mathlib.Omega.{arith}
 use mathlib.Core.Path.{_≡_, sym, _∙_}
 use mathlib.Core.List.{List}
-use borrow.Author.Count.{below-none, below-more}
+use borrow.Author.Count.{below-none}
 use lib.ListN.{length, getD, set, length-set}
-use lib.Seq.{getD-set-same, getD-set-other}
+use Rattle.strings.proofs.Filling.{fill, fill-both}
 use Rattle.prefetch.specs.Batch.{TextSpot, Fits, AllSpots, AllFit, AllSeen}
 use Rattle.le.specs.Le.{u16At}
 
@@ -16,9 +16,7 @@ pub spots-more : {b : List ℕ} {r : ℕ} {slots at left : List ℕ} {j q x m : 
     → q ≡ getD slots j 0 → TextSpot b r q x m → AllSpots b r slots (j + 1) (set at j x) (set left j m)
 spots-more {b} {r} {slots} {at} {left} {j} {q} {x} {m} e f l a g s = record {
   each =
-      below-more (λ (i : ℕ). TextSpot b r (getD slots i 0) (getD (set at j x) i 0) (getD (set left j m) i 0)) j
-      (λ i k. rw (getD-set-other at j i x 0 (omega arith), getD-set-other left j i m 0 (omega arith)) (a .each i k))
-      (rw (getD-set-same at j x 0 (omega (arith, e)), getD-set-same left j m 0 (omega (arith, f)), sym g) s);
+      fill-both (λ (i y z : ℕ). TextSpot b r (getD slots i 0) y z) at left j x m (omega (arith, e)) (omega (arith, f)) (a .each) (rw (sym g) s);
 }
 
 pub spots-upto : {b : List ℕ} {r n j : ℕ} {slots at left : List ℕ} → n ≤ j → AllSpots b r slots j at left → AllSpots b r slots n at left
@@ -30,10 +28,7 @@ fit-none = record { each = below-none _ }
 pub fit-more : {b at left : List ℕ} {j x m : ℕ} → length at ≡ 64 → length left ≡ 64 → j < 64 → AllFit b j at left → Fits b x m
     → AllFit b (j + 1) (set at j x) (set left j m)
 fit-more {b} {at} {left} {j} {x} {m} e f l a s = record {
-  each =
-      below-more (λ (i : ℕ). Fits b (getD (set at j x) i 0) (getD (set left j m) i 0)) j
-      (λ i k. rw (getD-set-other at j i x 0 (omega arith), getD-set-other left j i m 0 (omega arith)) (a .each i k))
-      (rw (getD-set-same at j x 0 (omega (arith, e)), getD-set-same left j m 0 (omega (arith, f))) s);
+  each = fill-both (λ (i y z : ℕ). Fits b y z) at left j x m (omega (arith, e)) (omega (arith, f)) (a .each) s;
 }
 
 pub fit-upto : {b at left : List ℕ} {n j : ℕ} → n ≤ j → AllFit b j at left → AllFit b n at left
@@ -45,10 +40,7 @@ seen-none = record { each = below-none _ }
 pub seen-more : {b at seen : List ℕ} {j x : ℕ} (c : ℕ) → length seen ≡ 64 → j < 64 → AllSeen b j at seen → x ≡ getD at j 0 → c % 65536 ≡ u16At b (x - 2)
     → AllSeen b (j + 1) at (set seen j c)
 seen-more {b} {at} {seen} {j} {x} c e l a f h = record {
-  each =
-      below-more (λ (i : ℕ). getD (set seen j c) i 0 % 65536 ≡ u16At b (getD at i 0 - 2)) j
-      (λ i k. rw (getD-set-other seen j i c 0 (omega arith)) (a .each i k))
-      (rw (getD-set-same seen j c 0 (omega (arith, e)), sym f) h);
+  each = fill (λ (i y : ℕ). y % 65536 ≡ u16At b (getD at i 0 - 2)) seen j c (omega (arith, e)) (a .each) (rw (sym f) h);
 }
 
 pub seen-upto : {b at seen : List ℕ} {n j : ℕ} → n ≤ j → AllSeen b j at seen → AllSeen b n at seen

@@ -3,15 +3,15 @@ use Prim.Native.Nat.{ℕ, _+_, _-_, _%_, _<_, _≤_}
 use native.Mathlib.Omega.{arith}
 use mathlib.Core.Path.{_≡_, refl, sym, subst}
 use mathlib.Core.List.{List}
-use borrow.Author.Count.{below-none, below-more}
+use borrow.Author.Count.{below-none}
 use lib.ListN.{length, getD, set, length-set}
-use lib.Seq.{getD-set-same, getD-set-other}
 use Rattle.region.specs.Region.{Laid}
 use Rattle.layout.specs.Table.{Table, entries, segmentOf, elementOf}
 use Rattle.strings.specs.Texts.{spotAt}
 use Rattle.strings.specs.Rules.{Resolved}
 use Rattle.strings.specs.Ahead.{Standing, Seen, Glanced, Stood, SeenBefore, Room, ReadAhead, Ahead}
 use Rattle.strings.specs.declared.spot.Spot.the-variants.{At}
+use Rattle.strings.proofs.Filling.{fill, fill-both}
 use Rattle.strings.proofs.Spots.{Spotted, spot-text}
 
 module _ (t : Table) (k j : ℕ) where
@@ -33,10 +33,7 @@ pub stood-more : {t : Table} {k j i : ℕ} {at left : List ℕ} → Stood t k j 
 stood-more {t} {k} {j} {i} {at} {left} s l p n h = record {
   at-long = simp length-set (s .at-long);
   left-long = simp length-set (s .left-long);
-  each =
-      below-more (λ (y : ℕ). Standing t k (j + y) (getD (set at i p) y 0) (getD (set left i n) y 0)) i
-      (λ y m. rw (getD-set-other at i y p 0 (omega arith), getD-set-other left i y n 0 (omega arith)) (s .each y m))
-      (rw (getD-set-same at i p 0 (omega (arith, s .at-long)), getD-set-same left i n 0 (omega (arith, s .left-long))) h);
+  each = fill-both (λ (y x z : ℕ). Standing t k (j + y) x z) at left i p n (omega (arith, s .at-long)) (omega (arith, s .left-long)) (s .each) h;
 }
 
 pub stood-upto : {t : Table} {k j m i : ℕ} {at left : List ℕ} → Stood t k j i at left → m ≤ i → Stood t k j m at left
@@ -49,10 +46,7 @@ pub seen-more : {b : List ℕ} {i : ℕ} {at left seen : List ℕ} → SeenBefor
     → Seen b p n c → SeenBefore b (i + 1) at left (set seen i c)
 seen-more {b} {i} {at} {left} {seen} s l e f c h = record {
   seen-long = simp length-set (s .seen-long);
-  each =
-      below-more (λ (y : ℕ). Seen b (getD at y 0) (getD left y 0) (getD (set seen i c) y 0)) i
-      (λ y m. rw (getD-set-other seen i y c 0 (omega arith)) (s .each y m))
-      (rw (getD-set-same seen i c 0 (omega (arith, s .seen-long)), sym e, sym f) h);
+  each = fill (λ (y x : ℕ). Seen b (getD at y 0) (getD left y 0) x) seen i c (omega (arith, s .seen-long)) (s .each) (rw (sym e, sym f) h);
 }
 
 pub seen-upto : {b : List ℕ} {m i : ℕ} {at left seen : List ℕ} → SeenBefore b i at left seen → m ≤ i → SeenBefore b m at left seen

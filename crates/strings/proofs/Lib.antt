@@ -1,6 +1,7 @@
 pub mod Accepted
 pub mod Places
 pub mod Spots
+pub mod Filling
 pub mod Glances
 pub mod Begun
 pub mod Checks
