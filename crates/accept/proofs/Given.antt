@@ -1,19 +1,17 @@
 -- An accepted file gives what specs/Given.antt says. Assumes nothing.
-use Prim.Native.Nat.{ℕ, _/_, _%_, _+_, _≤_, _<_}
+use Prim.Native.Nat.{ℕ, _/_, _%_, _≤_}
 use native.Mathlib.Omega.{arith}
-use mathlib.Core.Path.{_≡_, ap, subst, _∙_}
+use mathlib.Core.Path.{_≡_, ap}
 use mathlib.Core.Logic.{⊎-elim}
 use mathlib.Core.List.{List}
 use Rattle.verdict.specs.declared.Verdict.the-variants.{Accepted}
 use Rattle.region.proofs.Laws.{range-each}
-use Rattle.layout.specs.Table.{Table, count}
+use Rattle.layout.specs.Table.{Table}
 use Rattle.layout.specs.Layout.{attributeSize, attributesAt, names, values}
 use Rattle.strings.specs.Rules.{TableRules, EntryAddress}
 use Rattle.strings.proofs.Accepted.{strings-iff}
 use Rattle.keys.specs.Names.{nameCount}
 use Rattle.keys.proofs.Only.{position-resolves}
-use Rattle.nodes.specs.Rules.{NodeRules}
-use Rattle.tree.specs.Chain.{child}
 use Rattle.tree.specs.File.{Used, nodeOf, treeOf}
 use Rattle.tree.proofs.Depths.{no-longer}
 use Rattle.tree.proofs.Unique.{one-chain, one-parent}

@@ -11,7 +11,7 @@ use borrow.Author.Tests.{eq-eqb, ne-eqb}
 use lib.Dec.{eqb}
 use lib.ListN.{length, getD}
 use Rattle.keys.specs.Names.{nameCount, nameText, Bears}
-use Rattle.tree.specs.Chain.{Tree, LiveIn, child, Chain, ranged}
+use Rattle.tree.specs.Chain.{LiveIn, child, ranged}
 use Rattle.tree.specs.File.{nodeOf, Used, treeOf}
 use Rattle.tree.proofs.Depths.{no-longer}
 use Rattle.accept.specs.Rules.{FileRules}

@@ -3,12 +3,12 @@ use Prim.Native.Nat.{ℕ, _+_, _≤_, _<_}
 use native.Mathlib.Omega.{arith}
 use mathlib.Core.Path.{_≡_, sym, _∙_}
 use mathlib.Core.List.{List}
-use borrow.Author.Count.{below-none, below-more}
+use borrow.Author.Count.{below-none}
 use lib.ListN.{length, getD, set, length-set}
-use lib.Seq.{getD-set-same, getD-set-other}
 use Rattle.hash.specs.Hash.{bucketOf}
 use Rattle.layout.specs.Table.{Table, bucketAt, listAt}
 use Rattle.layout.proofs.Laws.{bucket-order}
+use Rattle.strings.proofs.Filling.{fill}
 use Rattle.strings.specs.Held.{Held, heldTable}
 use Rattle.strings.specs.declared.Strings.{Strings}
 use Rattle.search.specs.Lower.{Lower}
@@ -35,10 +35,7 @@ within-none b at f = record { long = f; each = below-none _ }
 pub within-more : (b at : List ℕ) (j x : ℕ) → Within b j at → j < 64 → x + 4 ≤ length b → Within b (j + 1) (set at j x)
 within-more b at j x a l h = record {
   long = length-set at j x ∙ a .long;
-  each =
-      below-more (λ (i : ℕ). getD (set at j x) i 0 + 4 ≤ length b) j
-      (λ i c. rw (getD-set-other at j i x 0 (omega arith)) (a .each i c))
-      (rw (getD-set-same at j x 0 (omega (arith, a .long))) h);
+  each = fill (λ (i y : ℕ). y + 4 ≤ length b) at j x (omega (arith, a .long)) (a .each) h;
 }
 
 pub within-upto : (b at : List ℕ) (j n : ℕ) → Within b j at → n ≤ j → Within b n at
@@ -69,9 +66,8 @@ pub low-more : {t : Table} {hashes low : List ℕ} {j : ℕ} → AllLow t hashes
 low-more {t} {hashes} {low} {j} a l {h} r e w = record {
   long = length-set low j r ∙ a .long;
   each =
-      below-more (λ (i : ℕ). Lower t (bucketOf (t .buckets) (getD hashes i 0)) (getD hashes i 0) (getD (set low j r) i 0)) j
-      (λ i c. rw (getD-set-other low j i r 0 (omega arith)) (a .each i c))
-      (rw (getD-set-same low j r 0 (omega (arith, a .long)), sym e) w);
+      fill (λ (i y : ℕ). Lower t (bucketOf (t .buckets) (getD hashes i 0)) (getD hashes i 0) y) low j r (omega (arith, a .long)) (a .each)
+      (rw (sym e) w);
 }
 
 -- what is read of one
