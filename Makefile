@@ -3,6 +3,10 @@ ask: library
 	gcc -std=c11 -D_DEFAULT_SOURCE -Wall -Wextra -O2 -Iinclude examples/ask.c target/staticlib/libtaplinen.a -o target/ask
 	target/ask samples/shop.dc name LegendarySword name '@b`naiosyRyopk' name Item value 'Iron sword' value Iron path Item
 
+# The two hashes of a text that is given in parts: target/hash PART..
+hash: library
+	gcc -std=c11 -Wall -Wextra -O2 -Iinclude examples/hash.c target/staticlib/libtaplinen.a -o target/hash
+
 # The program on a file of at most 32,768 bytes.
 FILE = samples/shop.dc
 dump:
@@ -30,4 +34,4 @@ bench: library
 cost: ask
 	scripts/cost
 
-.PHONY: ask dump library check gate compare bench cost
+.PHONY: ask hash dump library check gate compare bench cost

@@ -104,6 +104,18 @@ typedef struct {
 /* The header of an accepted file; where it is refused, refusal and place, and 0 elsewhere. */
 taplinen_header_report taplinen_header(const uint8_t *file, size_t file_len, uint8_t *ws, size_t ws_len);
 
+/* The two hashes by themselves, for programs that build files: no file is asked, nothing is refused. text: two bytes a character, low
+ * byte first; characters that are 0 count like any other.
+ *
+ * The hash of a text whose first part has the hash `start`; a whole text starts at 0. A text may be hashed in parts, each from the hash
+ * that the call before it answered, and may be split anywhere: an odd last byte is taken for the low byte of a character whose high
+ * byte comes with the next part. */
+uint32_t taplinen_hash(uint32_t start, const uint8_t *text, size_t text_len);
+
+/* The value hash of a whole text, 0 to 16383: what the type word of an attribute of type 3 holds above its two low bits. An odd last
+ * byte is no character and is left out. A value hash cannot be gone on with; docs/BUILDERS.md says what to do instead. */
+uint32_t taplinen_value_hash(const uint8_t *text, size_t text_len);
+
 #ifdef __cplusplus
 }
 #endif

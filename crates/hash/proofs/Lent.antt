@@ -9,12 +9,14 @@ use lib.Bits.{bitXor, xor-zero-r}
 use lib.ListN.{length, getD, set, length-set}
 use lib.Seq.{getD-set-same, getD-set-other}
 use Rattle.laws.proofs.Xor.{xor-assoc}
-use Rattle.hash.specs.Table.{entryOf, zeroOn, zerosOn, lentOf, Tables}
+use Rattle.hash.specs.Table.{entryOf, Entries, zeroOn, zerosOn, lentOf, Tables}
+use Rattle.hash.specs.Hash.{hashByte}
 use Rattle.hash.proofs.Linear.{zeros-none, zeros-more}
 
--- the list holds T
-pub record Source (s : List ℕ) : Type 0 where
-  pub at : (k : ℕ) → k < 256 → getD s k 0 ≡ entryOf k
+-- one byte through T
+pub byte-step : (t : List ℕ) (h b i a : ℕ) → Entries t → i ≡ bitXor h b % 256 → a ≡ getD t i 0 → bitXor a (h / 256) ≡ hashByte h b
+unfolding hashByte
+byte-step t h b i a s p q = ap (λ (n : ℕ). bitXor n (h / 256)) (q ∙ s .at i (omega arith) ∙ ap entryOf p)
 
 -- the list has room for all, and holds the first n entries
 pub record Filled (t : List ℕ) (n : ℕ) : Type 0 where
@@ -45,11 +47,11 @@ lent-at m k i e h =
     ap (λ (n : ℕ). zerosOn n (entryOf (m % 256))) a ∙ ap (λ (n : ℕ). zerosOn k (entryOf n)) b
 
 -- how an entry of T itself is made, and one of the others
-pub first-made : (s : List ℕ) (i : ℕ) → Source s → i < 256 → getD s i 0 ≡ lentOf i
+pub first-made : (s : List ℕ) (i : ℕ) → Entries s → i < 256 → getD s i 0 ≡ lentOf i
 unfolding zerosOn
 first-made s i t h = t .at i h ∙ sym (lent-at i 0 i (omega arith) h)
 
-pub next-made : (s : List ℕ) (i e w j : ℕ) → Source s → 256 ≤ i → e ≡ lentOf (i - 256) → w ≡ e → j ≡ w % 256 → bitXor (getD s j 0) (e / 256) ≡ lentOf i
+pub next-made : (s : List ℕ) (i e w j : ℕ) → Entries s → 256 ≤ i → e ≡ lentOf (i - 256) → w ≡ e → j ≡ w % 256 → bitXor (getD s j 0) (e / 256) ≡ lentOf i
 unfolding zeroOn zerosOn lentOf
 next-made s i e w j t h p q r =
     ap (λ (m : ℕ). bitXor m (e / 256)) (t .at j (omega arith) ∙ ap entryOf (r ∙ ap (λ (m : ℕ). m % 256) q))

@@ -4,3 +4,4 @@ pub mod Ranges
 pub mod Laws
 pub mod Lent
 pub mod Halves
+pub mod Parts

@@ -17,6 +17,11 @@ unfoldable pub hashOn : ℕ → List ℕ → ℕ
 hashOn h [] = h
 hashOn h (c ∷ cs) = hashOn (hashChar h c) cs
 
+-- On through some bytes, from any hash: a character is its low byte and then its high byte.
+unfoldable pub hashBytes : ℕ → List ℕ → ℕ
+hashBytes h [] = h
+hashBytes h (b ∷ bs) = hashBytes (hashByte h b) bs
+
 -- The hash of a text starts at 0.
 abbrev pub hashText : List ℕ → ℕ
 hashText cs = hashOn 0 cs

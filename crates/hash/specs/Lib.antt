@@ -1,3 +1,4 @@
 pub mod Table
 pub mod Hash
 pub mod Fold
+pub mod Parts

@@ -47,6 +47,10 @@ T =
 unfoldable pub entryOf : ℕ → ℕ
 entryOf i = getD T i 0
 
+-- The list holds T.
+pub record Entries (t : List ℕ) : Type 0 where
+  pub at : (k : ℕ) → k < 256 → getD t k 0 ≡ entryOf k
+
 -- One step of T's rule: double modulo 2 ^ 32, and xor 04c11db7 if the top bit was set.
 unfoldable pub double : ℕ → ℕ
 double x = cond (ltb x 0x8000_0000) (x * 2) (bitXor (x * 2 % 2 ^ 32) 0x04c1_1db7)

@@ -1,8 +1,8 @@
 // The string hash and the value hash (01, "Strings").
 ghost use mathlib.Core.Path.{_≡_};
 ghost use Prim.Native.Nat.{_+_, _/_, _%_, _^_, _≤_, _<_};
-ghost use Rattle.hash.specs.Table.{zerosOn, Tables};
-ghost use Rattle.hash.specs.Hash.{hashChar, bucketOf};
+ghost use Rattle.hash.specs.Table.{Entries, zerosOn, Tables};
+ghost use Rattle.hash.specs.Hash.{hashByte, hashChar, bucketOf};
 ghost use Rattle.hash.specs.Fold.{folded, FoldedPair, valueHashOf};
 
 // T, as document 000 prints it.
@@ -269,6 +269,21 @@ fn low(x: usize) -> usize
     ensures { λ r. ⌜ (r ≡ x % 256) × (r < 256) ⌝ }
 {
     x & 255
+}
+
+// T alone, for texts too short to be worth eight tables.
+pub fn table() -> [u32; 256]
+    ensures { λ r. ⌜ Entries r ⌝ }
+{
+    T
+}
+
+// The hash after one byte more.
+pub fn byte_on(t: &[u32; 256], h: usize, b: usize) -> usize
+    requires { ⌜ Entries (now t) × (h < 2 ^ 32) ⌝ }
+    ensures { λ r. ⌜ (r ≡ hashByte h b) × (r < 2 ^ 32) ⌝ }
+{
+    le::wide(t[low(h ^ b)]) ^ (h >> 8)
 }
 
 // T, and after it the same entries one to seven zero bytes on, so that four characters go in one step.

@@ -7,7 +7,8 @@ ghost use Rattle.laws.specs.Lists.{splice};
 ghost use Rattle.le.specs.Le.{u16At, u32At, u64At, le4};
 ghost use Rattle.le.specs.Floats.{singleOf, doubleAt};
 
-fn byte(x: u8) -> usize
+// A byte as the code counts.
+pub fn byte(x: u8) -> usize
     ensures { λ r. ⌜ (r ≡ x) × (r < 256) ⌝ }
 {
     x as usize

@@ -145,7 +145,7 @@ pub fn find_text(
         × (firstFault (stringChecks (heldTable (now b) s (now starts))) ≡ Accepted) × (p + 2 * n ≤ length (now q)) ⌝ }
     ensures { λ r. ⌜ r ≡ toldIn kind (heldTable (now (b .entry)) s (now (starts .entry))) (chars (now (q .entry)) p n) ⌝ }
 {
-    let h = text::hash_chars(q, t, p, n);
+    let h = text::hash_chars(q, t, p, n, 0);
     let k = hash::bucket(h, starts.len());
     let low = search::lower(b, s, samples, starts, k, h);
     find_from(b, s, samples, starts, kind, h, low, q, p, n)

@@ -4,3 +4,4 @@ pub mod Asked
 pub mod Filled
 pub mod Held
 pub mod EachPlace
+pub mod BothHashes

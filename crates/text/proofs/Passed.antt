@@ -15,11 +15,11 @@ use Rattle.text.specs.Measure.{MeasuredOn}
 use Rattle.text.proofs.Laws.{ended-iff}
 use Rattle.text.proofs.Walk.{textFrom, text-start, text-rest, hash-end, hash-next}
 
-fold-end : (xs : List ℕ) → xs ≡ [] → foldText xs ≡ []
+pub fold-end : (xs : List ℕ) → xs ≡ [] → foldText xs ≡ []
 unfolding foldText
 fold-end xs e = ap foldText e
 
-fold-next : (xs ys : List ℕ) (c d : ℕ) → xs ≡ c ∷ ys → d ≡ folded c → foldText xs ≡ d ∷ foldText ys
+pub fold-next : (xs ys : List ℕ) (c d : ℕ) → xs ≡ c ∷ ys → d ≡ folded c → foldText xs ≡ d ∷ foldText ys
 unfolding foldText
 fold-next xs ys c d e q = ap foldText e ∙ ap (λ (x : ℕ). x ∷ foldText ys) (sym q)
 

@@ -5,11 +5,13 @@ ghost use Prim.Native.Nat.{_+_, _*_, _≤_, _<_, _^_};
 ghost use lib.ListN.{length};
 ghost use Rattle.verdict.specs.Checks.{Tells};
 ghost use Rattle.hash.specs.Table.{Tables};
-ghost use Rattle.hash.specs.Hash.{hashOn, hashText};
+ghost use Rattle.hash.specs.Hash.{hashOn};
 ghost use Rattle.hash.specs.Fold.{foldText, valueHashOf, valueHash};
 ghost use Rattle.text.specs.Text.{chars, textIn};
 ghost use Rattle.text.specs.Zeros.{zerosIn};
 ghost use Rattle.text.specs.Measure.{MeasuredOn, Measured, CharOrEnd};
+
+pub mod parts;
 
 // What is measured of a text: whether a 0 ends it, its characters, its hash.
 pub struct Extent {
@@ -146,19 +148,19 @@ pub fn zeros(b: &[u8], p: usize, n: usize) -> usize
     found as usize
 }
 
-// The hash of k characters that a caller asks with: four in a step, while four are left.
-pub fn hash_chars(s: &[u8], t: &[u32; 2048], p: usize, k: usize) -> usize
-    requires { ⌜ Tables (now t) × (p + 2 * k ≤ length (now s)) ⌝ }
-    ensures { λ r. ⌜ (r ≡ hashText (chars (now (s .entry)) p k)) × (r < 2 ^ 32) ⌝ }
+// The hash, on from h, of k characters that a caller asks with: four in a step, while four are left.
+pub fn hash_chars(s: &[u8], t: &[u32; 2048], p: usize, k: usize, h: usize) -> usize
+    requires { ⌜ Tables (now t) × (p + 2 * k ≤ length (now s)) × (h < 2 ^ 32) ⌝ }
+    ensures { λ r. ⌜ (r ≡ hashOn h (chars (now (s .entry)) p k)) × (r < 2 ^ 32) ⌝ }
 {
-    let mut h = 0;
+    let mut g = h;
     let mut i = 0;
     while i + 3 < k {
         let v = le::u32_at(s, p + 2 * i);
-        h = hash::quad_on(t, h, v, le::u32_at(s, p + 2 * (i + 2)));
+        g = hash::quad_on(t, g, v, le::u32_at(s, p + 2 * (i + 2)));
         i += 4;
     }
-    hash_few(s, t, p + 2 * i, k - i, h)
+    hash_few(s, t, p + 2 * i, k - i, g)
 }
 
 // The same of fewer than four characters, on from the hash h.

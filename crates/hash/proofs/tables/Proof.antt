@@ -2,19 +2,19 @@ use Prim.Native.Nat.{_-_, _≤_}
 use native.Mathlib.Omega.{arith}
 use mathlib.Core.Path.{refl}
 use borrow.Author.Needs.{needs}
-use Rattle.hash.specs.Table.{T, entryOf}
-use Rattle.hash.proofs.Lent.{Source, Filled, filled-none, filled-more, filled-all, first-made, next-made}
+use Rattle.hash.specs.Table.{T, entryOf, Entries}
+use Rattle.hash.proofs.Lent.{Filled, filled-none, filled-more, filled-all, first-made, next-made}
 use Rattle.hash.proofs.tables.Statement.{statement}
 use Rattle.hash.proofs.tables.Tie as tie
 
 abbrev Inv-loop : tie.InvT-loop
-Inv-loop source t₀ i₀ t i = (i ≤ 256) × Filled t i × Source source
+Inv-loop source t₀ i₀ t i = (i ≤ 256) × Filled t i × Entries source
 
 abbrev μ-loop : tie.MeasureT-loop
 μ-loop source t₀ i₀ t i = 256 - i
 
 abbrev Inv-loop2 : tie.InvT-loop2
-Inv-loop2 source t₀ i₀ t i = (256 ≤ i) × (i ≤ 2048) × Filled t i × Source source
+Inv-loop2 source t₀ i₀ t i = (256 ≤ i) × (i ≤ 2048) × Filled t i × Entries source
 
 abbrev μ-loop2 : tie.MeasureT-loop2
 μ-loop2 source t₀ i₀ t i = 2048 - i

@@ -1,6 +1,6 @@
 use Prim.Native.Nat.{_-_, _^_, _≤_, _<_}
 use mathlib.Core.Path.{_≡_, refl, ap, sym, _∙_}
-use Rattle.hash.specs.Hash.{hashOn, hashText}
+use Rattle.hash.specs.Hash.{hashOn}
 use Rattle.text.specs.Text.{chars}
 use Rattle.text.proofs.Walk.{charsFrom, chars-start, hash-rest}
 use Rattle.text.proofs.Words.{first-two, next-two, chars-pair}
@@ -10,13 +10,13 @@ use Rattle.text.proofs.hash_chars.Statement.{statement}
 use Rattle.text.proofs.hash_chars.Tie as tie
 
 abbrev Inv-loop : tie.InvT-loop
-Inv-loop s t p k h₀ i₀ h i = (i ≤ k) × (h < 2 ^ 32) × (hashText (chars s p k) ≡ hashOn h (charsFrom s p k i))
+Inv-loop s t p k h g₀ i₀ g i = (i ≤ k) × (g < 2 ^ 32) × (hashOn h (chars s p k) ≡ hashOn g (charsFrom s p k i))
 
 abbrev μ-loop : tie.MeasureT-loop
-μ-loop s t p k h₀ i₀ h i = k - i
+μ-loop s t p k h g₀ i₀ g i = k - i
 
 loop-holds : tie.Need-loop-holds Inv-loop μ-loop
-loop-holds c = (search needs, search needs, ap hashText (sym (chars-start _ _ _)))
+loop-holds c = (search needs, search needs, ap (hashOn _) (sym (chars-start _ _ _)))
 
 loop-again : tie.Need-loop-again Inv-loop μ-loop
 loop-again c =
