@@ -6,10 +6,12 @@
 //! has been touched; the best of several rounds counts, in processor time of the
 //! thread. Lookups of the proved library go in one batch question, whose
 //! acceptance (measured in the same run) is taken off; the second loader's go to
-//! a held view.
+//! a held view. The hashes are measured on short texts, and on each file's bytes
+//! as one text, beside its acceptance.
 
 mod clock;
 mod growth;
+mod hashing;
 mod memory;
 mod pages;
 mod subject;
@@ -20,7 +22,7 @@ use maker::text::{to_bytes, Text};
 use second::{Marked, Plain, Right, Which};
 
 use pages::Size;
-use subject::{Batch, Exported, Held, Subject};
+use subject::{Batch, Exported, Held, Subject, Texts};
 
 const SIZES: [usize; 3] = [8, 64, 256];
 /// Enough lookups to weigh more than the acceptance that is taken off.
@@ -36,6 +38,8 @@ struct Numbers {
     values: f64,
     path: f64,
     held_path: Option<f64>,
+    hash: f64,
+    value_hash: f64,
 }
 
 impl Numbers {
@@ -46,6 +50,8 @@ impl Numbers {
             values: f64::MAX,
             path: f64::MAX,
             held_path: None,
+            hash: f64::MAX,
+            value_hash: f64::MAX,
         }
     }
 }
@@ -125,6 +131,10 @@ fn measure(subjects: &[Box<dyn Subject>], file: &Large) -> Vec<Numbers> {
     for (numbers, seconds) in all.iter_mut().zip(accept(subjects, file)) {
         numbers.accept = seconds;
     }
+    let one = Texts { bytes, each: bytes.len() };
+    for (numbers, seconds) in all.iter_mut().zip(hashing::measure(subjects, one)) {
+        (numbers.hash, numbers.value_hash) = (seconds.hash, seconds.value);
+    }
     for _ in 0..LOOKUP_ROUNDS {
         for (subject, numbers) in subjects.iter().zip(&mut all) {
             let off = if subject.accepts_again() { numbers.accept } else { 0.0 };
@@ -163,6 +173,14 @@ fn print(title: &str, file: &Large, numbers: &Numbers, first: &Numbers) {
         numbers.path / first.path,
         held.unwrap_or_default(),
     );
+    println!(
+        "  {:18} file as one text: hash {:7.1} MB/s ({:5.2}x)  value hash {:7.1} MB/s ({:5.2}x)",
+        "",
+        megabytes / numbers.hash,
+        numbers.hash / first.hash,
+        megabytes / numbers.value_hash,
+        numbers.value_hash / first.value_hash,
+    );
 }
 
 fn main() {
@@ -170,6 +188,7 @@ fn main() {
     let sizes: Vec<usize> = SIZES.into_iter().filter(|&size| size <= most).collect();
     let subjects = subjects();
     println!("workspace zeroed, file pages touched; times as multiples of the first line's");
+    hashing::print_short(&subjects);
     let mut reads = Vec::new();
     for &size in &sizes {
         let file = large(size, Order::AsUsed);

@@ -1,5 +1,5 @@
-//! What is measured: a loader that accepts, looks up many texts and lists a
-//! path. All give seconds.
+//! What is measured: a loader that accepts, looks up many texts, lists a path
+//! and hashes texts. All give seconds.
 
 use std::hint::black_box;
 
@@ -19,6 +19,26 @@ pub trait Subject {
     fn path(&self, file: &[u8], workspace: &mut [u8], path: &[u8]) -> f64;
     /// One path on a held view, where the loader has that form.
     fn held_path(&self, file: &[u8], workspace: &mut [u8], path: &[u8]) -> Option<f64>;
+    /// The string hash of each text from 0, a call for each.
+    fn hashes(&self, texts: Texts) -> f64;
+    /// The value hash of each text, a call for each.
+    fn value_hashes(&self, texts: Texts) -> f64;
+}
+
+/// Texts of so many bytes each, one after the other.
+#[derive(Clone, Copy)]
+pub struct Texts<'a> {
+    pub bytes: &'a [u8],
+    pub each: usize,
+}
+
+impl Texts<'_> {
+    fn timed(self, hash: impl Fn(&[u8]) -> u32) -> f64 {
+        let started = now();
+        let all = self.bytes.chunks_exact(self.each).fold(0, |all, text| all ^ hash(text));
+        black_box(all);
+        now() - started
+    }
 }
 
 /// Texts each followed by a 0, and how many.
@@ -78,6 +98,26 @@ impl<I: Index> Subject for Held<I> {
         });
         Some(all / TIMES as f64)
     }
+
+    fn hashes(&self, texts: Texts) -> f64 {
+        texts.timed(|text| hash(&self.loader, text))
+    }
+
+    fn value_hashes(&self, texts: Texts) -> f64 {
+        texts.timed(|text| value_hash(&self.loader, text))
+    }
+}
+
+/// A call, as to a library: the loop over the texts does not take it in.
+#[inline(never)]
+fn hash<I: Index>(loader: &second::Loader<Right, I>, text: &[u8]) -> u32 {
+    loader.hash(0, text)
+}
+
+/// A call, as above.
+#[inline(never)]
+fn value_hash<I: Index>(loader: &second::Loader<Right, I>, text: &[u8]) -> u32 {
+    loader.value_hash(text) as u32
 }
 
 /// A loader behind the exported questions alone: a batch accepts once.
@@ -111,6 +151,14 @@ impl<L: Loader> Subject for Exported<L> {
 
     fn held_path(&self, _: &[u8], _: &mut [u8], _: &[u8]) -> Option<f64> {
         None
+    }
+
+    fn hashes(&self, texts: Texts) -> f64 {
+        texts.timed(|text| self.loader.hash(0, text))
+    }
+
+    fn value_hashes(&self, texts: Texts) -> f64 {
+        texts.timed(|text| self.loader.value_hash(text))
     }
 }
 

@@ -3,6 +3,7 @@
 pub mod asks;
 pub mod case;
 pub mod guard;
+pub mod hashes;
 pub mod inputs;
 pub mod lengths;
 pub mod loader;
@@ -14,13 +15,15 @@ pub mod run;
 pub mod sparse;
 pub mod sweep;
 pub mod tally;
+pub mod texts;
 
 use loader::{Loader, Second};
 use second::{Marked, Right};
 
 /// The loaders that the plain second one is compared with.
 pub fn others() -> Vec<Box<dyn Loader>> {
-    let indexed: Second<Right, Marked> = Second::new("second, indexed", Right);
+    let indexed: Second<Right, Marked> =
+        Second::new("second, indexed, with hashes by definition", Right).hashing_by_definition();
     #[cfg(feature = "rattle")]
     let others: Vec<Box<dyn Loader>> = vec![Box::new(rattle::Rattle::default()), Box::new(indexed)];
     #[cfg(not(feature = "rattle"))]

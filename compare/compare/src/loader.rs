@@ -1,6 +1,7 @@
 //! One trait for every loader that is compared.
 
-use second::{Answer, HeaderReport, Index, Reading, Which};
+use second::hashes::by_definition;
+use second::{Answer, HeaderReport, Index, Reading, Right, Which};
 
 pub trait Loader {
     fn title(&self) -> String;
@@ -17,6 +18,9 @@ pub trait Loader {
         texts: &[u8],
         answers: &mut [u8],
     ) -> Answer;
+    /// The string hash, on from `start`.
+    fn hash(&self, start: u32, text: &[u8]) -> u32;
+    fn value_hash(&self, text: &[u8]) -> u32;
 
     /// Whether empty buffers are lent as null pointers from now on. Slices
     /// cannot be null, so only loaders behind a C interface listen.
@@ -27,11 +31,20 @@ pub trait Loader {
 pub struct Second<R, I> {
     title: String,
     loader: second::Loader<R, I>,
+    by_definition: bool,
 }
 
 impl<R: Reading, I: Index> Second<R, I> {
     pub fn new(title: &str, reading: R) -> Second<R, I> {
-        Second { title: title.to_string(), loader: second::Loader::new(reading) }
+        let loader = second::Loader::new(reading);
+        Second { title: title.to_string(), loader, by_definition: false }
+    }
+}
+
+impl<I: Index> Second<Right, I> {
+    /// The same, whose hashes go a byte at a time by the words of document 01.
+    pub fn hashing_by_definition(self) -> Self {
+        Second { by_definition: true, ..self }
     }
 }
 
@@ -69,5 +82,20 @@ impl<R: Reading, I: Index> Loader for Second<R, I> {
         answers: &mut [u8],
     ) -> Answer {
         self.loader.batch(which, file, ws, texts, answers)
+    }
+
+    fn hash(&self, start: u32, text: &[u8]) -> u32 {
+        match self.by_definition {
+            true => by_definition::hash(start, text),
+            false => self.loader.hash(start, text),
+        }
+    }
+
+    fn value_hash(&self, text: &[u8]) -> u32 {
+        let hash = match self.by_definition {
+            true => by_definition::value_hash(text),
+            false => self.loader.value_hash(text),
+        };
+        hash as u32
     }
 }

@@ -87,7 +87,10 @@ fn main() -> ExitCode {
     if !rare.is_empty() {
         println!("refusals asked for fewer than {LEAST} times: {rare:?}");
     }
-    match tally.differences == 0 && rare.is_empty() {
+    if tally.parted == 0 {
+        println!("no two texts of one value hash parted");
+    }
+    match tally.differences == 0 && rare.is_empty() && tally.parted > 0 {
         true => ExitCode::SUCCESS,
         false => ExitCode::FAILURE,
     }

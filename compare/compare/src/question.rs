@@ -4,6 +4,7 @@ use maker::rng::Rng;
 use second::{Answer, HeaderReport, Which};
 
 use crate::guard::{Edge, Guarded};
+use crate::hashes::{HashAsk, HashQuestion};
 use crate::loader::Loader;
 
 #[derive(Clone, Debug)]
@@ -103,6 +104,39 @@ impl Pages {
         let file = file.lend(bytes.len(), question.edge);
         let outcome = ask(loader, file, question, [workspace, out, text]);
         (file == bytes).then_some(outcome)
+    }
+
+    /// The hashes that are asked for, in order. None where a text is changed
+    /// after.
+    pub fn ask_hash(
+        &mut self,
+        loader: &dyn Loader,
+        text: &[u8],
+        question: &HashQuestion,
+    ) -> Option<Vec<u32>> {
+        loader.empty_as_null(question.null);
+        let mut put = |part: &[u8], ask: &dyn Fn(&[u8]) -> u32| {
+            let lent = self.text.lend(part.len(), question.edge);
+            lent.copy_from_slice(part);
+            let hash = ask(lent);
+            (lent == part).then_some(hash)
+        };
+        match &question.ask {
+            HashAsk::Value(bytes) => {
+                Some(vec![put(&text[..*bytes], &|text| loader.value_hash(text))?])
+            }
+            HashAsk::Parts(start, cuts) => {
+                let mut all = Vec::with_capacity(cuts.len() + 2);
+                let (mut hash, mut from) = (*start, 0);
+                for to in cuts.iter().copied().chain([text.len()]) {
+                    hash = put(&text[from..to], &|part| loader.hash(hash, part))?;
+                    from = to;
+                    all.push(hash);
+                }
+                all.push(put(text, &|text| loader.hash(*start, text))?);
+                Some(all)
+            }
+        }
     }
 }
 

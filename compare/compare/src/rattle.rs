@@ -67,6 +67,8 @@ extern "C" {
         answers: Room,
         answers_len: usize,
     ) -> Answer;
+    fn taplinen_hash(start: u32, text: Bytes, text_len: usize) -> u32;
+    fn taplinen_value_hash(text: Bytes, text_len: usize) -> u32;
 }
 
 #[derive(Default)]
@@ -165,5 +167,13 @@ impl Loader for Rattle {
                 answers.len(),
             )
         }
+    }
+
+    fn hash(&self, start: u32, text: &[u8]) -> u32 {
+        unsafe { taplinen_hash(start, self.lend(text), text.len()) }
+    }
+
+    fn value_hash(&self, text: &[u8]) -> u32 {
+        unsafe { taplinen_value_hash(self.lend(text), text.len()) }
     }
 }

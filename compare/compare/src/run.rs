@@ -4,17 +4,26 @@ use std::path::PathBuf;
 use std::time::{Duration, Instant};
 
 use maker::rng::Rng;
+use second::hashes::folded;
 use second::{Plain, Right};
 
 use crate::asks::asks;
 use crate::case::{random, Case};
 use crate::guard::Edge;
+use crate::hashes::{self, HashAsk, HashQuestion};
 use crate::lengths;
 use crate::loader::{Loader, Second};
 use crate::question::{Ask, Pages, Question};
 use crate::sparse::Largest;
 use crate::sweep::{changed_bytes, changed_words, cut_counts, cuts, limits};
-use crate::tally::{describe, Tally};
+use crate::tally::{describe, describe_hash, Tally};
+use crate::texts;
+
+/// Random files of which one comes with texts to be hashed, and how many.
+const FILES_A_TEXT: u64 = 16;
+const TEXTS: usize = 2;
+/// Pairs of texts with one value hash.
+const PAIRS: usize = 40;
 
 #[derive(Clone)]
 pub struct Plan {
@@ -25,7 +34,7 @@ pub struct Plan {
     pub questions: u64,
     /// Sweeps and limits too, and every refusal often enough.
     pub full: bool,
-    /// Where the file of the first difference is put.
+    /// Where the file or text of the first difference is put.
     pub found: PathBuf,
 }
 
@@ -51,6 +60,7 @@ impl Run {
     pub fn go(&mut self) {
         let started = Instant::now();
         let mut rng = Rng::new(self.plan.seed);
+        self.texts(&mut rng.clone());
         if self.plan.full {
             self.largest();
             self.every_length(&mut rng);
@@ -74,6 +84,12 @@ impl Run {
             let mut rng = Rng::new(self.plan.seed.wrapping_mul(1_000_003).wrapping_add(number));
             let case = random(&mut rng);
             self.case(&mut rng, &case);
+            if number % FILES_A_TEXT == 0 {
+                (0..TEXTS).for_each(|_| {
+                    let text = texts::short(&mut rng);
+                    self.text(&mut rng, &text);
+                });
+            }
         }
     }
 
@@ -97,12 +113,71 @@ impl Run {
             let outcome = self.pages.ask_put(other.as_ref(), &case.bytes, question);
             if right.is_none() || outcome != right {
                 let words = describe(case, question, right.as_ref(), outcome.as_ref());
-                self.tally.differences += 1;
-                if self.tally.differences == 1 {
-                    report(&self.plan, &other.title(), &words, &case.bytes);
-                }
+                let kept = ("difference.dc", &case.bytes[..]);
+                differs(&mut self.tally, &self.plan, &other.title(), &words, kept);
             }
         }
+    }
+
+    /// Texts that are hashed before any file is.
+    fn texts(&mut self, rng: &mut Rng) {
+        let mut all = texts::ordinary(rng);
+        if self.plan.full {
+            all.extend(texts::long(rng));
+        }
+        for text in &all {
+            self.text(rng, text);
+        }
+        self.pairs(rng);
+    }
+
+    /// A text whole and in parts, and its folded form, which has to have the
+    /// same value hash.
+    fn text(&mut self, rng: &mut Rng, text: &[u8]) {
+        for question in hashes::questions(rng, text) {
+            self.hash(text, &question);
+        }
+        let whole = HashQuestion::new(rng, HashAsk::Value(text.len() / 2 * 2));
+        let (plain, folded) = (self.hash(text, &whole), self.hash(&folded(text), &whole));
+        if plain != folded {
+            let words = describe_hash(text, &whole, plain.as_deref(), folded.as_deref());
+            let kept = ("difference.text", text);
+            differs(&mut self.tally, &self.plan, "itself on the folded text", &words, kept);
+        }
+    }
+
+    /// Texts of one value hash, gone on with in the same way: 14 bits do not
+    /// tell how the joined texts hash.
+    fn pairs(&mut self, rng: &mut Rng) {
+        for pair in texts::pairs(rng, PAIRS) {
+            let bytes = 2 * rng.between(1, 8);
+            let more = texts::random(rng, bytes);
+            let [one, two] = pair.map(|text| {
+                self.value_hash(rng, &text);
+                self.value_hash(rng, &[text, more.clone()].concat())
+            });
+            self.tally.pairs += 1;
+            self.tally.parted += (one != two) as u64;
+        }
+    }
+
+    fn value_hash(&mut self, rng: &mut Rng, text: &[u8]) -> Option<Vec<u32>> {
+        self.hash(text, &HashQuestion::new(rng, HashAsk::Value(text.len())))
+    }
+
+    fn hash(&mut self, text: &[u8], question: &HashQuestion) -> Option<Vec<u32>> {
+        self.tally.hashes += 1;
+        let right = self.pages.ask_hash(&self.right, text, question);
+        let joined = right.as_ref().is_some_and(|hashes| question.joined(hashes));
+        for other in &self.others {
+            let hashes = self.pages.ask_hash(other.as_ref(), text, question);
+            if !joined || hashes != right {
+                let words = describe_hash(text, question, right.as_deref(), hashes.as_deref());
+                let kept = ("difference.text", text);
+                differs(&mut self.tally, &self.plan, &other.title(), &words, kept);
+            }
+        }
+        right
     }
 
     /// Buffers of every length up to what is needed and a little more.
@@ -143,13 +218,19 @@ impl Run {
     }
 }
 
-fn report(plan: &Plan, title: &str, words: &str, file: &[u8]) {
+/// Counts a difference. The first is told, and its file or text is kept.
+fn differs(tally: &mut Tally, plan: &Plan, title: &str, words: &str, kept: (&str, &[u8])) {
+    tally.differences += 1;
+    if tally.differences > 1 {
+        return;
+    }
+    let (name, bytes) = kept;
     println!("first difference, seed {}, with {title}:\n{words}", plan.seed);
-    let path = plan.found.join("difference.dc");
-    let saved = std::fs::create_dir_all(&plan.found).and_then(|()| std::fs::write(&path, file));
+    let path = plan.found.join(name);
+    let saved = std::fs::create_dir_all(&plan.found).and_then(|()| std::fs::write(&path, bytes));
     match saved {
-        Ok(()) => println!("file saved as {}", path.display()),
-        Err(error) => println!("file not saved: {error}"),
+        Ok(()) => println!("saved as {}", path.display()),
+        Err(error) => println!("not saved: {error}"),
     }
 }
 
@@ -171,5 +252,7 @@ mod tests {
         run.go();
         assert_eq!(run.tally.differences, 0);
         assert!(run.tally.questions > 1_000);
+        assert!(run.tally.hashes > 10_000);
+        assert!(run.tally.parted > 0);
     }
 }

@@ -3,6 +3,7 @@
 use std::fmt;
 
 use crate::case::Case;
+use crate::hashes::HashQuestion;
 use crate::question::{Outcome, Question};
 
 /// What was asked and what came of it.
@@ -12,6 +13,12 @@ pub struct Tally {
     pub questions: u64,
     /// How often each refusal was answered; 0 is answered without one.
     pub refusals: [u64; 27],
+    /// Questions for the hashes of a text by itself.
+    pub hashes: u64,
+    /// Pairs of texts with one value hash, and how many had two when both were
+    /// gone on with in the same way.
+    pub pairs: u64,
+    pub parted: u64,
     pub differences: u64,
 }
 
@@ -38,6 +45,8 @@ impl fmt::Display for Tally {
         for (number, count) in self.refusals.iter().enumerate().skip(1) {
             writeln!(out, "refusal {number:2}:  {count}")?;
         }
+        writeln!(out, "hashes:      {}", self.hashes)?;
+        writeln!(out, "value pairs: {}, parted {}", self.pairs, self.parted)?;
         write!(out, "differences: {}", self.differences)
     }
 }
@@ -60,6 +69,28 @@ pub fn describe(
     if let (Some(right), Some(other)) = (right, other) {
         words += &first_byte("workspace", &right.workspace, &other.workspace);
         words += &first_byte("buffer", &right.out, &other.out);
+    }
+    words
+}
+
+/// So many bytes of a text are told.
+const TOLD: usize = 4_096;
+
+/// A difference in a text's hashes, in words.
+pub fn describe_hash(
+    text: &[u8],
+    question: &HashQuestion,
+    right: Option<&[u32]>,
+    other: Option<&[u32]>,
+) -> String {
+    let hex: String = text.iter().take(TOLD).map(|byte| format!("{byte:02x}")).collect();
+    let more = if text.len() > TOLD { " and so on" } else { "" };
+    let mut words = format!("text: {} bytes, {hex}{more}\nquestion: {question:?}\n", text.len());
+    for (title, hashes) in [("second", right), ("other", other)] {
+        words += &match hashes {
+            Some(hashes) => format!("{title}: {hashes:08x?}\n"),
+            None => format!("{title}: changed the text\n"),
+        };
     }
     words
 }

@@ -1,7 +1,8 @@
 //! Finding the entry of a text, in steps that many lookups can interleave.
 
 use crate::bytes::u32_at;
-use crate::hash::{bucket, folded_string_hash, string_hash};
+use crate::definition::folded_hash;
+use crate::hash::{bucket, string_hash};
 use crate::prefetch::prefetch;
 use crate::reading::{Mutant, Reading};
 use crate::table::{Entry, Table, ENTRY};
@@ -154,7 +155,7 @@ pub fn bears<const BUCKETS: usize>(
 #[inline]
 pub fn lookup_hash<R: Reading, const BUCKETS: usize>(reading: R, text: &[u8]) -> u32 {
     if reading.wrong(Mutant::LookupFolds) && !Table::<BUCKETS>::NAMES {
-        return folded_string_hash(reading, text);
+        return folded_hash(reading, text);
     }
     string_hash(reading, text)
 }

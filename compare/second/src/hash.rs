@@ -4,18 +4,28 @@
 //! T is linear over GF(2) (T[a xor b] = T[a] xor T[b]), so the step is linear
 //! in hash and byte together, and several bytes can be taken at once from
 //! tables of T carried k steps further: the same slicing as for a plain CRC.
+//!
+//! Wrong readings hash by the definition instead.
 
 use crate::crc_table::T;
-use crate::fold::{fold, fold_four};
+use crate::definition;
+use crate::fold::{fold_block, fold_four, BLOCK};
 use crate::reading::{Mutant, Reading};
 
-/// SLICES[k][b]: T[b] after k more steps with byte 0.
-static SLICES: [[u32; 256]; 8] = slices();
+/// Bytes taken at once from a long text, and tables for them. Short texts get by
+/// with half of them, which leaves the caches to others.
+const SLICED: usize = 16;
 
-const fn slices() -> [[u32; 256]; 8] {
-    let mut all = [T; 8];
+/// A text of so many bytes is long.
+const LONG: usize = 64;
+
+/// SLICES[k][b]: T[b] after k more steps with byte 0.
+static SLICES: [[u32; 256]; SLICED] = slices();
+
+const fn slices() -> [[u32; 256]; SLICED] {
+    let mut all = [T; SLICED];
     let mut k = 1;
-    while k < 8 {
+    while k < SLICED {
         let mut b = 0;
         while b < 256 {
             let before = all[k - 1][b];
@@ -32,6 +42,17 @@ fn slice(k: usize, word: u32, byte: u32) -> u32 {
     SLICES[k][(word >> (8 * byte) & 255) as usize]
 }
 
+/// Four bytes, and k more steps with byte 0.
+#[inline(always)]
+fn word(k: usize, word: u32) -> u32 {
+    slice(k + 3, word, 0) ^ slice(k + 2, word, 1) ^ slice(k + 1, word, 2) ^ slice(k, word, 3)
+}
+
+#[inline(always)]
+fn half(hash: u32, byte: u8) -> u32 {
+    slice(0, hash ^ byte as u32, 0) ^ (hash >> 8)
+}
+
 #[inline(always)]
 pub fn one(hash: u32, character: u16) -> u32 {
     let x = hash ^ character as u32;
@@ -40,17 +61,21 @@ pub fn one(hash: u32, character: u16) -> u32 {
 
 #[inline(always)]
 pub fn two(hash: u32, characters: u32) -> u32 {
-    let x = hash ^ characters;
-    slice(3, x, 0) ^ slice(2, x, 1) ^ slice(1, x, 2) ^ slice(0, x, 3)
+    word(0, hash ^ characters)
 }
 
 #[inline(always)]
 pub fn four(hash: u32, characters: u64) -> u32 {
-    let x = hash ^ characters as u32;
-    let y = (characters >> 32) as u32;
-    let low = slice(7, x, 0) ^ slice(6, x, 1) ^ slice(5, x, 2) ^ slice(4, x, 3);
-    let high = slice(3, y, 0) ^ slice(2, y, 1) ^ slice(1, y, 2) ^ slice(0, y, 3);
-    low ^ high
+    word(4, hash ^ characters as u32) ^ word(0, (characters >> 32) as u32)
+}
+
+/// Only the first word waits for the hash before.
+#[inline(always)]
+fn eight(hash: u32, characters: u128) -> u32 {
+    let later = word(8, (characters >> 32) as u32)
+        ^ word(4, (characters >> 64) as u32)
+        ^ word(0, (characters >> 96) as u32);
+    word(12, hash ^ characters as u32) ^ later
 }
 
 /// Up to three characters, packed from the low end.
@@ -77,36 +102,59 @@ pub fn pack(bytes: &[u8]) -> u64 {
     packed
 }
 
+/// Whether a reading has other hashes than document 01.
+#[inline(always)]
+pub fn otherwise<R: Reading>(reading: R) -> bool {
+    let among = |mutants: &[Mutant]| mutants.iter().any(|&mutant| reading.wrong(mutant));
+    among(Mutant::HASHES) || among(Mutant::HASHES_ALONE)
+}
+
 /// The string hash of a text given as bytes, two a character.
 #[inline]
 pub fn string_hash<R: Reading>(reading: R, text: &[u8]) -> u32 {
-    if reading.wrong(Mutant::HashShiftsLeft) || reading.wrong(Mutant::HashHighByteFirst) {
-        return wrong_hash(reading, text);
-    }
-    let mut hash = 0;
-    let mut fours = text.chunks_exact(8);
-    for eight in &mut fours {
-        hash = four(hash, u64::from_le_bytes(eight.try_into().unwrap()));
-    }
-    let rest = fours.remainder();
-    few(hash, pack(rest), rest.len() / 2)
+    hash_on(reading, 0, text)
 }
 
-/// The string hash of the folded text, low 14 bits.
+/// The string hash, on from `start` over all bytes of the text. An odd last
+/// byte is the low byte of a character; its high byte comes with the next part.
+#[inline]
+pub fn hash_on<R: Reading>(reading: R, start: u32, text: &[u8]) -> u32 {
+    if otherwise(reading) {
+        return definition::hash_on(reading, start, text);
+    }
+    let (hash, text) = if text.len() < LONG { (start, text) } else { long(start, text) };
+    let (fours, rest) = text.as_chunks();
+    let (twos, rest) = rest.as_chunks();
+    let (ones, rest) = rest.as_chunks();
+    let hash = fours.iter().fold(hash, |hash, &x| four(hash, u64::from_le_bytes(x)));
+    let hash = twos.iter().fold(hash, |hash, &x| two(hash, u32::from_le_bytes(x)));
+    let hash = ones.iter().fold(hash, |hash, &x| one(hash, u16::from_le_bytes(x)));
+    rest.iter().fold(hash, |hash, &x| half(hash, x))
+}
+
+/// The hash of a long text but for its last bytes, and these.
+fn long(start: u32, text: &[u8]) -> (u32, &[u8]) {
+    let (all, rest) = text.as_chunks();
+    (eights(start, all), rest)
+}
+
+#[inline(always)]
+fn eights(start: u32, all: &[[u8; SLICED]]) -> u32 {
+    all.iter().fold(start, |hash, &x| eight(hash, u128::from_le_bytes(x)))
+}
+
+/// The string hash of the folded characters, low 14 bits. An odd last byte is
+/// no character.
 #[inline]
 pub fn value_hash<R: Reading>(reading: R, text: &[u8]) -> u16 {
-    if reading.wrong(Mutant::ValueHashUnfolded) {
-        return string_hash(reading, text) as u16 & 0x3fff;
+    if otherwise(reading) {
+        return definition::value_hash(reading, text);
     }
-    let mut hash = 0;
-    let mut fours = text.chunks_exact(8);
-    for eight in &mut fours {
-        let characters = u64::from_le_bytes(eight.try_into().unwrap());
-        hash = four(hash, fold_four(reading, characters));
-    }
-    let rest = fours.remainder();
-    let folded = fold_four(reading, pack(rest));
-    few(hash, folded, rest.len() / 2) as u16 & 0x3fff
+    let (blocks, rest) = text.as_chunks::<BLOCK>();
+    let (fours, rest) = rest.as_chunks();
+    let hash = blocks.iter().fold(0, |hash, block| eights(hash, fold_block(block).as_chunks().0));
+    let hash = fours.iter().fold(hash, |hash, &x| four(hash, fold_four(u64::from_le_bytes(x))));
+    few(hash, fold_four(pack(rest)), rest.len() / 2) as u16 & 0x3fff
 }
 
 /// The bucket of a hash among `buckets`.
@@ -116,31 +164,6 @@ pub fn bucket<R: Reading>(reading: R, hash: u32, buckets: usize) -> usize {
     mixed as usize % buckets
 }
 
-/// A value lookup that folds would hash the folded text.
-pub fn folded_string_hash<R: Reading>(reading: R, text: &[u8]) -> u32 {
-    text.chunks_exact(2)
-        .fold(0, |hash, pair| one(hash, fold(reading, u16::from_le_bytes([pair[0], pair[1]]))))
-}
-
-fn wrong_hash<R: Reading>(reading: R, text: &[u8]) -> u32 {
-    let mut hash: u32 = 0;
-    for pair in text.chunks_exact(2) {
-        let bytes = if reading.wrong(Mutant::HashHighByteFirst) {
-            [pair[1], pair[0]]
-        } else {
-            [pair[0], pair[1]]
-        };
-        for byte in bytes {
-            hash = if reading.wrong(Mutant::HashShiftsLeft) {
-                T[((hash >> 24) ^ byte as u32) as usize] ^ (hash << 8)
-            } else {
-                T[((hash ^ byte as u32) & 255) as usize] ^ (hash >> 8)
-            };
-        }
-    }
-    hash
-}
-
 #[cfg(test)]
 mod tests {
     use super::*;
@@ -148,11 +171,6 @@ mod tests {
 
     fn bytes(characters: &[u16]) -> Vec<u8> {
         characters.iter().flat_map(|c| c.to_le_bytes()).collect()
-    }
-
-    /// The definition of document 01, a byte at a time.
-    fn by_definition(text: &[u8]) -> u32 {
-        text.iter().fold(0, |hash, &byte| T[((hash ^ byte as u32) % 256) as usize] ^ (hash >> 8))
     }
 
     #[test]
@@ -169,26 +187,84 @@ mod tests {
     }
 
     #[test]
-    fn slicing_agrees_with_the_definition() {
+    fn vectors_in_parts() {
+        let on = |start, part: &[u8]| hash_on(Right, start, part);
+        assert_eq!(on(on(0, &[0x01]), &[0x00]), 0xa37d_1c66);
+        assert_eq!(on(on(0, &[0x61]), &[0x00]), 0x988b_d23b);
+        assert_eq!(on(on(on(0, &[]), &[0x61, 0x00]), &[]), 0x988b_d23b);
+        for start in [0, 1, 0x988b_d23b, u32::MAX] {
+            assert_eq!(on(start, &[]), start);
+        }
+    }
+
+    #[test]
+    fn odd_last_byte() {
+        // The hash takes it for a low byte: one step from 0 gives T at it.
+        assert_eq!(hash_on(Right, 0, &[0x01]), 0x04c1_1db7);
+        assert_eq!(hash_on(Right, 0, &[0xff]), 0xb1f7_40b4);
+        // The value hash leaves it out.
+        assert_eq!(value_hash(Right, &[0x61]), 0);
+        assert_eq!(value_hash(Right, &[0x61, 0x00, 0x62]), 6132);
+        assert_ne!(value_hash(Right, &[0x61, 0x00, 0x62, 0x00]), 6132);
+    }
+
+    #[test]
+    fn zero_is_a_character() {
+        assert_eq!(hash_on(Right, 0x01, &[0x00]), 0x04c1_1db7);
+        assert_ne!(string_hash(Right, &bytes(&[0x61, 0])), 0x988b_d23b);
+        assert_ne!(value_hash(Right, &bytes(&[0x61, 0])), 6132);
+        let (joined, cut) = (bytes(&[0x61, 0, 0x62]), bytes(&[0x61, 0, 0x63]));
+        assert_ne!(string_hash(Right, &joined), string_hash(Right, &cut));
+        assert_ne!(value_hash(Right, &joined), value_hash(Right, &cut));
+    }
+
+    /// Characters of all sorts, most of them below 0100.
+    fn texts() -> impl Iterator<Item = (u32, Vec<u8>)> {
         let mut seed: u32 = 1;
-        for length in 0..40 {
-            let text: Vec<u16> = (0..length)
-                .map(|_| {
-                    seed = seed.wrapping_mul(1_664_525).wrapping_add(1_013_904_223);
-                    let wide = (seed >> 12) as u16;
-                    if seed >> 31 == 0 {
-                        wide & 0xff
-                    } else {
-                        wide
-                    }
-                })
-                .collect();
-            assert_eq!(string_hash(Right, &bytes(&text)), by_definition(&bytes(&text)));
-            let folded: Vec<u16> = text.iter().map(|&c| fold(Right, c)).collect();
+        (0..300).map(move |length| {
+            let text = (0..length).map(|i| {
+                seed = seed.wrapping_mul(1_664_525).wrapping_add(1_013_904_223);
+                let ascii = length % 3 == 0;
+                let high = i % 2 == 1 && (ascii || seed >> 30 != 0);
+                (if high { 0 } else { seed >> 23 & if ascii { 0x7f } else { 0xff } }) as u8
+            });
+            let text = text.collect();
+            (seed, text)
+        })
+    }
+
+    #[test]
+    fn slicing_agrees_with_the_definition() {
+        for (start, text) in texts() {
             assert_eq!(
-                value_hash(Right, &bytes(&text)),
-                by_definition(&bytes(&folded)) as u16 & 0x3fff
+                hash_on(Right, start, &text),
+                definition::hash_on(Right, start, &text),
+                "{text:02x?} from {start:08x}"
             );
+            assert_eq!(
+                value_hash(Right, &text),
+                definition::value_hash(Right, &text),
+                "{text:02x?}"
+            );
+        }
+    }
+
+    #[test]
+    fn parts_go_on_to_the_whole() {
+        for (start, text) in texts() {
+            let whole = hash_on(Right, start, &text);
+            for cut in 0..=text.len() {
+                let (first, second) = text.split_at(cut);
+                assert_eq!(hash_on(Right, hash_on(Right, start, first), second), whole);
+            }
+        }
+    }
+
+    #[test]
+    fn folded_text_has_the_same_value_hash() {
+        for (_, text) in texts() {
+            let folded = definition::folded(Right, &text);
+            assert_eq!(value_hash(Right, &folded), value_hash(Right, &text));
         }
     }
 }

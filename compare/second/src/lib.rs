@@ -11,6 +11,7 @@ mod answer;
 mod bytes;
 mod crc_table;
 mod cursor;
+mod definition;
 mod escape;
 mod find;
 mod fold;
@@ -44,7 +45,7 @@ pub use questions::Loader;
 pub use reading::{Mutant, Reading, Right, Wrong};
 pub use view::View;
 
-/// The hashes, for whoever makes files.
+/// The hashes, for whoever makes files or checks hashes.
 pub mod hashes {
     use crate::reading::Right;
 
@@ -54,5 +55,24 @@ pub mod hashes {
 
     pub fn value_hash(text: &[u8]) -> u16 {
         crate::hash::value_hash(Right, text)
+    }
+
+    /// The folded characters of a text.
+    pub fn folded(text: &[u8]) -> Vec<u8> {
+        crate::definition::folded(Right, text)
+    }
+
+    /// The questions for hashes by the words of document 01, a byte at a time.
+    pub mod by_definition {
+        use crate::definition;
+        use crate::reading::Right;
+
+        pub fn hash(start: u32, text: &[u8]) -> u32 {
+            definition::hash_on(Right, start, text)
+        }
+
+        pub fn value_hash(text: &[u8]) -> u16 {
+            definition::value_hash(Right, text)
+        }
     }
 }

@@ -1,6 +1,8 @@
-//! The exported questions: each accepts first and then asks the view.
+//! The exported questions: each accepts first and then asks the view. The two
+//! hashes take no file.
 
 use crate::answer::{Answer, HeaderReport, Refusal};
+use crate::hash;
 use crate::index::Index;
 use crate::lookup::{list_fault, text_fault, Which};
 use crate::reading::{Mutant, Reading};
@@ -85,6 +87,17 @@ impl<R: Reading, I: Index> Loader<R, I> {
                 ..HeaderReport::default()
             },
         }
+    }
+
+    /// The string hash, on from `start` over all bytes of the text: `start` 0
+    /// gives the hash of a text, and the hash of a part is the next one's start.
+    pub fn hash(&self, start: u32, text: &[u8]) -> u32 {
+        hash::hash_on(self.reading, start, text)
+    }
+
+    /// The value hash of the whole characters of the text.
+    pub fn value_hash(&self, text: &[u8]) -> u16 {
+        hash::value_hash(self.reading, text)
     }
 }
 

@@ -68,6 +68,7 @@ mutants! {
     TextPastUsed: "a 0 past the used part ends a text",
     LengthWithoutZero: "length does not count the 0",
     HashShiftsLeft: "the hash shifts left",
+    HashShiftsByFour: "the hash shifts by 4",
     HashHighByteFirst: "the hash takes the high byte first",
     BucketWithoutFold: "the bucket is the hash modulo the bucket number",
     BucketNotChecked: "an entry may stand in any bucket",
@@ -99,6 +100,8 @@ mutants! {
     FloatExtendedFree: "a float may have any extended code",
     ValueAnyType: "`__value__` may have any type",
     ValueHashUnfolded: "the value hash does not fold",
+    FoldAfterHash: "the value hash folds the hash, not the text",
+    ValueHashOf16Bits: "the value hash keeps 16 bits",
     Fold0151Stays: "0151 folds to itself",
     FoldF7: "00f7 folds like its neighbours",
     Fold009cStays: "009c folds to itself",
@@ -151,4 +154,41 @@ mutants! {
     NoLastNewline: "the outline's last newline is left out",
     TimestampMadePlain: "a NaN timestamp loses its bits",
     BatchAbsentKeepsPlace: "an absent text of a batch leaves its place",
+    // The hashes of a text by itself.
+    StartIgnored: "a hash always starts at 0",
+    StartAfterText: "the part before is hashed after the text",
+    StartXored: "the hash of two parts is the xor of their hashes",
+    OddByteDropped: "an odd last byte is left out of the hash",
+    OddBytePadded: "an odd last byte is hashed with a high byte of 0",
+    OddByteIsCharacter: "an odd last byte is a character of the value hash",
+    ZeroEndsHash: "a 0 character ends the text of the hash",
+    ZeroEndsValueHash: "a 0 character ends the text of the value hash",
+}
+
+impl Mutant {
+    /// Those that change the hashes of texts as files hold them.
+    pub const HASHES: &'static [Mutant] = &[
+        Mutant::HashShiftsLeft,
+        Mutant::HashShiftsByFour,
+        Mutant::HashHighByteFirst,
+        Mutant::ValueHashUnfolded,
+        Mutant::FoldAfterHash,
+        Mutant::ValueHashOf16Bits,
+        Mutant::Fold0151Stays,
+        Mutant::FoldF7,
+        Mutant::Fold009cStays,
+    ];
+
+    /// Those that no file shows: its texts are hashed from 0 and have whole
+    /// characters, none of them 0.
+    pub const HASHES_ALONE: &'static [Mutant] = &[
+        Mutant::StartIgnored,
+        Mutant::StartAfterText,
+        Mutant::StartXored,
+        Mutant::OddByteDropped,
+        Mutant::OddBytePadded,
+        Mutant::OddByteIsCharacter,
+        Mutant::ZeroEndsHash,
+        Mutant::ZeroEndsValueHash,
+    ];
 }

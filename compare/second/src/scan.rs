@@ -1,8 +1,8 @@
 //! Reading a text up to its 0, four characters at a time, with its hashes.
 
 use crate::fold::fold_four;
-use crate::hash::{few, four, one, string_hash, value_hash};
-use crate::reading::{Mutant, Reading};
+use crate::hash::{few, four, one, otherwise, string_hash, value_hash};
+use crate::reading::Reading;
 
 /// A text that ends in a 0: its length in bytes, without the 0, and hashes.
 pub struct Scanned {
@@ -34,13 +34,13 @@ pub fn scan<R: Reading>(reading: R, chars: &[u8], with_value_hash: bool) -> Opti
             let last = characters & !(u64::MAX << (16 * left));
             hash = few(hash, last, left);
             if with_value_hash {
-                folded = few(folded, fold_four(reading, last), left);
+                folded = few(folded, fold_four(last), left);
             }
             return Some(scanned(reading, &chars[..at + 2 * left], hash, folded));
         }
         hash = four(hash, characters);
         if with_value_hash {
-            folded = four(folded, fold_four(reading, characters));
+            folded = four(folded, fold_four(characters));
         }
         at += 8;
     }
@@ -51,7 +51,7 @@ pub fn scan<R: Reading>(reading: R, chars: &[u8], with_value_hash: bool) -> Opti
         }
         hash = one(hash, character);
         if with_value_hash {
-            folded = one(folded, fold_four(reading, character as u64) as u16);
+            folded = one(folded, fold_four(character as u64) as u16);
         }
         at += 2;
     }
@@ -60,10 +60,7 @@ pub fn scan<R: Reading>(reading: R, chars: &[u8], with_value_hash: bool) -> Opti
 
 #[inline(always)]
 fn scanned<R: Reading>(reading: R, text: &[u8], hash: u32, folded: u32) -> Scanned {
-    let another_hash = reading.wrong(Mutant::HashShiftsLeft)
-        || reading.wrong(Mutant::HashHighByteFirst)
-        || reading.wrong(Mutant::ValueHashUnfolded);
-    if another_hash {
+    if otherwise(reading) {
         return Scanned {
             bytes: text.len(),
             hash: string_hash(reading, text),

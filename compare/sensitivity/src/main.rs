@@ -1,6 +1,7 @@
 //! Shows that the comparison's questions tell wrong readings of document 01
 //! from the right one: each mutant of the second loader has to differ in an
-//! answer or a buffer somewhere.
+//! answer or a buffer somewhere. Those of the hashes have to differ in a hash
+//! of a text by itself too, whatever files show.
 
 mod suspects;
 
@@ -10,10 +11,13 @@ use std::time::{Duration, Instant};
 use compare::asks::asks;
 use compare::case::{random, Case};
 use compare::guard::Edge;
+use compare::hashes;
 use compare::question::{Ask, Question};
 use compare::sparse::Largest;
 use compare::sweep::{cut_counts, cuts, limits};
+use compare::texts::ordinary;
 use maker::rng::Rng;
+use second::Mutant;
 
 use suspects::Suspects;
 
@@ -31,7 +35,7 @@ fn case(suspects: &mut Suspects, rng: &mut Rng, case: &Case) {
 }
 
 /// Random files first, then the sweeps and limits that random ones rarely hit.
-fn run(suspects: &mut Suspects, seed: u64) {
+fn files(suspects: &mut Suspects, seed: u64) {
     let started = Instant::now();
     let done = |suspects: &Suspects| suspects.all_caught() || started.elapsed() > BUDGET;
     let mut rng = Rng::new(seed);
@@ -59,15 +63,29 @@ fn run(suspects: &mut Suspects, seed: u64) {
     }
 }
 
+/// The texts that every comparison hashes.
+fn texts(suspects: &mut Suspects, seed: u64) {
+    let mut rng = Rng::new(seed);
+    for text in ordinary(&mut rng) {
+        for question in hashes::questions(&mut rng, &text) {
+            suspects.hash(&text, &question);
+        }
+    }
+}
+
 fn main() -> ExitCode {
     let seed = std::env::args().nth(1).and_then(|word| word.parse().ok()).unwrap_or(1);
     // A mutant may run into its own mistake and panic; that is a difference
     // too, and needs no words of its own.
     std::panic::set_hook(Box::new(|_| {}));
-    let mut suspects = Suspects::new();
-    run(&mut suspects, seed);
-    print!("{suspects}");
-    if suspects.all_caught() {
+    let alone = Mutant::HASHES_ALONE.iter().copied();
+    let shown = Mutant::ALL.iter().copied().filter(|mutant| !Mutant::HASHES_ALONE.contains(mutant));
+    let mut by_files = Suspects::new(shown);
+    files(&mut by_files, seed);
+    let mut by_texts = Suspects::new(Mutant::HASHES.iter().copied().chain(alone));
+    texts(&mut by_texts, seed);
+    print!("files:\n{by_files}texts by themselves:\n{by_texts}");
+    if by_files.all_caught() && by_texts.all_caught() {
         ExitCode::SUCCESS
     } else {
         ExitCode::FAILURE

@@ -3,8 +3,9 @@
 use std::fmt;
 use std::panic::{catch_unwind, AssertUnwindSafe};
 
+use compare::hashes::HashQuestion;
 use compare::loader::Second;
-use compare::question::{Outcome, Pages, Question};
+use compare::question::{Pages, Question};
 use second::{Mutant, Plain, Right, Wrong};
 
 struct Suspect {
@@ -22,8 +23,8 @@ pub struct Suspects {
 }
 
 impl Suspects {
-    pub fn new() -> Suspects {
-        let all = Mutant::ALL.iter().map(|&mutant| Suspect {
+    pub fn new(mutants: impl Iterator<Item = Mutant>) -> Suspects {
+        let all = mutants.map(|mutant| Suspect {
             mutant,
             loader: Second::new(mutant.words(), Wrong(mutant)),
             caught: None,
@@ -52,10 +53,16 @@ impl Suspects {
         self.each(right, |pages, loader| Some(pages.ask(loader, file, question)));
     }
 
-    fn each(
+    /// Asks for the hashes of a text by itself.
+    pub fn hash(&mut self, text: &[u8], question: &HashQuestion) {
+        let right = self.pages.ask_hash(&self.right, text, question);
+        self.each(right, |pages, loader| pages.ask_hash(loader, text, question));
+    }
+
+    fn each<T: PartialEq>(
         &mut self,
-        right: Option<Outcome>,
-        ask: impl Fn(&mut Pages, &Second<Wrong, Plain>) -> Option<Outcome>,
+        right: Option<T>,
+        ask: impl Fn(&mut Pages, &Second<Wrong, Plain>) -> Option<T>,
     ) {
         self.questions += 1;
         for suspect in self.all.iter_mut().filter(|suspect| suspect.caught.is_none()) {
