@@ -1,3 +1,4 @@
 pub mod Nan
 pub mod Four
 pub mod Numbers
+pub mod Agree

@@ -4,3 +4,4 @@ pub mod Passed
 pub mod Words
 pub mod OneByOne
 pub mod Counted
+pub mod Agree
