@@ -3,3 +3,4 @@ pub mod Given
 pub mod Held
 pub mod Numbers
 pub mod Groups
+pub mod Agree

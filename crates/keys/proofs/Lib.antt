@@ -1,3 +1,4 @@
 pub mod Only
 pub mod Laws
 pub mod Accepted
+pub mod Agree

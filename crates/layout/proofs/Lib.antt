@@ -4,3 +4,4 @@ pub mod Parts
 pub mod Filled
 pub mod Ways
 pub mod Seen
+pub mod Agree

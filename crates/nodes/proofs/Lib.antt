@@ -10,3 +10,4 @@ pub mod Values
 pub mod Types
 pub mod Attributes
 pub mod Addresses
+pub mod Agree

@@ -8,3 +8,4 @@ pub mod Checks
 pub mod Runs
 pub mod Left
 pub mod Only
+pub mod Agree

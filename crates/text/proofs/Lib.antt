@@ -5,3 +5,4 @@ pub mod Words
 pub mod OneByOne
 pub mod Counted
 pub mod AsBytes
+pub mod Agree

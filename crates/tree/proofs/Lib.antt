@@ -13,3 +13,4 @@ pub mod Left
 pub mod Passing
 pub mod OneRange
 pub mod Outcomes
+pub mod Agree
