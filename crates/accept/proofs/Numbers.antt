@@ -17,7 +17,7 @@ use Rattle.nodes.specs.Order.{attributeChecks, nodeAttributeChecks, nodeChecks,
 use Rattle.nodes.specs.Node.{nodeAt}
 use Rattle.tree.specs.Outcome.{workspaceAfter}
 
-abbrev clearing : ℕ → Bool
+abbrev pub clearing : ℕ → Bool
 clearing n = eqb n 21 || eqb n 22
 
 -- no check of the list clears the workspace
@@ -25,11 +25,11 @@ unfoldable pub Calm : List Check → Type 0
 Calm [] = Unit
 Calm (check n p P d ∷ cs) = T (not (clearing n)) × Calm cs
 
-calm-none : Calm []
+pub calm-none : Calm []
 unfolding Calm
 calm-none = tt
 
-calm-more : (n p : ℕ) (P : Type 0) (d : Dec P) (cs : List Check) → T (not (clearing n)) → Calm cs → Calm (check n p P d ∷ cs)
+pub calm-more : (n p : ℕ) (P : Type 0) (d : Dec P) (cs : List Check) → T (not (clearing n)) → Calm cs → Calm (check n p P d ∷ cs)
 unfolding Calm
 calm-more n p P d cs t a = (t, a)
 
@@ -44,7 +44,7 @@ calm-each f zero i g = calm-none
 calm-each f (suc n) i g = calm-append (f i) (each f n (i + 1)) (g i) (calm-each f n (i + 1) g)
 
 -- so the workspace stays where such a list refuses
-calm-number : (cs : List Check) {n p : ℕ} → Calm cs → firstFault cs ≡ Refused n p → T (not (clearing n))
+pub calm-number : (cs : List Check) {n p : ℕ} → Calm cs → firstFault cs ≡ Refused n p → T (not (clearing n))
 unfolding firstFault Calm
 calm-number [] a e = absurd (never e refl)
 calm-number (check m q P (yes h) ∷ cs) a e = calm-number cs (a .1) e

@@ -1,5 +1,5 @@
 -- What acceptance gives to whoever holds the file: each address that an entry, a list, a node or an attribute names resolves, each text ends,
--- and the used nodes form a tree.
+-- and the nodes that chains from the root reach form a tree. Nodes that no chain reaches may form loops.
 use Prim.Native.Nat.{ℕ, _+_, _≤_, _<_}
 use mathlib.Core.Path.{_≡_}
 use mathlib.Core.List.{List}

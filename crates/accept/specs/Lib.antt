@@ -3,3 +3,4 @@ pub mod Rules
 pub mod Given
 pub mod Accepted
 pub mod Held
+pub mod Refusals

@@ -15,8 +15,7 @@ use Rattle.path.proofs.Found.{Follows, pairs-mono, before-irrefl, beari
 -- in a tree where no node has two chains from the root
 module _ (t : Tree) (text : ℕ → List ℕ) (xs : List (List ℕ)) (u : (ps qs : List ℕ) (e : ℕ) → Chain t ps 0 e → Chain t qs 0 e → ps ≡ qs) where
   document : (a b : ℕ) → Follows t text xs 0 a b → DocumentBefore t a b
-  document a b f ps qs g h =
-      rw (u ps (f .0) a g (bearing-chain t text xs (f .0) 0 a (f .2)), u qs (f .1) b h (bearing-chain t text xs (f .1) 0 b (f .3))) (f .4)
+  document a b f = (f .0, f .1, bearing-chain t text xs (f .0) 0 a (f .2), bearing-chain t text xs (f .1) 0 b (f .3), f .4)
 
   distinct : (a b : ℕ) → Follows t text xs 0 a b → a ≡ b → ⊥
   distinct a b f q =

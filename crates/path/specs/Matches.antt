@@ -16,9 +16,10 @@ BearingChain t text (x ∷ xs) (j ∷ ps) a e =
 abbrev pub Match : Tree → (ℕ → List ℕ) → List (List ℕ) → ℕ → Type 0
 Match t text xs e = (ps : List ℕ) × BearingChain t text xs ps 0 e
 
--- Node a is before node b in document order: so are any chains from the root that lead to them.
+-- Node a is before node b in document order: chains from the root lead to them, and that of a is before that of b. (On an accepted
+-- file no node has two chains.)
 abbrev pub DocumentBefore : Tree → ℕ → ℕ → Type 0
-DocumentBefore t a b = (ps qs : List ℕ) → Chain t ps 0 a → Chain t qs 0 b → Before ps qs
+DocumentBefore t a b = (ps : List ℕ) × (qs : List ℕ) × Chain t ps 0 a × Chain t qs 0 b × Before ps qs
 
 -- l lists the matches: each match, no other node, each once, in document order; and no node has two chains.
 pub record Listed (t : Tree) (text : ℕ → List ℕ) (xs : List (List ℕ)) (l : List ℕ) : Type 0 where

@@ -5,3 +5,9 @@ pub mod Filled
 pub mod Held
 pub mod EachPlace
 pub mod BothHashes
+pub mod Refusing
+pub mod Demand1
+pub mod DemandBuffers
+pub mod Demand2
+pub mod Demand3
+pub mod Demands

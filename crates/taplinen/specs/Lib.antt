@@ -2,3 +2,4 @@ pub mod Answers
 pub mod Questions
 pub mod Batches
 pub mod Hashes
+pub mod Demands

@@ -9,6 +9,7 @@ pub mod Accepted
 pub mod Fills
 pub mod Numbers
 pub mod Marking
+pub mod Bytes
 pub mod Left
 pub mod Passing
 pub mod OneRange

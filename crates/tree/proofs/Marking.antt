@@ -189,13 +189,13 @@ module _ (b : List ℕ) (g : Laid nodeSize b (nodesAt b)) where
   marks-length [] = refl
   marks-length (x ∷ l) = ap suc (marks-length l)
 
-  marks-at : (l : List ℕ) (i : ℕ) → i < length l → getD (marksOf b l) i 0 ≡ markBy (isChild? b (getD l i 0))
+  pub marks-at : (l : List ℕ) (i : ℕ) → i < length l → getD (marksOf b l) i 0 ≡ markBy (isChild? b (getD l i 0))
   unfolding marksOf
   marks-at [] i h = absurd (not-suc-le-zero h)
   marks-at (x ∷ l) zero h = refl
   marks-at (x ∷ l) (suc i) h = marks-at l i (omega arith)
 
-  all-marks : length (marksOf b (allUsed nodeSize b (nodesAt b))) ≡ usedNodes b
+  pub all-marks : length (marksOf b (allUsed nodeSize b (nodesAt b))) ≡ usedNodes b
   unfolding usedNodes
   all-marks = marks-length (allUsed nodeSize b (nodesAt b)) ∙ all-length nodeSize b (nodesAt b)
 

@@ -17,6 +17,21 @@ firstFault [] = Accepted
 firstFault (check n p P (yes h) ∷ cs) = firstFault cs
 firstFault (check n p P (no h) ∷ cs) = Refused n p
 
+-- Every rule of a list of checks holds.
+unfoldable pub Holds : List Check → Type 0
+Holds [] = Unit
+Holds (check n p P d ∷ cs) = P × Holds cs
+
+-- The rule numbered n, with place p, is the first of a list of checks that is broken: every rule before it in the list holds.
+pub record FirstBroken (cs : List Check) (n p : ℕ) : Type 1 where
+  pub before : List Check
+  pub rule : Type 0
+  pub decided : Dec rule
+  pub after : List Check
+  pub order : cs ≡ before ++ (check n p rule decided ∷ after)
+  pub hold : Holds before
+  pub broken : rule → ⊥
+
 -- The checks f i, then f (i + 1), .. so many.
 unfoldable pub each : (ℕ → List Check) → ℕ → ℕ → List Check
 each f zero i = []

@@ -1,0 +1,85 @@
+-- Demand 1: one numbered refusal, buffers as they were, lengths kept. Assumes nothing.
+use Prim.Native.Nat.{ℕ, _+_, _*_, _/_, _≤_}
+use native.Mathlib.Omega.{arith}
+use mathlib.Core.Path.{_≡_, refl, ap, sym, _∙_}
+use mathlib.Core.Logic.{_⊎_, inl, inr, ⊎-elim}
+use mathlib.Core.List.{List, [], _∷_, _++_}
+use lib.ListN.{length, drop}
+use Rattle.verdict.specs.Checks.{Check, check, firstFault}
+use Rattle.verdict.specs.declared.Verdict.{Verdict}
+use Rattle.verdict.specs.declared.Verdict.the-variants.{Accepted, Refused}
+use Rattle.verdict.proofs.Laws.{append-inv, clean-inv}
+use Rattle.verdict.proofs.Broken.{AllOf, all-none, all-more, all-append}
+use Rattle.layout.specs.Header.{headerOf}
+use Rattle.lookup.specs.Asked.{textChecks}
+use Rattle.lookup.specs.Kinds.{kindOf, numberOf}
+use Rattle.path.specs.Names.{namesOf, pathChecks}
+use Rattle.path.specs.Listing.{pathMatches, encode, listingChecks, listingAfter}
+use Rattle.path.proofs.Written.{length-encode}
+use Rattle.batch.specs.Places.{places, placeChecks, answersAfter}
+use Rattle.outline.specs.Outline.{outlineOf}
+use Rattle.outline.specs.Outlined.{outlineChecks, outlineAfter}
+use Rattle.accept.specs.Verdict.{acceptChecks, verdictOf}
+use Rattle.taplinen.specs.Answers.{answered, reported}
+use Rattle.taplinen.specs.Questions.{acceptAnswer, headerAnswer, textVerdict, nameAnswer, valueAnswer, pathVerdict, pathAnswer, pathListing, outlineVerdict, outlineAnswer, outlineBuffer}
+use Rattle.taplinen.specs.Batches.{batchVerdict, batchAnswer, namePlaces, valuePlaces}
+use Rattle.taplinen.specs.Demands.{OneOf, OfFile, Numbers, Untouched}
+use Rattle.taplinen.proofs.Refusing.{verdict-cases, accepted-0, refused-number, file-number, question-number, refused-kept}
+
+-- ---- the numbers of the questions' own checks
+
+text-own : (q : List ℕ) → AllOf (λ n p P. (P → ⊥) → n ≡ 24) (textChecks q)
+unfolding textChecks
+text-own q = all-more _ _ _ _ _ _ (λ f. refl) (all-none _)
+
+path-own : (Q : ℕ → Type 0) → Q 24 → (q : List ℕ) → AllOf (λ n p P. (P → ⊥) → Q n) (pathChecks q)
+unfolding pathChecks
+path-own Q x q = all-more _ _ _ _ _ _ (λ f. x) (all-more _ _ _ _ _ _ (λ f. x) (all-none _))
+
+-- 24 or 25
+abbrev Two : ℕ → Type 0
+Two n = (n ≡ 24) ⊎ (n ≡ 25)
+
+listing-own : (b q : List ℕ) (room : ℕ) → AllOf (λ n p P. (P → ⊥) → Two n) (pathChecks q ++ listingChecks b q room)
+unfolding listingChecks
+listing-own b q room = all-append _ _ _ (path-own Two (inl refl) q) (all-more _ _ _ _ _ _ (λ f. inr refl) (all-none _))
+
+place-own : (q : List ℕ) (room : ℕ) → AllOf (λ n p P. (P → ⊥) → Two n) (pathChecks q ++ placeChecks q room)
+unfolding placeChecks
+place-own q room = all-append _ _ _ (path-own Two (inl refl) q) (all-more _ _ _ _ _ _ (λ f. inr refl) (all-none _))
+
+outline-own : (b : List ℕ) (room : ℕ) → AllOf (λ n p P. (P → ⊥) → n ≡ 26) (outlineChecks b room)
+unfolding outlineChecks
+outline-own b room = all-more _ _ _ _ _ _ (λ f. refl) (all-none _)
+
+module _ (b : List ℕ) (room : ℕ) where
+  accept-one : (v : Verdict) → verdictOf b room ≡ v → (k m : ℕ) → OneOf OfFile (answered v k m .refusal)
+  unfolding answered
+  accept-one Accepted e k m = inl refl
+  accept-one (Refused n p) e k m = inr (file-number b room e)
+
+  header-one : (v : Verdict) → verdictOf b room ≡ v → OneOf OfFile (reported v (headerOf b) .refusal)
+  unfolding reported
+  header-one Accepted e = inl refl
+  header-one (Refused n p) e = inr (file-number b room e)
+
+  pub numbers : Numbers b room
+  unfolding acceptAnswer headerAnswer nameAnswer valueAnswer textVerdict pathAnswer pathVerdict batchAnswer batchVerdict outlineAnswer outlineVerdict
+  numbers = record {
+    accept = accept-one (verdictOf b room) refl _ _;
+    header = header-one (verdictOf b room) refl;
+    name = λ q. question-number b room (textChecks q) (λ n. n ≡ 24) (text-own q) _ _;
+    value = λ q. question-number b room (textChecks q) (λ n. n ≡ 24) (text-own q) _ _;
+    path = λ q list. question-number b room (pathChecks q ++ listingChecks b q list) Two (listing-own b q list) _ _;
+    texts = λ q answers. question-number b room (pathChecks q ++ placeChecks q answers) Two (place-own q answers) _ _;
+    outline = λ out. question-number b room (outlineChecks b out) (λ n. n ≡ 26) (outline-own b out) _ _;
+  }
+
+  pub untouched : Untouched b room
+  unfolding pathAnswer pathListing batchAnswer namePlaces valuePlaces outlineAnswer outlineBuffer listingAfter answersAfter outlineAfter
+  untouched = record {
+    listing = λ q d f. refused-kept d (listingAfter b q d) (λ n p. refl) _ _ _ f;
+    names = λ q d f. refused-kept d (answersAfter _ q d) (λ n p. refl) _ _ _ f;
+    values = λ q d f. refused-kept d (answersAfter _ q d) (λ n p. refl) _ _ _ f;
+    outline = λ d f. refused-kept d (outlineAfter b d) (λ n p. refl) _ _ _ f;
+  }

@@ -1,0 +1,117 @@
+-- Demand 2: acceptance exactly by the rules, refusal for the first fault, and lookups exactly by the entries. Assumes nothing.
+use Prim.Native.Nat.{ℕ, _+_, _*_, _%_, _≤_}
+use native.Mathlib.Omega.{arith}
+use mathlib.Core.Path.{_≡_, refl, ap, sym, _∙_}
+use mathlib.Core.Logic.{_↔_}
+use mathlib.Core.List.{List}
+use lib.ListN.{length}
+use Rattle.verdict.specs.Checks.{FirstBroken}
+use Rattle.verdict.specs.declared.Verdict.the-variants.{Accepted, Refused}
+use Rattle.verdict.proofs.Broken.{broken-iff}
+use Rattle.layout.specs.Table.{Table, indexOf, segmentOf, elementOf}
+use Rattle.layout.specs.Layout.{values, names}
+use Rattle.strings.proofs.Accepted.{strings-iff}
+use Rattle.tree.specs.File.{address, usedNodes}
+use Rattle.lookup.specs.Lookup.{textFrom, Borne, BorneWith, indexOfText, addressOfText}
+use Rattle.lookup.specs.Kinds.{toldIn, tableOf, kindOf, numberOf}
+use Rattle.lookup.specs.declared.Kind.the-variants.{Name, Value}
+use Rattle.lookup.specs.declared.Lookup.{Lookup}
+use Rattle.lookup.specs.declared.Lookup.the-variants.{Found, Absent}
+use Rattle.lookup.proofs.Found.{index-found-iff, index-absent-iff, address-found-iff, address-absent-iff}
+use Rattle.accept.specs.Verdict.{acceptChecks, verdictOf}
+use Rattle.accept.specs.Rules.{FileRules}
+use Rattle.accept.specs.Refusals.{Broken}
+use Rattle.accept.proofs.Accepted.{accepted-iff}
+use Rattle.accept.proofs.Rows.{refused-row}
+use Rattle.taplinen.specs.Answers.{answered}
+use Rattle.taplinen.specs.Questions.{acceptAnswer, textAnswer, nameAnswer, valueAnswer}
+use Rattle.taplinen.specs.Demands.{Refuses, Acceptance, Finds, Lookups}
+use Rattle.taplinen.specs.declared.answer.Answer.{Answer}
+use Rattle.taplinen.proofs.Held.{text-told}
+use Rattle.taplinen.proofs.Refusing.{accepted-0, accepted-value, refused-number, refuses-verdict, file-number, zero-accepted}
+
+-- ---- the first sentence
+
+module _ (b : List ℕ) (room : ℕ) where
+  pub accept-zero : acceptAnswer b room .refusal ≡ 0 → verdictOf b room ≡ Accepted
+  unfolding acceptAnswer
+  accept-zero z = zero-accepted b room 0 (usedNodes b) z
+
+  zero-accept : verdictOf b room ≡ Accepted → (acceptAnswer b room .refusal ≡ 0) × (acceptAnswer b room .value ≡ usedNodes b)
+  unfolding acceptAnswer
+  zero-accept e = (accepted-0 0 (usedNodes b) e, accepted-value 0 (usedNodes b) e)
+
+  accept-refused : (n p : ℕ) → Refuses (acceptAnswer b room) n p → verdictOf b room ≡ Refused n p
+  unfolding acceptAnswer
+  accept-refused n p r = refuses-verdict 0 (usedNodes b) (verdictOf b room) r
+
+  refused-accept : (n p : ℕ) → verdictOf b room ≡ Refused n p → Refuses (acceptAnswer b room) n p
+  unfolding acceptAnswer
+  refused-accept n p e =
+      let w = refused-number 0 (usedNodes b) e in
+      let f = file-number b room e in
+      record { refused = λ z. omega arith; number = w .0; place = w .1 }
+
+  first-broken : (n p : ℕ) → (verdictOf b room ≡ Refused n p) ↔ FirstBroken (acceptChecks b room) n p
+  unfolding verdictOf
+  first-broken n p = broken-iff (acceptChecks b room) n p
+
+  pub acceptance : Acceptance b room
+  acceptance = record {
+    accepted = (λ z. accepted-iff b room .0 (accept-zero z), λ w. zero-accept (accepted-iff b room .1 w) .0);
+    refused = λ n p. (λ r. first-broken n p .0 (accept-refused n p r), λ f. refused-accept n p (first-broken n p .1 f));
+    row = λ n p r. refused-row b room (accept-refused n p r);
+    value = λ z. zero-accept (accept-zero z) .1;
+  }
+
+-- ---- the second sentence
+
+-- the numbers of a lookup
+found-numbers : (l : Lookup) (i : ℕ) → ((kindOf l ≡ 0) × (numberOf l ≡ i)) ↔ (l ≡ Found i)
+unfolding kindOf numberOf
+found-numbers (Found n) i = (λ w. ap Found (w .1), λ e. (refl, (cc)))
+found-numbers Absent i = (λ w. absurd (omega (arith, w .0)), λ e. let z : _≡_ {A = ℕ} 0 1 = cc in absurd (omega arith))
+
+absent-number : (l : Lookup) → (kindOf l ≡ 1) ↔ (l ≡ Absent)
+unfolding kindOf
+absent-number (Found n) = (λ e. absurd (omega arith), λ e. let z : _≡_ {A = ℕ} 0 1 = cc in absurd (omega arith))
+absent-number Absent = (λ e. refl, λ e. refl)
+
+finds : (t : Table) (f : ℕ → ℕ → ℕ) (x : List ℕ) (l : Lookup) (r : Answer) → r ≡ answered Accepted (kindOf l) (numberOf l)
+    → ((i : ℕ) → (l ≡ Found i) ↔ BorneWith f t x i) → ((l ≡ Absent) ↔ (Borne t x → ⊥)) → Finds t f x r
+unfolding answered
+finds t f x l r e g h =
+    let k : r .kind ≡ kindOf l = ap (λ (a : Answer). a .kind) e in
+    let v : r .value ≡ numberOf l = ap (λ (a : Answer). a .value) e in
+    record {
+      answered = ap (λ (a : Answer). a .refusal) e;
+      found = λ i. (
+        λ w. g i .0 (found-numbers l i .0 (sym k ∙ w .0, sym v ∙ w .1)),
+        λ w. let u = found-numbers l i .1 (g i .1 w) in (k ∙ u .0, v ∙ u .1),
+      );
+      absent = (λ z. h .0 (absent-number l .0 (sym k ∙ z)), λ w. k ∙ absent-number l .1 (h .1 w));
+    }
+
+module _ (b : List ℕ) (room : ℕ) (q : List ℕ) (z : acceptAnswer b room .refusal ≡ 0) (even : length q % 2 ≡ 0) where
+  rules : FileRules b
+  rules = accepted-iff b room .0 (accept-zero b room z) .0
+
+  name-told : nameAnswer b room q ≡ answered Accepted (kindOf (indexOfText (names b) (textFrom q))) (numberOf (indexOfText (names b) (textFrom q)))
+  unfolding nameAnswer textAnswer toldIn tableOf
+  name-told = text-told Name b room q (accept-zero b room z) even
+
+  value-told : valueAnswer b room q ≡ answered Accepted (kindOf (addressOfText (values b) (textFrom q))) (numberOf (addressOfText (values b) (textFrom q)))
+  unfolding valueAnswer textAnswer toldIn tableOf
+  value-told = text-told Value b room q (accept-zero b room z) even
+
+  pub lookups : Lookups b room q
+  lookups = record {
+    name =
+        finds (names b) (indexOf (names b)) (textFrom q) _ _ name-told
+        (λ i. index-found-iff (names b) (textFrom q) (strings-iff (names b) .1 (rules .name-table)) i)
+        (index-absent-iff (names b) (textFrom q) (strings-iff (names b) .1 (rules .name-table)));
+    value =
+        finds (values b) _ (textFrom q) _ _ value-told
+        (λ i. address-found-iff (values b) (textFrom q) (strings-iff (values b) .1 (rules .value-table)) i)
+        (address-absent-iff (values b) (textFrom q) (strings-iff (values b) .1 (rules .value-table)));
+  }

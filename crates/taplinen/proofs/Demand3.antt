@@ -1,0 +1,151 @@
+-- Demand 3, the outline in the same shape, and many lookups at once. Assumes nothing.
+use Prim.Native.Nat.{ℕ, _*_, _/_, _%_, _≤_, _<_}
+use native.Mathlib.Omega.{arith}
+use mathlib.Core.Path.{_≡_, refl, ap, _∙_}
+use mathlib.Core.List.{List, []}
+use lib.ListN.{length, drop, take}
+use lib.Seq.{take-at}
+use Rattle.verdict.specs.declared.Verdict.{Verdict}
+use Rattle.verdict.specs.declared.Verdict.the-variants.{Accepted, Refused}
+use Rattle.verdict.proofs.Laws.{Clean, pass, fault-none}
+use Rattle.lookup.specs.declared.Lookup.{Lookup}
+use Rattle.path.specs.Names.{namesOf, pathChecks}
+use Rattle.path.specs.Listing.{pathMatches, encode, listingChecks, listingAfter}
+use Rattle.path.proofs.Listed.{listed}
+use Rattle.path.proofs.Demand.{place-holds}
+use Rattle.path.proofs.Written.{length-encode}
+use Rattle.batch.specs.Places.{places, placeChecks, answersAfter}
+use Rattle.batch.proofs.Placed.{length-places}
+use Rattle.outline.specs.Outline.{outlineOf}
+use Rattle.outline.specs.Outlined.{outlineChecks, outlineAfter}
+use Rattle.outline.proofs.Listed.{outline-lines}
+use Rattle.accept.specs.Verdict.{acceptChecks, verdictOf}
+use Rattle.accept.specs.Rules.{FileRules}
+use Rattle.accept.proofs.Accepted.{accepted-iff}
+use Rattle.taplinen.specs.Answers.{answered}
+use Rattle.taplinen.specs.Questions.{acceptAnswer, pathVerdict, pathAnswer, pathListing, outlineVerdict, outlineAnswer, outlineBuffer}
+use Rattle.taplinen.specs.Batches.{batchVerdict, batchAnswer, namePlaces, valuePlaces}
+use Rattle.taplinen.specs.Demands.{WellFormed, Batch, Paths, Outlines}
+use Rattle.taplinen.proofs.EachPlace.{name-place, value-place}
+use Rattle.taplinen.proofs.Demand2.{accept-zero}
+use Rattle.taplinen.proofs.Refusing.{accepted-0, accepted-value, refused-kept, front-after, room-fits, room-over, outnumber}
+
+-- 24 is not given
+well-formed : (q : List ℕ) → WellFormed q → Clean (pathChecks q)
+unfolding pathChecks
+well-formed q w = pass _ _ _ _ _ (w .0) ∙ pass _ _ _ _ _ (w .1) ∙ fault-none
+
+module _ (b : List ℕ) (room : ℕ) (z : acceptAnswer b room .refusal ≡ 0) where
+  file : verdictOf b room ≡ Accepted
+  file = accept-zero b room z
+
+  clean : Clean (acceptChecks b room)
+  unfolding verdictOf
+  clean = file
+
+  rules : FileRules b
+  rules = accepted-iff b room .0 file .0
+
+  -- ---- many lookups
+
+  module _ (q d : List ℕ) (w : WellFormed q) where
+    abbrev texts : ℕ
+    texts = length (namesOf q)
+
+    all-fit : texts ≤ length d / 8 → batchVerdict b room q (length d) ≡ Accepted
+    unfolding batchVerdict placeChecks
+    all-fit l = room-fits (acceptChecks b room) (pathChecks q) clean (well-formed q w) 25 texts (length d / 8) l
+
+    too-many : length d / 8 < texts → batchVerdict b room q (length d) ≡ Refused 25 texts
+    unfolding batchVerdict placeChecks
+    too-many l = room-over (acceptChecks b room) (pathChecks q) clean (well-formed q w) 25 texts (length d / 8) l
+
+    places-after : (f : List ℕ → Lookup) → texts ≤ length d / 8 → drop (8 * texts) (answersAfter f q d (batchVerdict b room q (length d))) ≡ drop (8 * texts) d
+    unfolding answersAfter
+    places-after f l = rw (all-fit l) (front-after (places f (namesOf q)) d (8 * texts) (length-places f (namesOf q)))
+
+    pub batch : Batch b room q d
+    unfolding batchAnswer namePlaces valuePlaces
+    batch = record {
+      room-short = outnumber (batchVerdict b room q (length d)) 0 texts 25 texts (length d / 8) (λ e. omega arith) all-fit too-many;
+      answered = λ l. (accepted-0 0 texts (all-fit l), accepted-value 0 texts (all-fit l));
+      name = λ l i h s t. name-place b room q d (all-fit l) i h s (t .even) (t .text);
+      value = λ l i h s t. value-place b room q d (all-fit l) i h s (t .even) (t .text);
+      names-after = places-after _;
+      values-after = places-after _;
+    }
+
+  -- ---- paths
+
+  module _ (q d : List ℕ) (w : WellFormed q) where
+    abbrev many : ℕ
+    many = length (pathMatches b q)
+
+    matches-fit : many ≤ length d / 4 → pathVerdict b room q (length d) ≡ Accepted
+    unfolding pathVerdict listingChecks
+    matches-fit l = room-fits (acceptChecks b room) (pathChecks q) clean (well-formed q w) 25 many (length d / 4) l
+
+    matches-over : length d / 4 < many → pathVerdict b room q (length d) ≡ Refused 25 many
+    unfolding pathVerdict listingChecks
+    matches-over l = room-over (acceptChecks b room) (pathChecks q) clean (well-formed q w) 25 many (length d / 4) l
+
+    listing-is : many ≤ length d / 4 → pathListing b room q d ≡ listingAfter b q d Accepted
+    unfolding pathListing
+    listing-is l = ap (listingAfter b q d) (matches-fit l)
+
+    listing-kept : length d / 4 < many → pathListing b room q d ≡ d
+    unfolding pathListing listingAfter
+    listing-kept l = ap (listingAfter b q d) (matches-over l)
+
+    listing-rest : drop (4 * many) (listingAfter b q d Accepted) ≡ drop (4 * many) d
+    unfolding listingAfter
+    listing-rest = front-after (encode (pathMatches b q)) d (4 * many) (length-encode (pathMatches b q))
+
+    pub paths : Paths b room q d
+    unfolding pathAnswer
+    paths = record {
+      matches = pathMatches b q;
+      listed = listed b rules q;
+      room-short = outnumber (pathVerdict b room q (length d)) 0 many 25 many (length d / 4) (λ e. omega arith) matches-fit matches-over;
+      kept = listing-kept;
+      answered = λ l. (accepted-0 0 many (matches-fit l), accepted-value 0 many (matches-fit l));
+      holds = λ l i h. rw (listing-is l) (place-holds b q d rules i h);
+      after = λ l. ap (drop (4 * many)) (listing-is l) ∙ listing-rest;
+    }
+
+  -- ---- the outline
+
+  module _ (d : List ℕ) where
+    abbrev long : ℕ
+    long = length (outlineOf b)
+
+    outline-fit : long ≤ length d → outlineVerdict b room (length d) ≡ Accepted
+    unfolding outlineVerdict outlineChecks
+    outline-fit l = room-fits (acceptChecks b room) [] clean fault-none 26 long (length d) l
+
+    outline-over : length d < long → outlineVerdict b room (length d) ≡ Refused 26 long
+    unfolding outlineVerdict outlineChecks
+    outline-over l = room-over (acceptChecks b room) [] clean fault-none 26 long (length d) l
+
+    buffer-is : long ≤ length d → outlineBuffer b room d ≡ outlineAfter b d Accepted
+    unfolding outlineBuffer
+    buffer-is l = ap (outlineAfter b d) (outline-fit l)
+
+    buffer-front : take long (outlineAfter b d Accepted) ≡ outlineOf b
+    unfolding outlineAfter
+    buffer-front = take-at (outlineOf b) (drop long d) long refl
+
+    buffer-rest : drop long (outlineAfter b d Accepted) ≡ drop long d
+    unfolding outlineAfter
+    buffer-rest = front-after (outlineOf b) d long refl
+
+    pub outlines : Outlines b room d
+    unfolding outlineAnswer
+    outlines = record {
+      chains = _;
+      lined = outline-lines b rules;
+      room-short = outnumber (outlineVerdict b room (length d)) 0 long 26 long (length d) (λ e. omega arith) outline-fit outline-over;
+      answered = λ l. (accepted-0 0 long (outline-fit l), accepted-value 0 long (outline-fit l));
+      holds = λ l. ap (take long) (buffer-is l) ∙ buffer-front;
+      after = λ l. ap (drop long) (buffer-is l) ∙ buffer-rest;
+    }
