@@ -10,7 +10,7 @@ use Rattle.verdict.specs.Checks.{Check, check, each}
 use Rattle.verdict.specs.Decide.{someBelow?, texts?}
 use Rattle.verdict.proofs.Laws.{stop}
 use Rattle.verdict.proofs.Broken.{AllOf, all-none, all-more, all-append, all-each, all-broken}
-use Rattle.region.specs.Region.{countOf, usedOf, Resolves}
+use Rattle.region.specs.Region.{countOf, usedOf}
 use Rattle.region.specs.Checks.{segmentChecks, regionChecks}
 use Rattle.layout.specs.Header.{keyCount, zeroWordChecks, headerChecks, keyChecks}
 use Rattle.layout.specs.Table.{Table, table, entries, count, bucketChecks, listChecks, tableChecks}

@@ -13,8 +13,7 @@ use Rattle.le.specs.Le.{u16At}
 use Rattle.text.specs.Text.{chars}
 use Rattle.text.proofs.OneByOne.{chars-same}
 use Rattle.lookup.specs.Lookup.{textFrom}
-use Rattle.path.specs.Names.{addFirst, split, namesOf}
-use Rattle.path.specs.Indices.{nameAt}
+use Rattle.path.specs.Names.{addFirst, split, namesOf, nameAt}
 use Rattle.path.proofs.Split.{length-add}
 
 -- text i of the n characters at p: m characters from offset `at` on, with its 0 behind them; the first starts at p

@@ -15,8 +15,7 @@ use Rattle.verdict.proofs.Laws.{Clean, never, pass, stop, fault-none, fault-app
 use Rattle.lookup.specs.Kinds.{kindOf, numberOf}
 use Rattle.lookup.specs.declared.Lookup.{Lookup}
 use Rattle.lookup.proofs.ByKind.{kind-low}
-use Rattle.path.specs.Names.{namesOf, pathChecks}
-use Rattle.path.specs.Indices.{nameAt}
+use Rattle.path.specs.Names.{namesOf, nameAt, pathChecks}
 use Rattle.batch.specs.Places.{place, places, placeChecks, answersAfter}
 use Rattle.batch.specs.Answer.{Answered}
 use Rattle.batch.specs.declared.Batch.{Batch}

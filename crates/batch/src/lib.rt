@@ -13,7 +13,7 @@ ghost use Rattle.path.specs.Names.{namesOf, pathChecks};
 ghost use Rattle.batch.specs.Places.{place, places, answersAfter};
 ghost use Rattle.batch.specs.Answer.{Answered};
 
-pub mod group;
+mod group;
 
 use lookup::Kind;
 use lookup::Lookup;

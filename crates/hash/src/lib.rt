@@ -422,7 +422,7 @@ pub fn fold(c: usize) -> usize
 }
 
 // Two characters folded, each in its half of the word.
-pub fn fold_pair(w: usize) -> usize
+fn fold_pair(w: usize) -> usize
     requires { ⌜ w < 2 ^ 32 ⌝ }
     ensures { λ r. ⌜ FoldedPair w r ⌝ }
 {

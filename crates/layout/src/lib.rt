@@ -1,6 +1,6 @@
 // Refusals 1 to 6 along the file, and the view of a file that passes them (01, "Layout").
-pub mod front;
-pub mod tables;
+mod front;
+mod tables;
 pub mod whole;
 
 use le::Float64;

@@ -3,7 +3,8 @@ use Prim.Native.Nat.{ℕ, _+_, _*_, _/_}
 use mathlib.Core.Path.{_≡_}
 use mathlib.Core.List.{List}
 use lib.ListN.{length}
-use Rattle.verdict.specs.Decide.{SomeBelow, someBelow?, texts?}
+use Rattle.verdict.specs.Checks.{SomeBelow}
+use Rattle.verdict.specs.Decide.{someBelow?, texts?}
 use Rattle.text.specs.Text.{chars}
 use Rattle.layout.specs.Table.{Table, entries, entryAt, indexOf, segmentOf, elementOf}
 use Rattle.strings.specs.Texts.{textOf}

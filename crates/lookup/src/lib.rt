@@ -106,7 +106,7 @@ fn told_at(b: &[u8], kind: Kind, e: usize) -> usize
 }
 
 // What is told of those characters, for a caller that has their hash, and its place in the bucket.
-pub fn find_from(
+pub(crate) fn find_from(
     b: &[u8],
     s: Strings,
     samples: &[u32; 1024],

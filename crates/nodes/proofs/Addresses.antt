@@ -5,11 +5,10 @@ use mathlib.Core.Path.{_≡_, refl, ap, sym, subst, _∙_}
 use mathlib.Core.Bool.{Bool, true, false}
 use mathlib.Core.List.{List}
 use lib.ListN.{length}
-use Rattle.verdict.specs.Checks.{Tells}
+use Rattle.verdict.specs.Checks.{Tells, SomeBelow}
 use Rattle.verdict.proofs.Laws.{Clean, tells-yes, tells-no}
 use Rattle.le.specs.Le.{u16At, u32At}
 use Rattle.le.proofs.Numbers.{Bytes, pairs, halves}
-use Rattle.verdict.specs.Decide.{SomeBelow}
 use Rattle.search.specs.Run.{wordOf, Meets}
 use Rattle.words.specs.Words.{typeOf, extendedOf}
 use Rattle.hash.specs.Hash.{hashText, bucketOf}

@@ -8,8 +8,7 @@ use mathlib.Core.Logic.{_⊎_, inl, inr, ⊎-elim}
 use mathlib.Core.List.{List}
 use lib.ListN.{length}
 use borrow.Author.Count.{below-none, below-more}
-use Rattle.verdict.specs.Checks.{Tells}
-use Rattle.verdict.specs.Decide.{SomeBelow}
+use Rattle.verdict.specs.Checks.{Tells, SomeBelow}
 use Rattle.verdict.proofs.Laws.{tells-yes, tells-no}
 use Rattle.le.specs.Le.{u16At}
 use Rattle.region.specs.declared.Place.{Place}

@@ -4,12 +4,12 @@ use native.Mathlib.Decide.{ℕ-discrete}
 use native.Mathlib.Nat.{mul-zero, zero-mul}
 use native.Mathlib.Omega.{arith}
 use mathlib.Core.Path.{_≡_, refl, ap, _∙_}
-use mathlib.Core.Bool.{true, false}
+use mathlib.Core.Bool.{false}
 use mathlib.Core.Logic.{inl, inr, ⊎-elim, by-cases}
 use mathlib.Core.List.{List}
 use lib.Dec.{leb}
 use Rattle.verdict.specs.Checks.{Tells}
-use Rattle.verdict.proofs.Laws.{tells-yes, tells-no, tells-leb}
+use Rattle.verdict.proofs.Laws.{tells-no, tells-leb}
 use Rattle.le.specs.Le.{u16At, u32At}
 use Rattle.words.specs.Words.{typeOf, extendedOf}
 use Rattle.nodes.specs.Attribute.{Typed}

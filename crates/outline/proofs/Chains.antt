@@ -9,7 +9,7 @@ use native.Mathlib.Omega.{arith}
 use borrow.Author.Tests.{eqb-false, ne-eqb}
 use lib.Dec.{eqb}
 use lib.ListN.{length}
-use Rattle.verdict.specs.Decide.{SomeBelow}
+use Rattle.verdict.specs.Checks.{SomeBelow}
 use Rattle.tree.specs.Chain.{Tree, LiveIn, child, Chain, Before}
 use Rattle.outline.specs.Lined.{leads, Rising}
 

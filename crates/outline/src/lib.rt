@@ -5,9 +5,9 @@ ghost use Rattle.outline.specs.Ready.{OutlineReady};
 ghost use Rattle.outline.specs.Outlined.{outlineAfter};
 ghost use Rattle.outline.specs.Answer.{OutlineWritten};
 
-pub mod blocks;
-pub mod texts;
-pub mod values;
+mod blocks;
+mod texts;
+mod values;
 
 use layout::Places;
 use verdict::Verdict;

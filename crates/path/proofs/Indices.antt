@@ -15,10 +15,10 @@ use Rattle.tree.specs.Chain.{LiveIn, child, ranged}
 use Rattle.tree.specs.File.{nodeOf, Used, treeOf}
 use Rattle.tree.proofs.Depths.{no-longer}
 use Rattle.accept.specs.Rules.{FileRules}
-use Rattle.path.specs.Names.{namesOf}
+use Rattle.path.specs.Names.{namesOf, nameAt}
 use Rattle.path.specs.Matches.{BearingChain}
 use Rattle.path.specs.Listing.{matches, pathMatches}
-use Rattle.path.specs.Indices.{nameAt, matchesAt}
+use Rattle.path.specs.Indices.{matchesAt}
 use Rattle.path.proofs.Found.{matchesBelow, bearing-yes, bearing-no, bearing-chain, bearing-length, sound}
 use Rattle.path.proofs.Listed.{parents}
 

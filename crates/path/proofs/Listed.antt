@@ -29,7 +29,6 @@ module _ (t : Tree) (text : ℕ → List ℕ) (xs : List (List ℕ)) (u : (ps qs
     complete = λ e m. complete t text xs (m .0) 0 e (m .1);
     once = pairs-mono _ _ _ distinct (ordered t text xs 0);
     ordered = pairs-mono _ _ _ document (ordered t text xs 0);
-    one-chain = λ e ps qs. u ps qs e;
   }
 
 module _ (b : List ℕ) (r : FileRules b) where

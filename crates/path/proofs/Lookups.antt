@@ -12,8 +12,8 @@ use lib.Seq.{getD-set-same, getD-set-other}
 use Rattle.verdict.proofs.Laws.{Clean}
 use Rattle.text.specs.Text.{chars}
 use Rattle.keys.specs.Names.{Bears}
-use Rattle.path.specs.Names.{namesOf, pathChecks}
-use Rattle.path.specs.Indices.{nameAt, NameEnd, WantedIs}
+use Rattle.path.specs.Names.{namesOf, nameAt, pathChecks}
+use Rattle.path.specs.Indices.{NameEnd, WantedIs}
 use Rattle.path.proofs.Split.{namesFrom, names-start, names-end, names-more, names-some}
 use Rattle.path.proofs.Formed.{formed-inv}
 

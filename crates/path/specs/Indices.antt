@@ -1,5 +1,5 @@
 -- The names of a path as name indices: what the code looks up once, before it goes down the tree.
-use Prim.Native.Nat.{ℕ, zero, suc, _+_, _*_, _%_, _≤_, _<_}
+use Prim.Native.Nat.{ℕ, _+_, _*_, _%_, _≤_, _<_}
 use mathlib.Core.Path.{_≡_}
 use mathlib.Core.Bool.{true, false, cond}
 use mathlib.Core.Logic.{_⊎_}
@@ -9,14 +9,8 @@ use lib.ListN.{length, getD, take, drop}
 use Rattle.le.specs.Le.{u16At}
 use Rattle.keys.specs.Names.{Bears}
 use Rattle.tree.specs.Chain.{Tree, ranged}
-use Rattle.path.specs.Names.{namesOf}
+use Rattle.path.specs.Names.{namesOf, nameAt}
 use Rattle.path.specs.declared.names.Wanted.{Wanted}
-
--- Name i of some, or the empty one.
-unfoldable pub nameAt : List (List ℕ) → ℕ → List ℕ
-nameAt [] i = []
-nameAt (x ∷ xs) zero = x
-nameAt (x ∷ xs) (suc i) = nameAt xs i
 
 -- The name that starts at an even offset of a path ends at e, where its 0 stands.
 pub record NameEnd (path : List ℕ) (at e : ℕ) : Type 0 where

@@ -21,10 +21,9 @@ Match t text xs e = (ps : List ℕ) × BearingChain t text xs ps 0 e
 abbrev pub DocumentBefore : Tree → ℕ → ℕ → Type 0
 DocumentBefore t a b = (ps : List ℕ) × (qs : List ℕ) × Chain t ps 0 a × Chain t qs 0 b × Before ps qs
 
--- l lists the matches: each match, no other node, each once, in document order; and no node has two chains.
+-- l lists the matches: each match, no other node, each once, in document order.
 pub record Listed (t : Tree) (text : ℕ → List ℕ) (xs : List (List ℕ)) (l : List ℕ) : Type 0 where
   pub sound : (e : ℕ) → List·Memᴰ e l → Match t text xs e
   pub complete : (e : ℕ) → Match t text xs e → List·Memᴰ e l
   pub once : Pairs (λ a b. a ≡ b → ⊥) l
   pub ordered : Pairs (DocumentBefore t) l
-  pub one-chain : (e : ℕ) (ps qs : List ℕ) → Chain t ps 0 e → Chain t qs 0 e → ps ≡ qs

@@ -1,5 +1,5 @@
 -- A path and its names (01, "Questions"), and refusal 24.
-use Prim.Native.Nat.{ℕ, _-_, _%_}
+use Prim.Native.Nat.{ℕ, zero, suc, _-_, _%_}
 use native.Mathlib.Decide.{ℕ-discrete}
 use mathlib.Core.Path.{_≡_}
 use mathlib.Core.Bool.{cond}
@@ -25,6 +25,12 @@ split (c ∷ cs) = cond (eqb c 0) ([] ∷ split cs) (addFirst c (split cs))
 -- The names of a path that comes as bytes.
 unfoldable pub namesOf : List ℕ → List (List ℕ)
 namesOf path = split (textFrom path)
+
+-- Name i of some, or the empty one.
+unfoldable pub nameAt : List (List ℕ) → ℕ → List ℕ
+nameAt [] i = []
+nameAt (x ∷ xs) zero = x
+nameAt (x ∷ xs) (suc i) = nameAt xs i
 
 -- A path ends in a 0 character unless it is empty.
 abbrev pub Closed : List ℕ → Type 0

@@ -51,7 +51,7 @@ fn name_end(path: &[u8], at: usize) -> usize
 }
 
 // The indices of a path's names.
-pub fn find_names(
+pub(crate) fn find_names(
     b: &[u8],
     t: &[u32; 2048],
     s: Strings,

@@ -5,7 +5,7 @@ use mathlib.Core.Path.{_≡_, refl, ap, sym, _∙_}
 use mathlib.Core.Logic.{⊎-elim}
 use mathlib.Core.List.{List, [], _∷_, _++_, List·Memᴰ, List·Memᴰ·not-nil, List·Memᴰ·cases-cons, List·Memᴰ·append-cases}
 use lib.ListN.{length, length-append}
-use Rattle.verdict.specs.Decide.{SomeBelow}
+use Rattle.verdict.specs.Checks.{SomeBelow}
 use Rattle.layout.specs.Table.{Table, entries}
 use Rattle.positions.specs.Total.{entriesBefore, allEntries}
 use Rattle.laws.proofs.Pigeon.{Once, once-none, once-more, once-append, pigeon-all}

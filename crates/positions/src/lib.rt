@@ -11,7 +11,7 @@ ghost use Rattle.strings.specs.Held.{Held, heldTable};
 ghost use Rattle.positions.specs.Total.{allEntries};
 ghost use Rattle.positions.specs.Packed.{Packed};
 
-pub mod packing;
+mod packing;
 
 use search::run;
 use strings::Strings;
@@ -55,7 +55,7 @@ fn entry_total(b: &[u8], s: Strings, samples: &[u32; 1024], starts: &[u32]) -> u
 }
 
 // Refusal 13 of every list position, where the entries passed 7 to 12.
-pub fn check_positions(
+fn check_positions(
     b: &[u8],
     t: &[u32; 2048],
     s: Strings,

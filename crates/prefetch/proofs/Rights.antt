@@ -7,7 +7,6 @@ use mathlib.Core.Bool.{Bool}
 use mathlib.Core.List.{List}
 use borrow.Author.Count.{below-none, below-more}
 use lib.ListN.{length, getD}
-use Rattle.verdict.specs.Decide.{SomeBelow}
 use Rattle.le.specs.Le.{u16At, u32At}
 use Rattle.words.specs.Words.{extendedOf}
 use Rattle.hash.specs.Fold.{valueHash}
@@ -28,7 +27,7 @@ use Rattle.positions.specs.Packed.{Packed}
 use Rattle.nodes.specs.Attribute.{typeWord, textSegment, textElement}
 use Rattle.strings.specs.Rules.{EntryAddress}
 use Rattle.nodes.specs.Rules.{TextRight, TextsRight}
-use Rattle.verdict.specs.Checks.{Sure}
+use Rattle.verdict.specs.Checks.{Sure, SomeBelow}
 use Rattle.nodes.proofs.Addresses.{spot-fits, address-of}
 use Rattle.le.proofs.Numbers.{Bytes}
 use Rattle.search.specs.Run.{wordOf}

@@ -9,7 +9,7 @@ use lib.ListN.{length, getD, set, length-set}
 use lib.Seq.{getD-set-same, getD-set-other}
 use native.Mathlib.Decide.{ℕ-discrete}
 use Rattle.laws.proofs.Order.{le-or-lt}
-use Rattle.verdict.specs.Decide.{SomeBelow}
+use Rattle.verdict.specs.Checks.{SomeBelow}
 use Rattle.words.specs.Words.{typeOf}
 use Rattle.nodes.specs.Attribute.{typeWord}
 use Rattle.nodes.specs.Rules.{TextRight}

@@ -3,7 +3,7 @@ use Prim.Native.Nat.{ℕ, _+_, _*_, _≤_, _<_}
 use mathlib.Core.Path.{_≡_}
 use mathlib.Core.List.{List}
 use lib.ListN.{length, getD}
-use Rattle.verdict.specs.Decide.{SomeBelow}
+use Rattle.verdict.specs.Checks.{SomeBelow}
 use Rattle.words.specs.Words.{typeOf}
 use Rattle.nodes.specs.Attribute.{typeWord}
 use Rattle.prefetch.specs.declared.slots.Taken.{Taken}

@@ -20,7 +20,7 @@ use strings::Strings;
 use verdict::Verdict;
 
 // Whether 19 is known to hold of every used attribute. False tells nothing: an attribute that no node has may be at fault.
-pub fn texts_right(
+fn texts_right(
     b: &[u8],
     t: &[u32; 2048],
     attributes: Region,

@@ -1,8 +1,8 @@
 // Bytes, numbers and characters, put into a lent buffer as far as it reaches (01, "Questions", "The program").
 // One function serves both for the length of a text, with an empty buffer, and for writing it.
-pub mod bytes;
-pub mod chars;
-pub mod numbers;
+mod bytes;
+mod chars;
+mod numbers;
 
 pub use bytes::put;
 pub use bytes::put_bytes;

@@ -2,7 +2,7 @@
 use Prim.Native.Nat.{ℕ, _+_, _<_}
 use mathlib.Core.Path.{_≡_}
 use mathlib.Core.Bool.{Bool, true, false}
-use Rattle.verdict.specs.Decide.{SomeBelow}
+use Rattle.verdict.specs.Checks.{SomeBelow}
 use Rattle.le.specs.Le.{u32At}
 use Rattle.layout.specs.Table.{Table, entries, entryAt, hashOf}
 

@@ -11,7 +11,7 @@ ghost use Rattle.strings.specs.Held.{Held, heldTable};
 ghost use Rattle.search.specs.Lower.{Lower};
 
 pub mod group;
-pub mod near;
+mod near;
 pub mod run;
 
 use strings::Strings;

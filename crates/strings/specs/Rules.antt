@@ -2,7 +2,7 @@
 use Prim.Native.Nat.{ℕ, _+_, _-_, _≤_, _<_}
 use mathlib.Core.Path.{_≡_}
 use lib.ListN.{length}
-use Rattle.verdict.specs.Decide.{SomeBelow}
+use Rattle.verdict.specs.Checks.{SomeBelow}
 use Rattle.hash.specs.Hash.{hashText, bucketOf}
 use Rattle.region.specs.Region.{Resolves}
 use Rattle.text.specs.Text.{EndedAt}

@@ -134,7 +134,7 @@ fn see(
 
 // Sees to it that entry j of bucket k, which has n, was glanced at: at each multiple of 64 it and the 63 behind it are, as far as there are
 // so many.
-pub fn keep_ahead(
+pub(crate) fn keep_ahead(
     b: &[u8],
     s: Strings,
     samples: &[u32; 1024],

@@ -62,7 +62,7 @@ fn placed(b: &[u8], s: Strings, samples: &[u32; 1024], starts: &[u32], k: usize,
 }
 
 // Refusal 11 is not due.
-pub fn indexed(
+pub(crate) fn indexed(
     b: &[u8],
     s: Strings,
     samples: &[u32; 1024],
@@ -189,7 +189,7 @@ fn index_passes(
 }
 
 // Refusals 7 to 12 of an entry that was glanced at, where those before it in the bucket passed; 11 may be known not to be due.
-pub fn check_entry(
+pub(crate) fn check_entry(
     b: &[u8],
     t: &[u32; 2048],
     s: Strings,

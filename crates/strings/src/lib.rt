@@ -1,7 +1,7 @@
 // Refusals 7 to 12: the entries of a string table (01, "Strings", "Refusal numbers").
 pub mod ahead;
 pub mod entry;
-pub mod listed;
+mod listed;
 pub mod spot;
 pub mod table;
 

@@ -1,30 +1,24 @@
 -- Demand 1: one numbered refusal, buffers as they were, lengths kept. Assumes nothing.
-use Prim.Native.Nat.{ℕ, _+_, _*_, _/_, _≤_}
-use native.Mathlib.Omega.{arith}
-use mathlib.Core.Path.{_≡_, refl, ap, sym, _∙_}
-use mathlib.Core.Logic.{_⊎_, inl, inr, ⊎-elim}
-use mathlib.Core.List.{List, [], _∷_, _++_}
-use lib.ListN.{length, drop}
-use Rattle.verdict.specs.Checks.{Check, check, firstFault}
+use Prim.Native.Nat.{ℕ, _+_}
+use mathlib.Core.Path.{_≡_, refl}
+use mathlib.Core.Logic.{_⊎_, inl, inr}
+use mathlib.Core.List.{List, _++_}
 use Rattle.verdict.specs.declared.Verdict.{Verdict}
 use Rattle.verdict.specs.declared.Verdict.the-variants.{Accepted, Refused}
-use Rattle.verdict.proofs.Laws.{append-inv, clean-inv}
 use Rattle.verdict.proofs.Broken.{AllOf, all-none, all-more, all-append}
 use Rattle.layout.specs.Header.{headerOf}
 use Rattle.lookup.specs.Asked.{textChecks}
-use Rattle.lookup.specs.Kinds.{kindOf, numberOf}
-use Rattle.path.specs.Names.{namesOf, pathChecks}
-use Rattle.path.specs.Listing.{pathMatches, encode, listingChecks, listingAfter}
-use Rattle.path.proofs.Written.{length-encode}
-use Rattle.batch.specs.Places.{places, placeChecks, answersAfter}
-use Rattle.outline.specs.Outline.{outlineOf}
+use Rattle.path.specs.Names.{pathChecks}
+use Rattle.path.specs.Listing.{listingChecks, listingAfter}
+use Rattle.batch.specs.Places.{placeChecks, answersAfter}
 use Rattle.outline.specs.Outlined.{outlineChecks, outlineAfter}
-use Rattle.accept.specs.Verdict.{acceptChecks, verdictOf}
+use Rattle.accept.specs.Verdict.{verdictOf}
 use Rattle.taplinen.specs.Answers.{answered, reported}
 use Rattle.taplinen.specs.Questions.{acceptAnswer, headerAnswer, textVerdict, nameAnswer, valueAnswer, pathVerdict, pathAnswer, pathListing, outlineVerdict, outlineAnswer, outlineBuffer}
 use Rattle.taplinen.specs.Batches.{batchVerdict, batchAnswer, namePlaces, valuePlaces}
-use Rattle.taplinen.specs.Demands.{OneOf, OfFile, Numbers, Untouched}
-use Rattle.taplinen.proofs.Refusing.{verdict-cases, accepted-0, refused-number, file-number, question-number, refused-kept}
+use Rattle.taplinen.specs.Demands.{Refuses, OneOf, OfFile, Numbers, AcceptsFirst, Untouched}
+use Rattle.taplinen.proofs.Demand2.{accept-refused}
+use Rattle.taplinen.proofs.Refusing.{refuses-first, file-number, question-number, refused-kept}
 
 -- ---- the numbers of the questions' own checks
 
@@ -83,3 +77,22 @@ module _ (b : List ℕ) (room : ℕ) where
     values = λ q d f. refused-kept d (answersAfter _ q d) (λ n p. refl) _ _ _ f;
     outline = λ d f. refused-kept d (outlineAfter b d) (λ n p. refl) _ _ _ f;
   }
+
+  -- acceptance comes first
+  header-refused : {n p : ℕ} → verdictOf b room ≡ Refused n p → (headerAnswer b room .refusal ≡ n) × (headerAnswer b room .place ≡ p)
+  unfolding headerAnswer reported
+  header-refused e = (rw e, rw e)
+
+  pub accepts-first : (n p : ℕ) → Refuses (acceptAnswer b room) n p → AcceptsFirst b room n p
+  unfolding nameAnswer valueAnswer textVerdict pathAnswer pathVerdict batchAnswer batchVerdict outlineAnswer outlineVerdict
+  accepts-first n p r =
+      let z = r .refused in
+      let e = accept-refused b room n p r in
+      record {
+        header = header-refused e;
+        name = λ q. refuses-first b room _ _ _ z e;
+        value = λ q. refuses-first b room _ _ _ z e;
+        path = λ q list. refuses-first b room _ _ _ z e;
+        texts = λ q answers. refuses-first b room _ _ _ z e;
+        outline = λ out. refuses-first b room _ _ _ z e;
+      }

@@ -1,5 +1,5 @@
 -- Demand 2: acceptance exactly by the rules, refusal for the first fault, and lookups exactly by the entries. Assumes nothing.
-use Prim.Native.Nat.{ℕ, _+_, _*_, _%_, _≤_}
+use Prim.Native.Nat.{ℕ, _%_}
 use native.Mathlib.Omega.{arith}
 use mathlib.Core.Path.{_≡_, refl, ap, sym, _∙_}
 use mathlib.Core.Logic.{_↔_}
@@ -8,10 +8,10 @@ use lib.ListN.{length}
 use Rattle.verdict.specs.Checks.{FirstBroken}
 use Rattle.verdict.specs.declared.Verdict.the-variants.{Accepted, Refused}
 use Rattle.verdict.proofs.Broken.{broken-iff}
-use Rattle.layout.specs.Table.{Table, indexOf, segmentOf, elementOf}
+use Rattle.layout.specs.Table.{Table, indexOf}
 use Rattle.layout.specs.Layout.{values, names}
 use Rattle.strings.proofs.Accepted.{strings-iff}
-use Rattle.tree.specs.File.{address, usedNodes}
+use Rattle.tree.specs.File.{usedNodes}
 use Rattle.lookup.specs.Lookup.{textFrom, Borne, BorneWith, indexOfText, addressOfText}
 use Rattle.lookup.specs.Kinds.{toldIn, tableOf, kindOf, numberOf}
 use Rattle.lookup.specs.declared.Kind.the-variants.{Name, Value}
@@ -20,7 +20,6 @@ use Rattle.lookup.specs.declared.Lookup.the-variants.{Found, Absent}
 use Rattle.lookup.proofs.Found.{index-found-iff, index-absent-iff, address-found-iff, address-absent-iff}
 use Rattle.accept.specs.Verdict.{acceptChecks, verdictOf}
 use Rattle.accept.specs.Rules.{FileRules}
-use Rattle.accept.specs.Refusals.{Broken}
 use Rattle.accept.proofs.Accepted.{accepted-iff}
 use Rattle.accept.proofs.Rows.{refused-row}
 use Rattle.taplinen.specs.Answers.{answered}
@@ -28,7 +27,7 @@ use Rattle.taplinen.specs.Questions.{acceptAnswer, textAnswer, nameAnswe
 use Rattle.taplinen.specs.Demands.{Refuses, Acceptance, Finds, Lookups}
 use Rattle.taplinen.specs.declared.answer.Answer.{Answer}
 use Rattle.taplinen.proofs.Held.{text-told}
-use Rattle.taplinen.proofs.Refusing.{accepted-0, accepted-value, refused-number, refuses-verdict, file-number, zero-accepted}
+use Rattle.taplinen.proofs.Refusing.{accepted-0, accepted-value, verdict-refuses, refuses-verdict, file-number, zero-accepted}
 
 -- ---- the first sentence
 
@@ -41,16 +40,15 @@ module _ (b : List ℕ) (room : ℕ) where
   unfolding acceptAnswer
   zero-accept e = (accepted-0 0 (usedNodes b) e, accepted-value 0 (usedNodes b) e)
 
-  accept-refused : (n p : ℕ) → Refuses (acceptAnswer b room) n p → verdictOf b room ≡ Refused n p
+  pub accept-refused : (n p : ℕ) → Refuses (acceptAnswer b room) n p → verdictOf b room ≡ Refused n p
   unfolding acceptAnswer
   accept-refused n p r = refuses-verdict 0 (usedNodes b) (verdictOf b room) r
 
   refused-accept : (n p : ℕ) → verdictOf b room ≡ Refused n p → Refuses (acceptAnswer b room) n p
   unfolding acceptAnswer
   refused-accept n p e =
-      let w = refused-number 0 (usedNodes b) e in
       let f = file-number b room e in
-      record { refused = λ z. omega arith; number = w .0; place = w .1 }
+      verdict-refuses 0 (usedNodes b) (λ z. omega arith) e
 
   first-broken : (n p : ℕ) → (verdictOf b room ≡ Refused n p) ↔ FirstBroken (acceptChecks b room) n p
   unfolding verdictOf

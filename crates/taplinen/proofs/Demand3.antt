@@ -1,13 +1,15 @@
 -- Demand 3, the outline in the same shape, and many lookups at once. Assumes nothing.
 use Prim.Native.Nat.{ℕ, _*_, _/_, _%_, _≤_, _<_}
 use native.Mathlib.Omega.{arith}
-use mathlib.Core.Path.{_≡_, refl, ap, _∙_}
-use mathlib.Core.List.{List, []}
+use native.Mathlib.Decide.{ℕ-discrete}
+use mathlib.Core.Path.{_≡_, refl, ap, sym, _∙_}
+use mathlib.Core.Logic.{by-cases}
+use mathlib.Core.List.{List, [], _++_}
 use lib.ListN.{length, drop, take}
 use lib.Seq.{take-at}
-use Rattle.verdict.specs.declared.Verdict.{Verdict}
+use Rattle.verdict.specs.Checks.{Check, firstFault}
 use Rattle.verdict.specs.declared.Verdict.the-variants.{Accepted, Refused}
-use Rattle.verdict.proofs.Laws.{Clean, pass, fault-none}
+use Rattle.verdict.proofs.Laws.{Clean, pass, stop, fault-none, fault-append, fault-keep}
 use Rattle.lookup.specs.declared.Lookup.{Lookup}
 use Rattle.path.specs.Names.{namesOf, pathChecks}
 use Rattle.path.specs.Listing.{pathMatches, encode, listingChecks, listingAfter}
@@ -23,17 +25,27 @@ use Rattle.accept.specs.Verdict.{acceptChecks, verdictOf}
 use Rattle.accept.specs.Rules.{FileRules}
 use Rattle.accept.proofs.Accepted.{accepted-iff}
 use Rattle.taplinen.specs.Answers.{answered}
-use Rattle.taplinen.specs.Questions.{acceptAnswer, pathVerdict, pathAnswer, pathListing, outlineVerdict, outlineAnswer, outlineBuffer}
+use Rattle.taplinen.specs.Questions.{acceptAnswer, textVerdict, nameAnswer, valueAnswer, pathVerdict, pathAnswer, pathListing, outlineVerdict, outlineAnswer, outlineBuffer}
 use Rattle.taplinen.specs.Batches.{batchVerdict, batchAnswer, namePlaces, valuePlaces}
-use Rattle.taplinen.specs.Demands.{WellFormed, Batch, Paths, Outlines}
+use Rattle.taplinen.specs.Demands.{Refuses, WellFormed, Malformed, Batch, Paths, Outlines}
+use Rattle.taplinen.specs.Answers.{answered}
+use Rattle.taplinen.proofs.Laws.{text-odd}
 use Rattle.taplinen.proofs.EachPlace.{name-place, value-place}
 use Rattle.taplinen.proofs.Demand2.{accept-zero}
-use Rattle.taplinen.proofs.Refusing.{accepted-0, accepted-value, refused-kept, front-after, room-fits, room-over, outnumber}
+use Rattle.taplinen.proofs.Refusing.{verdict-refuses, accepted-0, accepted-value, front-after, room-fits, room-over, outnumber}
 
 -- 24 is not given
 well-formed : (q : List ℕ) → WellFormed q → Clean (pathChecks q)
 unfolding pathChecks
 well-formed q w = pass _ _ _ _ _ (w .0) ∙ pass _ _ _ _ _ (w .1) ∙ fault-none
+
+-- or it is
+ill-formed : (q : List ℕ) → (WellFormed q → ⊥) → firstFault (pathChecks q) ≡ Refused 24 (length q)
+unfolding pathChecks
+ill-formed q f =
+    by-cases (ℕ-discrete (length q % 2) 0)
+    (λ e. pass _ _ _ _ _ e ∙ stop _ _ _ _ _ (λ c. f (e, c)))
+    (λ o. stop _ _ _ _ _ o)
 
 module _ (b : List ℕ) (room : ℕ) (z : acceptAnswer b room .refusal ≡ 0) where
   file : verdictOf b room ≡ Accepted
@@ -45,6 +57,22 @@ module _ (b : List ℕ) (room : ℕ) (z : acceptAnswer b room .refusal ≡ 0) wh
 
   rules : FileRules b
   rules = accepted-iff b room .0 file .0
+
+  -- ---- 24
+
+  -- a question whose own checks refuse
+  own-refused : (cs ds : List Check) {n p : ℕ} (k m : ℕ) → (n ≡ 0 → ⊥) → firstFault cs ≡ Refused n p
+      → Refuses (answered (firstFault (acceptChecks b room ++ (cs ++ ds))) k m) n p
+  own-refused cs ds k m z e = verdict-refuses k m z (fault-append (acceptChecks b room) _ clean ∙ fault-keep cs ds e)
+
+  pub malformed : (q : List ℕ) → Malformed b room q
+  unfolding nameAnswer valueAnswer textVerdict pathAnswer pathVerdict batchAnswer batchVerdict
+  malformed q = record {
+    name = λ f. verdict-refuses _ _ (λ e. omega arith) (fault-append (acceptChecks b room) _ clean ∙ sym (text-odd q f));
+    value = λ f. verdict-refuses _ _ (λ e. omega arith) (fault-append (acceptChecks b room) _ clean ∙ sym (text-odd q f));
+    path = λ f list. own-refused (pathChecks q) _ _ _ (λ e. omega arith) (ill-formed q f);
+    texts = λ f answers. own-refused (pathChecks q) _ _ _ (λ e. omega arith) (ill-formed q f);
+  }
 
   -- ---- many lookups
 

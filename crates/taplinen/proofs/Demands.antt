@@ -1,19 +1,23 @@
 -- The three demands hold. Assumes nothing.
+use Rattle.accept.proofs.Given.{accepted-gives}
 use Rattle.taplinen.specs.Demands.{Demands}
-use Rattle.taplinen.proofs.Demand1.{numbers, untouched}
+use Rattle.taplinen.proofs.Demand1.{numbers, accepts-first, untouched}
 use Rattle.taplinen.proofs.DemandBuffers.{workspace, same-length}
-use Rattle.taplinen.proofs.Demand2.{acceptance, lookups}
-use Rattle.taplinen.proofs.Demand3.{batch, paths, outlines}
+use Rattle.taplinen.proofs.Demand2.{accept-zero, acceptance, lookups}
+use Rattle.taplinen.proofs.Demand3.{malformed, batch, paths, outlines}
 
 pub demands : Demands
 demands = record {
   numbers = numbers;
+  accepts-first = accepts-first;
   untouched = untouched;
   same-length = same-length;
   workspace = workspace;
   acceptance = acceptance;
   lookups = lookups;
+  malformed = λ b room q z. malformed b room z q;
   batches = λ b room q d z w. batch b room z q d w;
+  one-chain = λ b room z. accepted-gives b room (accept-zero b room z) .tree .one-chain;
   paths = λ b room q d z w. paths b room z q d w;
   outlines = λ b room d z. outlines b room z d;
 }

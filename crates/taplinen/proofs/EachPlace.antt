@@ -16,8 +16,7 @@ use Rattle.lookup.specs.declared.Kind.{Kind}
 use Rattle.lookup.specs.declared.Kind.the-variants.{Name, Value}
 use Rattle.lookup.specs.declared.Lookup.{Lookup}
 use Rattle.lookup.proofs.ByKind.{number-low}
-use Rattle.path.specs.Names.{namesOf}
-use Rattle.path.specs.Indices.{nameAt}
+use Rattle.path.specs.Names.{namesOf, nameAt}
 use Rattle.batch.proofs.Told.{place-holds}
 use Rattle.batch.proofs.Own.{own-bytes}
 use Rattle.accept.specs.Verdict.{acceptChecks, verdictOf}

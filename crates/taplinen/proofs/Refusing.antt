@@ -10,7 +10,7 @@ use Rattle.laws.proofs.Order.{le-or-lt}
 use Rattle.verdict.specs.Checks.{Check, firstFault, atMost}
 use Rattle.verdict.specs.declared.Verdict.{Verdict}
 use Rattle.verdict.specs.declared.Verdict.the-variants.{Accepted, Refused}
-use Rattle.verdict.proofs.Laws.{Clean, never, pass, stop, fault-none, fault-append}
+use Rattle.verdict.proofs.Laws.{Clean, never, pass, stop, fault-none, fault-append, fault-keep}
 use Rattle.verdict.proofs.Broken.{AllOf, all-broken, append-refused}
 use Rattle.accept.specs.Verdict.{acceptChecks, verdictOf}
 use Rattle.accept.proofs.Rows.{refused-row, row-number}
@@ -46,6 +46,9 @@ module _ (k m : ℕ) where
   unfolding answered
   refuses-verdict Accepted r = absurd (r .refused (sym (r .number)))
   refuses-verdict (Refused a q) r = let x = r .number in let y = r .place in cc
+
+  pub verdict-refuses : {v : Verdict} {n p : ℕ} → (n ≡ 0 → ⊥) → v ≡ Refused n p → Refuses (answered v k m) n p
+  verdict-refuses z e = let w = refused-number e in record { refused = z; number = w .0; place = w .1 }
 
 -- ---- acceptance's numbers
 
@@ -109,5 +112,12 @@ module _ (xs ys : List Check) (first : Clean xs) (own : Clean ys) (c m x : ℕ) 
 pub outnumber : (v : Verdict) (k j c m x : ℕ) → (c ≡ 0 → ⊥) → (m ≤ x → v ≡ Accepted) → (x < m → v ≡ Refused c m) → Refuses (answered v k j) c m ↔ (x < m)
 outnumber v k j c m x z f g = (
   λ r. ⊎-elim (λ l. absurd (never (refuses-verdict k j v r) (f l))) (λ l. l) (le-or-lt m x),
-  λ l. let w = refused-number k j (g l) in record { refused = z; number = w .0; place = w .1 },
+  λ l. verdict-refuses k j z (g l),
 )
+
+-- ---- where acceptance refuses, a question does
+
+pub refuses-first : (b : List ℕ) (room : ℕ) (cs : List Check) (k m : ℕ) {n p : ℕ} → (n ≡ 0 → ⊥) → verdictOf b room ≡ Refused n p
+    → Refuses (answered (firstFault (acceptChecks b room ++ cs)) k m) n p
+unfolding verdictOf
+refuses-first b room cs k m z e = verdict-refuses k m z (fault-keep (acceptChecks b room) cs e)

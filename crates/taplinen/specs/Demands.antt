@@ -2,7 +2,7 @@
 -- proofs/Demands has the proofs. That every call ends and stays within its buffers is part of what is proved of each function.
 --
 -- b: the bytes of the file. ws: those of the workspace. room: how many the workspace has.
-use Prim.Native.Nat.{ℕ, _+_, _*_, _/_, _%_, _≤_, _<_}
+use Prim.Native.Nat.{ℕ, _*_, _/_, _%_, _≤_, _<_}
 use mathlib.Core.Path.{_≡_}
 use mathlib.Core.Logic.{_⊎_, _↔_}
 use mathlib.Core.List.{List}
@@ -13,14 +13,14 @@ use Rattle.region.specs.Region.{Resolves, numberOf}
 use Rattle.layout.specs.Table.{Table, indexOf, segmentOf, elementOf}
 use Rattle.layout.specs.Layout.{nodeSize, nodesAt, values, names}
 use Rattle.keys.specs.Names.{nameText}
+use Rattle.tree.specs.Chain.{Chain}
 use Rattle.tree.specs.File.{address, treeOf, usedNodes}
 use Rattle.tree.specs.Marks.{IsChild}
 use Rattle.accept.specs.Verdict.{acceptChecks}
 use Rattle.accept.specs.Rules.{FileRules}
 use Rattle.accept.specs.Refusals.{Broken}
 use Rattle.lookup.specs.Lookup.{textFrom, Borne, BorneWith}
-use Rattle.path.specs.Names.{namesOf, Closed}
-use Rattle.path.specs.Indices.{nameAt}
+use Rattle.path.specs.Names.{namesOf, nameAt, Closed}
 use Rattle.path.specs.Matches.{Listed}
 use Rattle.outline.specs.Outline.{outlineOf}
 use Rattle.outline.specs.Lined.{Lined}
@@ -53,6 +53,15 @@ pub record Numbers (b : List ℕ) (room : ℕ) : Type 0 where
   pub path : (q : List ℕ) (list : ℕ) → OneOf (λ n. OfFile n ⊎ ((n ≡ 24) ⊎ (n ≡ 25))) (pathAnswer b room q list .refusal)
   pub texts : (q : List ℕ) (answers : ℕ) → OneOf (λ n. OfFile n ⊎ ((n ≡ 24) ⊎ (n ≡ 25))) (batchAnswer b room q answers .refusal)
   pub outline : (out : ℕ) → OneOf (λ n. OfFile n ⊎ (n ≡ 26)) (outlineAnswer b room out .refusal)
+
+-- Every question accepts the file first: where acceptance refuses, so does the question, with the same number and place.
+pub record AcceptsFirst (b : List ℕ) (room n p : ℕ) : Type 0 where
+  pub header : (headerAnswer b room .refusal ≡ n) × (headerAnswer b room .place ≡ p)
+  pub name : (q : List ℕ) → Refuses (nameAnswer b room q) n p
+  pub value : (q : List ℕ) → Refuses (valueAnswer b room q) n p
+  pub path : (q : List ℕ) (list : ℕ) → Refuses (pathAnswer b room q list) n p
+  pub texts : (q : List ℕ) (answers : ℕ) → Refuses (batchAnswer b room q answers) n p
+  pub outline : (out : ℕ) → Refuses (outlineAnswer b room out) n p
 
 -- Refused means that the listing, the answers and the outline's buffer are as they were.
 pub record Untouched (b : List ℕ) (room : ℕ) : Type 0 where
@@ -114,6 +123,13 @@ pub record Lookups (b : List ℕ) (room : ℕ) (q : List ℕ) : Type 0 where
 abbrev pub WellFormed : List ℕ → Type 0
 WellFormed q = (length q % 2 ≡ 0) × Closed q
 
+-- On an accepted file, a text of an odd number of bytes, and a path or texts that are not well formed, are refused with 24 and their length.
+pub record Malformed (b : List ℕ) (room : ℕ) (q : List ℕ) : Type 0 where
+  pub name : (length q % 2 ≡ 0 → ⊥) → Refuses (nameAnswer b room q) 24 (length q)
+  pub value : (length q % 2 ≡ 0 → ⊥) → Refuses (valueAnswer b room q) 24 (length q)
+  pub path : (WellFormed q → ⊥) → (list : ℕ) → Refuses (pathAnswer b room q list) 24 (length q)
+  pub texts : (WellFormed q → ⊥) → (answers : ℕ) → Refuses (batchAnswer b room q answers) 24 (length q)
+
 -- s is the bytes of text i of the texts q.
 pub record TextIs (q : List ℕ) (i : ℕ) (s : List ℕ) : Type 0 where
   pub even : length s % 2 ≡ 0
@@ -134,9 +150,14 @@ pub record Batch (b : List ℕ) (room : ℕ) (q d : List ℕ) : Type 0 where
 
 -- ---- Demand 3
 
+-- On an accepted file no node has two chains: any two that end at the same node are the same chain.
+abbrev pub OneChain : List ℕ → Type 0
+OneChain b = (ps qs : List ℕ) (e : ℕ) → Chain (treeOf b) ps 0 e → Chain (treeOf b) qs 0 e → ps ≡ qs
+
 -- On an accepted file, for a well-formed path q and a listing d, whatever its length.
 pub record Paths (b : List ℕ) (room : ℕ) (q d : List ℕ) : Type 0 where
-  -- The matches: exactly the nodes whose chain from the root bears exactly those names, each once, in document order; no node has two chains.
+  -- The matches: exactly the nodes whose chain from the root bears, below the root, exactly those names in that order; each once, in
+  -- document order.
   pub matches : List ℕ
   pub listed : Listed (treeOf b) (nameText b) (namesOf q) matches
   -- Refused for room exactly when they outnumber the places, with their number; the buffer keeps every byte.
@@ -164,11 +185,14 @@ pub record Outlines (b : List ℕ) (room : ℕ) (d : List ℕ) : Type 0 where
 
 pub record Demands : Type 1 where
   pub numbers : (b : List ℕ) (room : ℕ) → Numbers b room
+  pub accepts-first : (b : List ℕ) (room n p : ℕ) → Refuses (acceptAnswer b room) n p → AcceptsFirst b room n p
   pub untouched : (b : List ℕ) (room : ℕ) → Untouched b room
   pub same-length : (b : List ℕ) (room : ℕ) → SameLength b room
   pub workspace : (b ws : List ℕ) → Workspace b ws
   pub acceptance : (b : List ℕ) (room : ℕ) → Acceptance b room
   pub lookups : (b : List ℕ) (room : ℕ) (q : List ℕ) → acceptAnswer b room .refusal ≡ 0 → length q % 2 ≡ 0 → Lookups b room q
+  pub malformed : (b : List ℕ) (room : ℕ) (q : List ℕ) → acceptAnswer b room .refusal ≡ 0 → Malformed b room q
   pub batches : (b : List ℕ) (room : ℕ) (q d : List ℕ) → acceptAnswer b room .refusal ≡ 0 → WellFormed q → Batch b room q d
+  pub one-chain : (b : List ℕ) (room : ℕ) → acceptAnswer b room .refusal ≡ 0 → OneChain b
   pub paths : (b : List ℕ) (room : ℕ) (q d : List ℕ) → acceptAnswer b room .refusal ≡ 0 → WellFormed q → Paths b room q d
   pub outlines : (b : List ℕ) (room : ℕ) (d : List ℕ) → acceptAnswer b room .refusal ≡ 0 → Outlines b room d

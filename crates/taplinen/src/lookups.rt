@@ -1,6 +1,7 @@
 // Lookups in a file that is accepted and whose view is held: nothing is checked a second time. The view is handed over whole once a
 // question; its arrays are lent from here on. Of one view only one array can be lent at a time, so the starts are copied first.
 ghost use mathlib.Core.Path.{_≡_};
+ghost use Prim.Native.Nat.{_%_};
 ghost use lib.ListN.{length};
 ghost use Rattle.layout.specs.View.{Fits};
 ghost use Rattle.lookup.specs.Lookup.{textFrom};
@@ -14,9 +15,9 @@ use lookup::Kind;
 use lookup::Lookup;
 use strings::Strings;
 
-// What one text is told.
+// What one text is told. It has an even number of bytes: for an odd one the question is refused with 24.
 pub fn find(file: &[u8], v: View, kind: Kind, text: &[u8]) -> Lookup
-    requires { ⌜ Fits (now file) v × FileRules (now file) ⌝ }
+    requires { ⌜ Fits (now file) v × FileRules (now file) × (length (now text) % 2 ≡ 0) ⌝ }
     ensures { λ r. ⌜ r ≡ toldIn kind (tableOf kind (now (file .entry))) (textFrom (now (text .entry))) ⌝ }
 {
     let t = hash::tables();

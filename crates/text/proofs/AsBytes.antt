@@ -10,7 +10,6 @@ use Rattle.le.specs.Le.{u16At}
 use Rattle.hash.specs.Hash.{hashByte, hashChar, hashBytes, hashOn}
 use Rattle.hash.specs.Fold.{folded, FoldedPair, foldText, valueHashOf}
 use Rattle.text.specs.Text.{chars}
-use Rattle.text.proofs.Laws.{chars-none, chars-more}
 use Rattle.text.proofs.Walk.{charsFrom, chars-start, chars-over, chars-next, chars-rest, hash-end, hash-next}
 use Rattle.text.proofs.Passed.{fold-end, fold-next}
 use Rattle.text.proofs.Words.{Two}

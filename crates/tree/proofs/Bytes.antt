@@ -3,14 +3,14 @@ use Prim.Native.Nat.{ℕ, _≤_, _<_}
 use native.Mathlib.Omega.{arith}
 use mathlib.Core.Path.{_≡_, refl, ap, _∙_}
 use mathlib.Core.Logic.{_↔_}
-use mathlib.Core.List.{List, _++_}
+use mathlib.Core.List.{List}
 use lib.ListN.{length, getD, drop, replicate, length-append, length-drop, length-replicate, getD-replicate, List·getD-append}
 use lib.Seq.{drop-at}
 use Rattle.region.specs.Region.{Laid, Resolves, numberOf, allUsed}
 use Rattle.region.proofs.Laws.{number-lt, all-length, all-at}
 use Rattle.layout.specs.Layout.{nodeSize, nodesAt}
 use Rattle.tree.specs.File.{address, usedNodes}
-use Rattle.tree.specs.Marks.{IsChild, isChild?, markBy, marksOf, cleared, marked}
+use Rattle.tree.specs.Marks.{isChild?, markBy, marksOf, cleared, marked}
 use Rattle.tree.proofs.Marking.{marks-at, all-marks}
 
 -- ---- a mark is 1 or 0

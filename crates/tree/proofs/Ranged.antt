@@ -6,7 +6,7 @@ use Prim.Native.Nat.{ℕ, zero, suc, _+_, _<_}
 use native.Mathlib.Nat.{add-zero, not-suc-le-zero}
 use native.Mathlib.Numerals.{add-one}
 use native.Mathlib.Omega.{arith}
-use Rattle.verdict.specs.Decide.{SomeBelow}
+use Rattle.verdict.specs.Checks.{SomeBelow}
 use Rattle.tree.specs.Chain.{ranged, Pairs}
 
 -- a list whose first is known is not empty

@@ -6,7 +6,8 @@ use mathlib.Core.Path.{_≡_, refl, ap}
 use mathlib.Core.Logic.{Dec·and, Dec·not}
 use mathlib.Core.List.{List, [], _∷_}
 use lib.ListN.{length}
-use Rattle.verdict.specs.Decide.{SomeBelow, someBelow?, decBy, implies?, allBelow?}
+use Rattle.verdict.specs.Checks.{SomeBelow}
+use Rattle.verdict.specs.Decide.{someBelow?, decBy, implies?, allBelow?}
 use Rattle.region.specs.Decisions.{resolves?}
 use Rattle.layout.specs.Layout.{nodeSize, nodesAt}
 use Rattle.tree.specs.Chain.{Tree, LiveIn, child, Chain}

@@ -4,7 +4,8 @@ use mathlib.Core.Path.{_≡_}
 use mathlib.Core.List.{List, [], _∷_, _++_}
 use native.Mathlib.Decide.{ℕ-discrete}
 use lib.ListN.{drop, replicate}
-use Rattle.verdict.specs.Decide.{SomeBelow, someBelow?}
+use Rattle.verdict.specs.Checks.{SomeBelow}
+use Rattle.verdict.specs.Decide.{someBelow?}
 use Rattle.region.specs.Region.{countOf, usedOf, allUsed}
 use Rattle.layout.specs.Layout.{nodeSize, nodesAt}
 use Rattle.tree.specs.Chain.{Tree, child}

@@ -7,8 +7,8 @@ ghost use Rattle.layout.specs.Layout.{nodeSize, nodesAt};
 ghost use Rattle.tree.specs.File.{usedNodes};
 ghost use Rattle.tree.specs.Outcome.{TreeReady, treeChecks, workspaceAfter};
 
-pub mod depth;
-pub mod marks;
+mod depth;
+mod marks;
 pub mod ranges;
 
 use depth::Found;

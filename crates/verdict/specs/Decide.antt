@@ -6,10 +6,7 @@ use native.Mathlib.Omega.{arith}
 use mathlib.Core.Path.{_≡_, refl, subst, sym}
 use mathlib.Core.List.{List, [], _∷_}
 use mathlib.Core.Logic.{_⊎_, inl, inr, ⊎-elim}
-
--- one below n for which P
-abbrev pub SomeBelow : ℕ → (ℕ → Type 0) → Type 0
-SomeBelow n P = (i : ℕ) × (i < n) × P i
+use Rattle.verdict.specs.Checks.{SomeBelow}
 
 unfoldable pub someBelow? : (n : ℕ) {P : ℕ → Type 0} → ((i : ℕ) → Dec (P i)) → Dec (SomeBelow n P)
 someBelow? zero d = no (λ w. not-suc-le-zero (w .1))

@@ -20,7 +20,9 @@ returns-2 c =
     (own-answer _ _ _ (k .0 .answer) _ _ (c .before .before .enum-told2 .given .1) (text-odd _ (c .before .if1 .taken)) (λ z. absurd (never refl z)) (c .answered2 .ensures), k .1)
 
 find-requires : tie.Need-find-requires
-find-requires c κs = to-find (c .before .before .before .before .before .before .accept .ensures .0) (c .before .before .enum-told2 .given .1)
+find-requires c κs =
+    let f = to-find (c .before .before .before .before .before .before .accept .ensures .0) (c .before .before .enum-told2 .given .1) in
+    (f .0, f .1, c .before .if1 .left)
 
 returns-3 : tie.Need-returns-3
 unfolding textAnswer textVerdict workspaceLeft

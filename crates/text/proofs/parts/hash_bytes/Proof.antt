@@ -1,5 +1,4 @@
-use mathlib.Core.Path.{ap, sym, _∙_}
-use Rattle.text.proofs.AsBytes.{bytes-chars, bytes-whole}
+use Rattle.text.proofs.AsBytes.{bytes-whole}
 use native.Mathlib.Omega.{arith}
 use borrow.Author.Needs.{needs}
 use Rattle.text.proofs.parts.hash_bytes.Statement.{statement}

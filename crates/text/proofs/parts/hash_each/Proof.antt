@@ -3,7 +3,6 @@ use mathlib.Core.Path.{_≡_, refl, sym, _∙_}
 use lib.ListN.{length, drop}
 use Rattle.hash.specs.Hash.{hashBytes}
 use Rattle.text.proofs.AsBytes.{bytes-next, bytes-over}
-use native.Mathlib.Omega.{arith}
 use borrow.Author.Needs.{needs}
 use Rattle.text.proofs.parts.hash_each.Statement.{statement}
 use Rattle.text.proofs.parts.hash_each.Tie as tie
