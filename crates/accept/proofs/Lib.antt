@@ -5,4 +5,5 @@ pub mod Numbers
 pub mod Groups
 pub mod Rows
 pub mod Late
+pub mod Complete
 pub mod Agree

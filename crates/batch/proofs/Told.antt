@@ -5,7 +5,7 @@ use Prim.Native.Nat.{ℕ, zero, suc, _+_, _-_, _*_, _/_, _^_, _≤_, _<_}
 use native.Mathlib.Nat.{not-suc-le-zero, zero-add}
 use native.Mathlib.Omega.{arith}
 use lib.ListN.{length, getD, take, drop}
-use lib.Seq.{take-at, drop-append-add, getD-append-add, getD-take, getD-drop}
+use lib.Seq.{take-at, drop-append-add, getD-take, getD-drop}
 use Rattle.laws.specs.Lists.{splice}
 use Rattle.le.specs.Le.{u32At, le4}
 use Rattle.le.proofs.Four.{le4-front, shifted}
@@ -19,7 +19,7 @@ use Rattle.path.specs.Names.{namesOf, nameAt, pathChecks}
 use Rattle.batch.specs.Places.{place, places, placeChecks, answersAfter}
 use Rattle.batch.specs.Answer.{Answered}
 use Rattle.batch.specs.declared.Batch.{Batch}
-use Rattle.batch.proofs.Placed.{length-place, length-places}
+use Rattle.batch.proofs.Placed.{length-place}
 
 -- ---- the ways out
 
@@ -71,22 +71,6 @@ module _ (f : List ℕ → Lookup) (texts d : List ℕ) where
   pub place-is : (i : ℕ) → i < length (namesOf texts) → take 8 (drop (8 * i) (answersAfter f texts d Accepted)) ≡ place (f (nameAt (namesOf texts) i))
   unfolding answersAfter
   place-is i h = places-at f (namesOf texts) _ i h
-
-  -- every byte after the places stays
-  pub later-stay : (j : ℕ) → 8 * length (namesOf texts) ≤ j → getD (answersAfter f texts d Accepted) j 0 ≡ getD d j 0
-  unfolding answersAfter
-  later-stay j h =
-      let n : ℕ = length (places f (namesOf texts)) in
-      let e : n + (j - n) ≡ j = omega (arith, length-places f (namesOf texts)) in
-      ap (λ (k : ℕ). getD (places f (namesOf texts) ++ drop n d) k 0) (sym e)
-      ∙ getD-append-add (places f (namesOf texts)) (drop n d) (j - n) 0
-      ∙ getD-drop n d (j - n) 0
-      ∙ ap (λ (k : ℕ). getD d k 0) e
-
-  -- where anything is refused, every byte
-  pub refused-stay : (n p : ℕ) → answersAfter f texts d (Refused n p) ≡ d
-  unfolding answersAfter
-  refused-stay n p = refl
 
 -- ---- the same as numbers
 

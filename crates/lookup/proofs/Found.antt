@@ -121,11 +121,6 @@ text-zero b p n i h z =
     text-live b p n i h
     (sym (chars-at b p (length (textIn b p n)) i h) ∙ ap (λ (l : List ℕ). getD l i 0) (sym (text-chars b p n)) ∙ z)
 
-module _ (t : Table) (x : List ℕ) (i : ℕ) (h : i < length x) (z : getD x i 0 ≡ 0) where
-  zero-unborne : ¬ Borne t x
-  unfolding textOf textTo textAt
-  zero-unborne w = text-zero _ _ _ i (rw (w .2 .2) h) (ap (λ (l : List ℕ). getD l i 0) (w .2 .2) ∙ z)
-
-  pub zero-absent : (indexOfText t x ≡ Absent) × (addressOfText t x ≡ Absent)
-  unfolding indexOfText addressOfText
-  zero-absent = (told-none _ t x zero-unborne, told-none _ t x zero-unborne)
+pub zero-unborne : (t : Table) (x : List ℕ) (i : ℕ) → i < length x → getD x i 0 ≡ 0 → Borne t x → ⊥
+unfolding textOf textTo textAt
+zero-unborne t x i h z w = text-zero _ _ _ i (rw (w .2 .2) h) (ap (λ (l : List ℕ). getD l i 0) (w .2 .2) ∙ z)

@@ -86,7 +86,7 @@ module _ (b : List ℕ) (room : ℕ) where
   pub accepts-first : (n p : ℕ) → Refuses (acceptAnswer b room) n p → AcceptsFirst b room n p
   unfolding nameAnswer valueAnswer textVerdict pathAnswer pathVerdict batchAnswer batchVerdict outlineAnswer outlineVerdict
   accepts-first n p r =
-      let z = r .refused in
+      let z = r .not-0 in
       let e = accept-refused b room n p r in
       record {
         header = header-refused e;

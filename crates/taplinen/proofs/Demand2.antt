@@ -8,26 +8,29 @@ use lib.ListN.{length}
 use Rattle.verdict.specs.Checks.{FirstBroken}
 use Rattle.verdict.specs.declared.Verdict.the-variants.{Accepted, Refused}
 use Rattle.verdict.proofs.Broken.{broken-iff}
-use Rattle.layout.specs.Table.{Table, indexOf}
+use Rattle.le.specs.Floats.{doubleAt}
+use Rattle.layout.specs.Header.{headerOf}
+use Rattle.layout.specs.Table.{Table, indexOf, segmentOf, elementOf}
 use Rattle.layout.specs.Layout.{values, names}
 use Rattle.strings.proofs.Accepted.{strings-iff}
-use Rattle.tree.specs.File.{usedNodes}
+use Rattle.tree.specs.File.{address, usedNodes}
 use Rattle.lookup.specs.Lookup.{textFrom, Borne, BorneWith, indexOfText, addressOfText}
 use Rattle.lookup.specs.Kinds.{toldIn, tableOf, kindOf, numberOf}
 use Rattle.lookup.specs.declared.Kind.the-variants.{Name, Value}
 use Rattle.lookup.specs.declared.Lookup.{Lookup}
 use Rattle.lookup.specs.declared.Lookup.the-variants.{Found, Absent}
-use Rattle.lookup.proofs.Found.{index-found-iff, index-absent-iff, address-found-iff, address-absent-iff}
+use Rattle.lookup.proofs.Found.{zero-unborne, index-found-iff, index-absent-iff, address-found-iff, address-absent-iff}
 use Rattle.accept.specs.Verdict.{acceptChecks, verdictOf}
 use Rattle.accept.specs.Rules.{FileRules}
 use Rattle.accept.proofs.Accepted.{accepted-iff}
 use Rattle.accept.proofs.Rows.{refused-row}
-use Rattle.taplinen.specs.Answers.{answered}
-use Rattle.taplinen.specs.Questions.{acceptAnswer, textAnswer, nameAnswer, valueAnswer}
-use Rattle.taplinen.specs.Demands.{Refuses, Acceptance, Finds, Lookups}
+use Rattle.accept.proofs.Complete.{none-broken}
+use Rattle.taplinen.specs.Answers.{answered, reported}
+use Rattle.taplinen.specs.Questions.{acceptAnswer, headerAnswer, textAnswer, nameAnswer, valueAnswer}
+use Rattle.taplinen.specs.Demands.{Refuses, Answers, Acceptance, Reports, Finds, Lookups}
 use Rattle.taplinen.specs.declared.answer.Answer.{Answer}
 use Rattle.taplinen.proofs.Held.{text-told}
-use Rattle.taplinen.proofs.Refusing.{accepted-0, accepted-value, verdict-refuses, refuses-verdict, file-number, zero-accepted}
+use Rattle.taplinen.proofs.Refusing.{verdict-answers, verdict-refuses, refuses-verdict, file-number, zero-accepted}
 
 -- ---- the first sentence
 
@@ -36,9 +39,9 @@ module _ (b : List ℕ) (room : ℕ) where
   unfolding acceptAnswer
   accept-zero z = zero-accepted b room 0 (usedNodes b) z
 
-  zero-accept : verdictOf b room ≡ Accepted → (acceptAnswer b room .refusal ≡ 0) × (acceptAnswer b room .value ≡ usedNodes b)
+  zero-accept : verdictOf b room ≡ Accepted → Answers (acceptAnswer b room) (usedNodes b)
   unfolding acceptAnswer
-  zero-accept e = (accepted-0 0 (usedNodes b) e, accepted-value 0 (usedNodes b) e)
+  zero-accept e = verdict-answers 0 (usedNodes b) e
 
   pub accept-refused : (n p : ℕ) → Refuses (acceptAnswer b room) n p → verdictOf b room ≡ Refused n p
   unfolding acceptAnswer
@@ -56,11 +59,18 @@ module _ (b : List ℕ) (room : ℕ) where
 
   pub acceptance : Acceptance b room
   acceptance = record {
-    accepted = (λ z. accepted-iff b room .0 (accept-zero z), λ w. zero-accept (accepted-iff b room .1 w) .0);
+    accepted = (λ z. accepted-iff b room .0 (accept-zero z), λ w. zero-accept (accepted-iff b room .1 w) .answered);
     refused = λ n p. (λ r. first-broken n p .0 (accept-refused n p r), λ f. refused-accept n p (first-broken n p .1 f));
     row = λ n p r. refused-row b room (accept-refused n p r);
-    value = λ z. zero-accept (accept-zero z) .1;
+    no-row = λ z n p. let w = accepted-iff b room .0 (accept-zero z) in none-broken b (w .0) (w .1);
+    value = λ z. zero-accept (accept-zero z);
   }
+
+  pub reports : acceptAnswer b room .refusal ≡ 0 → Reports b (headerAnswer b room)
+  unfolding headerAnswer reported headerOf doubleAt
+  reports z =
+      let e = accept-zero z in
+      record { answered = rw e; place = rw e; version = rw e; bits = rw e; timestamp = rw e; has-revision = rw e; revision = rw e }
 
 -- ---- the second sentence
 
@@ -70,10 +80,10 @@ unfolding kindOf numberOf
 found-numbers (Found n) i = (λ w. ap Found (w .1), λ e. (refl, (cc)))
 found-numbers Absent i = (λ w. absurd (omega (arith, w .0)), λ e. let z : _≡_ {A = ℕ} 0 1 = cc in absurd (omega arith))
 
-absent-number : (l : Lookup) → (kindOf l ≡ 1) ↔ (l ≡ Absent)
-unfolding kindOf
-absent-number (Found n) = (λ e. absurd (omega arith), λ e. let z : _≡_ {A = ℕ} 0 1 = cc in absurd (omega arith))
-absent-number Absent = (λ e. refl, λ e. refl)
+absent-numbers : (l : Lookup) → ((kindOf l ≡ 1) × (numberOf l ≡ 0)) ↔ (l ≡ Absent)
+unfolding kindOf numberOf
+absent-numbers (Found n) = (λ w. absurd (omega (arith, w .0)), λ e. let z : _≡_ {A = ℕ} 0 1 = cc in absurd (omega arith))
+absent-numbers Absent = (λ e. refl, λ e. (refl, refl))
 
 finds : (t : Table) (f : ℕ → ℕ → ℕ) (x : List ℕ) (l : Lookup) (r : Answer) → r ≡ answered Accepted (kindOf l) (numberOf l)
     → ((i : ℕ) → (l ≡ Found i) ↔ BorneWith f t x i) → ((l ≡ Absent) ↔ (Borne t x → ⊥)) → Finds t f x r
@@ -87,7 +97,10 @@ finds t f x l r e g h =
         λ w. g i .0 (found-numbers l i .0 (sym k ∙ w .0, sym v ∙ w .1)),
         λ w. let u = found-numbers l i .1 (g i .1 w) in (k ∙ u .0, v ∙ u .1),
       );
-      absent = (λ z. h .0 (absent-number l .0 (sym k ∙ z)), λ w. k ∙ absent-number l .1 (h .1 w));
+      absent = (
+        λ w. h .0 (absent-numbers l .0 (sym k ∙ w .0, sym v ∙ w .1)),
+        λ w. let u = absent-numbers l .1 (h .1 w) in (k ∙ u .0, v ∙ u .1),
+      );
     }
 
 module _ (b : List ℕ) (room : ℕ) (q : List ℕ) (z : acceptAnswer b room .refusal ≡ 0) (even : length q % 2 ≡ 0) where
@@ -102,14 +115,22 @@ module _ (b : List ℕ) (room : ℕ) (q : List ℕ) (z : acceptAnswer b room .re
   unfolding valueAnswer textAnswer toldIn tableOf
   value-told = text-told Value b room q (accept-zero b room z) even
 
+  name-found : Finds (names b) (indexOf (names b)) (textFrom q) (nameAnswer b room q)
+  name-found =
+      let ok = strings-iff (names b) .1 (rules .name-table) in
+      finds (names b) (indexOf (names b)) (textFrom q) _ _ name-told (index-found-iff (names b) (textFrom q) ok) (index-absent-iff (names b) (textFrom q) ok)
+
+  value-found : Finds (values b) (λ k j. address (segmentOf (values b) k j) (elementOf (values b) k j)) (textFrom q) (valueAnswer b room q)
+  value-found =
+      let ok = strings-iff (values b) .1 (rules .value-table) in
+      finds (values b) _ (textFrom q) _ _ value-told (address-found-iff (values b) (textFrom q) ok) (address-absent-iff (values b) (textFrom q) ok)
+
   pub lookups : Lookups b room q
   lookups = record {
-    name =
-        finds (names b) (indexOf (names b)) (textFrom q) _ _ name-told
-        (λ i. index-found-iff (names b) (textFrom q) (strings-iff (names b) .1 (rules .name-table)) i)
-        (index-absent-iff (names b) (textFrom q) (strings-iff (names b) .1 (rules .name-table)));
-    value =
-        finds (values b) _ (textFrom q) _ _ value-told
-        (λ i. address-found-iff (values b) (textFrom q) (strings-iff (values b) .1 (rules .value-table)) i)
-        (address-absent-iff (values b) (textFrom q) (strings-iff (values b) .1 (rules .value-table)));
+    name = name-found;
+    value = value-found;
+    zero = λ i h e. (
+      name-found .absent .1 (zero-unborne (names b) (textFrom q) i h e) .0,
+      value-found .absent .1 (zero-unborne (values b) (textFrom q) i h e) .0,
+    );
   }

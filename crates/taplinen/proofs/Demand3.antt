@@ -17,6 +17,7 @@ use Rattle.path.proofs.Listed.{listed}
 use Rattle.path.proofs.Demand.{place-holds}
 use Rattle.path.proofs.Written.{length-encode}
 use Rattle.batch.specs.Places.{places, placeChecks, answersAfter}
+use Rattle.batch.proofs.Own.{own-bytes}
 use Rattle.batch.proofs.Placed.{length-places}
 use Rattle.outline.specs.Outline.{outlineOf}
 use Rattle.outline.specs.Outlined.{outlineChecks, outlineAfter}
@@ -32,7 +33,7 @@ use Rattle.taplinen.specs.Answers.{answered}
 use Rattle.taplinen.proofs.Laws.{text-odd}
 use Rattle.taplinen.proofs.EachPlace.{name-place, value-place}
 use Rattle.taplinen.proofs.Demand2.{accept-zero}
-use Rattle.taplinen.proofs.Refusing.{verdict-refuses, accepted-0, accepted-value, front-after, room-fits, room-over, outnumber}
+use Rattle.taplinen.proofs.Refusing.{verdict-answers, verdict-refuses, front-after, room-fits, room-over, outnumber}
 
 -- 24 is not given
 well-formed : (q : List ℕ) → WellFormed q → Clean (pathChecks q)
@@ -96,7 +97,8 @@ module _ (b : List ℕ) (room : ℕ) (z : acceptAnswer b room .refusal ≡ 0) wh
     unfolding batchAnswer namePlaces valuePlaces
     batch = record {
       room-short = outnumber (batchVerdict b room q (length d)) 0 texts 25 texts (length d / 8) (λ e. omega arith) all-fit too-many;
-      answered = λ l. (accepted-0 0 texts (all-fit l), accepted-value 0 texts (all-fit l));
+      answered = λ l. verdict-answers 0 texts (all-fit l);
+      text = λ i h. let o = own-bytes q i h in (take (2 * o .1) (drop (o .0) q), record { even = omega (arith, o .3); text = o .4 });
       name = λ l i h s t. name-place b room q d (all-fit l) i h s (t .even) (t .text);
       value = λ l i h s t. value-place b room q d (all-fit l) i h s (t .even) (t .text);
       names-after = places-after _;
@@ -136,7 +138,7 @@ module _ (b : List ℕ) (room : ℕ) (z : acceptAnswer b room .refusal ≡ 0) wh
       listed = listed b rules q;
       room-short = outnumber (pathVerdict b room q (length d)) 0 many 25 many (length d / 4) (λ e. omega arith) matches-fit matches-over;
       kept = listing-kept;
-      answered = λ l. (accepted-0 0 many (matches-fit l), accepted-value 0 many (matches-fit l));
+      answered = λ l. verdict-answers 0 many (matches-fit l);
       holds = λ l i h. rw (listing-is l) (place-holds b q d rules i h);
       after = λ l. ap (drop (4 * many)) (listing-is l) ∙ listing-rest;
     }
@@ -173,7 +175,7 @@ module _ (b : List ℕ) (room : ℕ) (z : acceptAnswer b room .refusal ≡ 0) wh
       chains = _;
       lined = outline-lines b rules;
       room-short = outnumber (outlineVerdict b room (length d)) 0 long 26 long (length d) (λ e. omega arith) outline-fit outline-over;
-      answered = λ l. (accepted-0 0 long (outline-fit l), accepted-value 0 long (outline-fit l));
+      answered = λ l. verdict-answers 0 long (outline-fit l);
       holds = λ l. ap (take long) (buffer-is l) ∙ buffer-front;
       after = λ l. ap (drop long) (buffer-is l) ∙ buffer-rest;
     }

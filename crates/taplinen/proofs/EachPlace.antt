@@ -1,10 +1,10 @@
 -- Many lookups in one acceptance, from one law: place i holds the kind and the value that the question for text i alone answers.
 -- Assumes nothing.
-use Prim.Native.Nat.{ℕ, _+_, _*_, _%_, _^_, _≤_, _<_}
+use Prim.Native.Nat.{ℕ, _+_, _*_, _%_, _^_, _<_}
 use native.Mathlib.Omega.{arith}
 use mathlib.Core.Path.{_≡_, sym, ap, _∙_}
 use mathlib.Core.List.{List}
-use lib.ListN.{length, take, drop}
+use lib.ListN.{length}
 use Rattle.verdict.specs.declared.Verdict.the-variants.{Accepted}
 use Rattle.verdict.proofs.Laws.{append-inv}
 use Rattle.le.specs.Le.{u32At}
@@ -18,7 +18,6 @@ use Rattle.lookup.specs.declared.Lookup.{Lookup}
 use Rattle.lookup.proofs.ByKind.{number-low}
 use Rattle.path.specs.Names.{namesOf, nameAt}
 use Rattle.batch.proofs.Told.{place-holds}
-use Rattle.batch.proofs.Own.{own-bytes}
 use Rattle.accept.specs.Verdict.{acceptChecks, verdictOf}
 use Rattle.accept.specs.Rules.{FileRules}
 use Rattle.accept.proofs.Accepted.{accepted-iff}
@@ -68,12 +67,3 @@ module _ (b : List ℕ) (room : ℕ) (texts d : List ℕ) (ok : batchVerdict b r
     pub value-place : PlaceHolds (valuePlaces b room texts d) i (valueAnswer b room q)
     unfolding valuePlaces batchPlaces valueAnswer textAnswer toldIn tableOf
     value-place = place-told Value
-
-  -- such bytes are those that text i has among the texts
-  pub own-places : (at n : ℕ) × (at + 2 * n + 2 ≤ length texts) × (textFrom (take (2 * n) (drop at texts)) ≡ nameAt (namesOf texts) i)
-      × PlaceHolds (namePlaces b room texts d) i (nameAnswer b room (take (2 * n) (drop at texts)))
-      × PlaceHolds (valuePlaces b room texts d) i (valueAnswer b room (take (2 * n) (drop at texts)))
-  own-places =
-      let w = own-bytes texts i h in
-      let even : length (take (2 * w .1) (drop (w .0) texts)) % 2 ≡ 0 = omega (arith, w .3) in
-      (w .0, w .1, w .2, w .4, name-place _ even (w .4), value-place _ even (w .4))

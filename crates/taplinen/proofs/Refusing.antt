@@ -15,7 +15,7 @@ use Rattle.verdict.proofs.Broken.{AllOf, all-broken, append-refused}
 use Rattle.accept.specs.Verdict.{acceptChecks, verdictOf}
 use Rattle.accept.proofs.Rows.{refused-row, row-number}
 use Rattle.taplinen.specs.Answers.{answered}
-use Rattle.taplinen.specs.Demands.{Refuses, OneOf, OfFile}
+use Rattle.taplinen.specs.Demands.{Refuses, Answers, OneOf, OfFile}
 
 -- ---- an answer and its verdict
 
@@ -29,14 +29,6 @@ module _ (k m : ℕ) where
   unfolding answered
   accepted-0 e = rw e
 
-  pub accepted-value : {v : Verdict} → v ≡ Accepted → answered v k m .value ≡ m
-  unfolding answered
-  accepted-value e = rw e
-
-  pub accepted-kind : {v : Verdict} → v ≡ Accepted → answered v k m .kind ≡ k
-  unfolding answered
-  accepted-kind e = rw e
-
   pub refused-number : {v : Verdict} {n p : ℕ} → v ≡ Refused n p → (answered v k m .refusal ≡ n) × (answered v k m .value ≡ p)
   unfolding answered
   refused-number e = (rw e, rw e)
@@ -44,11 +36,16 @@ module _ (k m : ℕ) where
   -- refused with n at p
   pub refuses-verdict : (v : Verdict) {n p : ℕ} → Refuses (answered v k m) n p → v ≡ Refused n p
   unfolding answered
-  refuses-verdict Accepted r = absurd (r .refused (sym (r .number)))
+  refuses-verdict Accepted r = absurd (r .not-0 (sym (r .number)))
   refuses-verdict (Refused a q) r = let x = r .number in let y = r .place in cc
 
   pub verdict-refuses : {v : Verdict} {n p : ℕ} → (n ≡ 0 → ⊥) → v ≡ Refused n p → Refuses (answered v k m) n p
-  verdict-refuses z e = let w = refused-number e in record { refused = z; number = w .0; place = w .1 }
+  unfolding answered
+  verdict-refuses z e = record { not-0 = z; number = rw e; kind = rw e; place = rw e }
+
+  pub verdict-answers : {v : Verdict} → v ≡ Accepted → Answers (answered v 0 m) m
+  unfolding answered
+  verdict-answers e = record { answered = rw e; kind = rw e; value = rw e }
 
 -- ---- acceptance's numbers
 

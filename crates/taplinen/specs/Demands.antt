@@ -1,14 +1,17 @@
--- The three demands (document 00), of what a C caller sees: the answers of the exported functions, and the buffers that they leave.
--- proofs/Demands has the proofs. That every call ends and stays within its buffers is part of what is proved of each function.
+-- The three demands (document 00), stated about the definitions that the contracts of the exported functions (src) name. Each contract
+-- says, for every input and without a precondition, that the answer and every buffer equal these definitions. That each call ends and
+-- stays within its buffers is proved of each function and is not repeated here. proofs/Demands proves this page.
 --
--- b: the bytes of the file. ws: those of the workspace. room: how many the workspace has.
+-- b: the bytes of the file. ws: the bytes of the workspace before the call; room: its length. q: the bytes of a text, a path or a list of
+-- texts. d: the bytes of a listing, of answers or of an outline's buffer before the call; list, answers, out: its length.
 use Prim.Native.Nat.{ℕ, _*_, _/_, _%_, _≤_, _<_}
 use mathlib.Core.Path.{_≡_}
 use mathlib.Core.Logic.{_⊎_, _↔_}
 use mathlib.Core.List.{List}
+use lib.Ieee.{ofBits, binary64}
 use lib.ListN.{length, getD, take, drop}
 use Rattle.verdict.specs.Checks.{FirstBroken}
-use Rattle.le.specs.Le.{u32At}
+use Rattle.le.specs.Le.{u32At, u64At}
 use Rattle.region.specs.Region.{Resolves, numberOf}
 use Rattle.layout.specs.Table.{Table, indexOf, segmentOf, elementOf}
 use Rattle.layout.specs.Layout.{nodeSize, nodesAt, values, names}
@@ -27,16 +30,24 @@ use Rattle.outline.specs.Lined.{Lined}
 use Rattle.taplinen.specs.Questions.{workspaceLeft, acceptAnswer, headerAnswer, nameAnswer, valueAnswer, pathAnswer, pathListing, outlineAnswer, outlineBuffer}
 use Rattle.taplinen.specs.Batches.{batchAnswer, namePlaces, valuePlaces, PlaceHolds}
 use Rattle.taplinen.specs.declared.answer.Answer.{Answer}
+use Rattle.taplinen.specs.declared.header.HeaderReport.{HeaderReport}
 
--- An answer refuses with number n at place p. 0 is no refusal.
+-- An answer refuses with number n at place p. A refusal has a number other than 0, and kind 0.
 pub record Refuses (r : Answer) (n p : ℕ) : Type 0 where
-  pub refused : n ≡ 0 → ⊥
+  pub not-0 : n ≡ 0 → ⊥
   pub number : r .refusal ≡ n
+  pub kind : r .kind ≡ 0
   pub place : r .value ≡ p
+
+-- An answer that is not a lookup's: no refusal, kind 0, and the value v.
+pub record Answers (r : Answer) (v : ℕ) : Type 0 where
+  pub answered : r .refusal ≡ 0
+  pub kind : r .kind ≡ 0
+  pub value : r .value ≡ v
 
 -- ---- Demand 1: an answer or one numbered refusal with its place
 
--- A refusal is 0, which means answered, or one of the numbers that P has.
+-- The refusal field is 0 (answered) or a number that satisfies P.
 abbrev pub OneOf : (ℕ → Type 0) → ℕ → Type 0
 OneOf P n = (n ≡ 0) ⊎ P n
 
@@ -44,7 +55,8 @@ OneOf P n = (n ≡ 0) ⊎ P n
 abbrev pub OfFile : ℕ → Type 0
 OfFile n = (1 ≤ n) × (n ≤ 23)
 
--- Each question has acceptance's refusals; a text 24 besides; a path and many texts 24 and 25; the outline 26.
+-- Every question can be refused with acceptance's numbers; a text also with 24; a path or a list of texts also with 24 or 25; the outline
+-- also with 26.
 pub record Numbers (b : List ℕ) (room : ℕ) : Type 0 where
   pub accept : OneOf OfFile (acceptAnswer b room .refusal)
   pub header : OneOf OfFile (headerAnswer b room .refusal)
@@ -63,6 +75,18 @@ pub record AcceptsFirst (b : List ℕ) (room n p : ℕ) : Type 0 where
   pub texts : (q : List ℕ) (answers : ℕ) → Refuses (batchAnswer b room q answers) n p
   pub outline : (out : ℕ) → Refuses (outlineAnswer b room out) n p
 
+-- A path or a list of texts is well formed: an even number of bytes, and empty or ending in a 0 character.
+abbrev pub WellFormed : List ℕ → Type 0
+WellFormed q = (length q % 2 ≡ 0) × Closed q
+
+-- On an accepted file, a text of an odd number of bytes, and a path or a list of texts that is not well formed, is refused with 24; the
+-- place is its length in bytes.
+pub record Malformed (b : List ℕ) (room : ℕ) (q : List ℕ) : Type 0 where
+  pub name : (length q % 2 ≡ 0 → ⊥) → Refuses (nameAnswer b room q) 24 (length q)
+  pub value : (length q % 2 ≡ 0 → ⊥) → Refuses (valueAnswer b room q) 24 (length q)
+  pub path : (WellFormed q → ⊥) → (list : ℕ) → Refuses (pathAnswer b room q list) 24 (length q)
+  pub texts : (WellFormed q → ⊥) → (answers : ℕ) → Refuses (batchAnswer b room q answers) 24 (length q)
+
 -- Refused means that the listing, the answers and the outline's buffer are as they were.
 pub record Untouched (b : List ℕ) (room : ℕ) : Type 0 where
   pub listing : (q d : List ℕ) → (pathAnswer b room q (length d) .refusal ≡ 0 → ⊥) → pathListing b room q d ≡ d
@@ -78,17 +102,17 @@ pub record SameLength (b : List ℕ) (room : ℕ) : Type 0 where
   pub values : (q d : List ℕ) → length (valuePlaces b room q d) ≡ length d
   pub outline : (d : List ℕ) → length (outlineBuffer b room d) ≡ length d
 
--- The workspace, byte by byte, after any question. What counts is acceptance's own answer: a 24, 25 or 26 follows an acceptance.
+-- The workspace, byte by byte, after any question. It depends only on acceptance's answer, since 24, 25 and 26 follow an acceptance.
 pub record Workspace (b ws : List ℕ) : Type 0 where
   -- Accepted: the byte of a used node is 1 exactly when the node is in some live node's child range, and 0 otherwise.
   pub one : acceptAnswer b (length ws) .refusal ≡ 0 → (seg el : ℕ) → Resolves nodeSize b (nodesAt b) seg el
       → (getD (workspaceLeft b ws) (numberOf nodeSize b (nodesAt b) seg el) 0 ≡ 1) ↔ IsChild b (address seg el)
   pub else-zero : acceptAnswer b (length ws) .refusal ≡ 0 → (seg el : ℕ) → Resolves nodeSize b (nodesAt b) seg el
       → (IsChild b (address seg el) → ⊥) → getD (workspaceLeft b ws) (numberOf nodeSize b (nodesAt b) seg el) 0 ≡ 0
-  -- Refused with 21 or 22: the first bytes, one for each used node, are 0.
+  -- Acceptance refused with 21 or 22: the first U bytes are 0 (U: the number of used nodes).
   pub cleared : (acceptAnswer b (length ws) .refusal ≡ 21) ⊎ (acceptAnswer b (length ws) .refusal ≡ 22)
       → (i : ℕ) → i < usedNodes b → getD (workspaceLeft b ws) i 0 ≡ 0
-  -- Refused with any other number: every byte is as it was.
+  -- Acceptance refused with any other number: every byte is as it was.
   pub untouched : (acceptAnswer b (length ws) .refusal ≡ 0 → ⊥) → (acceptAnswer b (length ws) .refusal ≡ 21 → ⊥)
       → (acceptAnswer b (length ws) .refusal ≡ 22 → ⊥) → workspaceLeft b ws ≡ ws
   -- Whatever the answer, the bytes past the used nodes are as they were.
@@ -99,48 +123,55 @@ pub record Workspace (b ws : List ℕ) : Type 0 where
 pub record Acceptance (b : List ℕ) (room : ℕ) : Type 1 where
   -- A file is accepted exactly when every rule holds of it and the workspace has a byte for each used node.
   pub accepted : (acceptAnswer b room .refusal ≡ 0) ↔ (FileRules b × (usedNodes b ≤ room))
-  -- Otherwise it is refused for the first fault in the stated order: every rule before that one holds.
+  -- Otherwise it is refused for the first fault in the stated order, which is that of acceptChecks (accept/specs/Verdict): that rule is
+  -- broken, and every rule before it holds.
   pub refused : (n p : ℕ) → Refuses (acceptAnswer b room) n p ↔ FirstBroken (acceptChecks b room) n p
-  -- What is refused is a row of document 01's table: the rule with that number is broken at that place.
+  -- Every refusal is a row of document 01's table: the rule with that number is broken at that place. Of an accepted file no row is broken.
   pub row : (n p : ℕ) → Refuses (acceptAnswer b room) n p → Broken b room n p
-  -- The answer is the number of used nodes.
-  pub value : acceptAnswer b room .refusal ≡ 0 → acceptAnswer b room .value ≡ usedNodes b
+  pub no-row : acceptAnswer b room .refusal ≡ 0 → (n p : ℕ) → Broken b room n p → ⊥
+  -- Accepted: the value is the number of used nodes.
+  pub value : acceptAnswer b room .refusal ≡ 0 → Answers (acceptAnswer b room) (usedNodes b)
+
+-- The header report of an accepted file: version, timestamp with its bits unchanged, revision.
+pub record Reports (b : List ℕ) (r : HeaderReport) : Type 0 where
+  pub answered : r .refusal ≡ 0
+  pub place : r .place ≡ 0
+  pub version : r .version ≡ u32At b 0
+  pub bits : r .«timestamp_bits» ≡ u64At b 4
+  pub timestamp : r .timestamp ≡ ofBits binary64 (u64At b 4)
+  pub has-revision : r .«has_revision» ≡ 1
+  pub revision : r .revision ≡ u32At b 12
 
 -- ---- Demand 2, second sentence
 
--- r answers a lookup of the text x in a table: found, with what f tells of the entry, exactly when an entry bears that text; else absent.
+-- r answers a lookup of the text x. f k j is the number answered for entry j of bucket k. Found (kind 0), with that number, exactly when
+-- an entry bears that same text; otherwise absent (kind 1), with 0.
 pub record Finds (t : Table) (f : ℕ → ℕ → ℕ) (x : List ℕ) (r : Answer) : Type 0 where
   pub answered : r .refusal ≡ 0
   pub found : (i : ℕ) → ((r .kind ≡ 0) × (r .value ≡ i)) ↔ BorneWith f t x i
-  pub absent : (r .kind ≡ 1) ↔ (Borne t x → ⊥)
+  pub absent : ((r .kind ≡ 1) × (r .value ≡ 0)) ↔ (Borne t x → ⊥)
 
 -- On an accepted file, for a text of an even number of bytes: its index among the names, its address among the values.
 pub record Lookups (b : List ℕ) (room : ℕ) (q : List ℕ) : Type 0 where
   pub name : Finds (names b) (indexOf (names b)) (textFrom q) (nameAnswer b room q)
   pub value : Finds (values b) (λ k j. address (segmentOf (values b) k j) (elementOf (values b) k j)) (textFrom q) (valueAnswer b room q)
+  -- A text holding a 0 is absent.
+  pub zero : (i : ℕ) → i < length (textFrom q) → getD (textFrom q) i 0 ≡ 0 → (nameAnswer b room q .kind ≡ 1) × (valueAnswer b room q .kind ≡ 1)
 
--- A path, or the texts of a question for many, is well formed: an even number of bytes, and empty or ending in a 0 character.
-abbrev pub WellFormed : List ℕ → Type 0
-WellFormed q = (length q % 2 ≡ 0) × Closed q
+-- ---- Beyond the demands: many lookups in one acceptance
 
--- On an accepted file, a text of an odd number of bytes, and a path or texts that are not well formed, are refused with 24 and their length.
-pub record Malformed (b : List ℕ) (room : ℕ) (q : List ℕ) : Type 0 where
-  pub name : (length q % 2 ≡ 0 → ⊥) → Refuses (nameAnswer b room q) 24 (length q)
-  pub value : (length q % 2 ≡ 0 → ⊥) → Refuses (valueAnswer b room q) 24 (length q)
-  pub path : (WellFormed q → ⊥) → (list : ℕ) → Refuses (pathAnswer b room q list) 24 (length q)
-  pub texts : (WellFormed q → ⊥) → (answers : ℕ) → Refuses (batchAnswer b room q answers) 24 (length q)
-
--- s is the bytes of text i of the texts q.
+-- s: the bytes of text i of q, without its 0.
 pub record TextIs (q : List ℕ) (i : ℕ) (s : List ℕ) : Type 0 where
   pub even : length s % 2 ≡ 0
   pub text : textFrom s ≡ nameAt (namesOf q) i
 
--- On an accepted file, for well-formed texts q and answers d of any length.
+-- On an accepted file, for a well-formed list of texts q and answers d of any length.
 pub record Batch (b : List ℕ) (room : ℕ) (q d : List ℕ) : Type 0 where
-  -- Refused for room exactly when there are more texts than places, with their number.
+  -- Refused for room exactly when there are more texts than places; the refusal's place is the number of texts.
   pub room-short : Refuses (batchAnswer b room q (length d)) 25 (length (namesOf q)) ↔ (length d / 8 < length (namesOf q))
   -- Otherwise it answers their number, and place i holds what the question for text i alone answers; every byte after them stays.
-  pub answered : length (namesOf q) ≤ length d / 8 → (batchAnswer b room q (length d) .refusal ≡ 0) × (batchAnswer b room q (length d) .value ≡ length (namesOf q))
+  pub answered : length (namesOf q) ≤ length d / 8 → Answers (batchAnswer b room q (length d)) (length (namesOf q))
+  pub text : (i : ℕ) → i < length (namesOf q) → (s : List ℕ) × TextIs q i s
   pub name : length (namesOf q) ≤ length d / 8 → (i : ℕ) → i < length (namesOf q) → (s : List ℕ) → TextIs q i s
       → PlaceHolds (namePlaces b room q d) i (nameAnswer b room s)
   pub value : length (namesOf q) ≤ length d / 8 → (i : ℕ) → i < length (namesOf q) → (s : List ℕ) → TextIs q i s
@@ -160,11 +191,11 @@ pub record Paths (b : List ℕ) (room : ℕ) (q d : List ℕ) : Type 0 where
   -- document order.
   pub matches : List ℕ
   pub listed : Listed (treeOf b) (nameText b) (namesOf q) matches
-  -- Refused for room exactly when they outnumber the places, with their number; the buffer keeps every byte.
+  -- Refused for room exactly when the matches outnumber the places; the refusal's place is the number of matches; the buffer keeps every byte.
   pub room-short : Refuses (pathAnswer b room q (length d)) 25 (length matches) ↔ (length d / 4 < length matches)
   pub kept : length d / 4 < length matches → pathListing b room q d ≡ d
   -- Otherwise it answers their number; that many places from the first hold the matches in order; every byte after them stays.
-  pub answered : length matches ≤ length d / 4 → (pathAnswer b room q (length d) .refusal ≡ 0) × (pathAnswer b room q (length d) .value ≡ length matches)
+  pub answered : length matches ≤ length d / 4 → Answers (pathAnswer b room q (length d)) (length matches)
   pub holds : length matches ≤ length d / 4 → (i : ℕ) → i < length matches → u32At (pathListing b room q d) (4 * i) ≡ getD matches i 0
   pub after : length matches ≤ length d / 4 → drop (4 * length matches) (pathListing b room q d) ≡ drop (4 * length matches) d
 
@@ -175,9 +206,10 @@ pub record Outlines (b : List ℕ) (room : ℕ) (d : List ℕ) : Type 0 where
   -- A line for each chain from the root, in document order.
   pub chains : List (List ℕ)
   pub lined : Lined b chains
-  -- Refused exactly when it does not fit, with its length; otherwise its length is answered, it stands in the buffer, and every later byte stays.
+  -- Refused exactly when it does not fit; the refusal's place is its length. Otherwise its length is answered, it stands in the buffer from the
+  -- first byte on, and every later byte stays.
   pub room-short : Refuses (outlineAnswer b room (length d)) 26 (length (outlineOf b)) ↔ (length d < length (outlineOf b))
-  pub answered : length (outlineOf b) ≤ length d → (outlineAnswer b room (length d) .refusal ≡ 0) × (outlineAnswer b room (length d) .value ≡ length (outlineOf b))
+  pub answered : length (outlineOf b) ≤ length d → Answers (outlineAnswer b room (length d)) (length (outlineOf b))
   pub holds : length (outlineOf b) ≤ length d → take (length (outlineOf b)) (outlineBuffer b room d) ≡ outlineOf b
   pub after : length (outlineOf b) ≤ length d → drop (length (outlineOf b)) (outlineBuffer b room d) ≡ drop (length (outlineOf b)) d
 
@@ -186,12 +218,13 @@ pub record Outlines (b : List ℕ) (room : ℕ) (d : List ℕ) : Type 0 where
 pub record Demands : Type 1 where
   pub numbers : (b : List ℕ) (room : ℕ) → Numbers b room
   pub accepts-first : (b : List ℕ) (room n p : ℕ) → Refuses (acceptAnswer b room) n p → AcceptsFirst b room n p
+  pub malformed : (b : List ℕ) (room : ℕ) (q : List ℕ) → acceptAnswer b room .refusal ≡ 0 → Malformed b room q
   pub untouched : (b : List ℕ) (room : ℕ) → Untouched b room
   pub same-length : (b : List ℕ) (room : ℕ) → SameLength b room
   pub workspace : (b ws : List ℕ) → Workspace b ws
   pub acceptance : (b : List ℕ) (room : ℕ) → Acceptance b room
+  pub header : (b : List ℕ) (room : ℕ) → acceptAnswer b room .refusal ≡ 0 → Reports b (headerAnswer b room)
   pub lookups : (b : List ℕ) (room : ℕ) (q : List ℕ) → acceptAnswer b room .refusal ≡ 0 → length q % 2 ≡ 0 → Lookups b room q
-  pub malformed : (b : List ℕ) (room : ℕ) (q : List ℕ) → acceptAnswer b room .refusal ≡ 0 → Malformed b room q
   pub batches : (b : List ℕ) (room : ℕ) (q d : List ℕ) → acceptAnswer b room .refusal ≡ 0 → WellFormed q → Batch b room q d
   pub one-chain : (b : List ℕ) (room : ℕ) → acceptAnswer b room .refusal ≡ 0 → OneChain b
   pub paths : (b : List ℕ) (room : ℕ) (q d : List ℕ) → acceptAnswer b room .refusal ≡ 0 → WellFormed q → Paths b room q d

@@ -15,7 +15,7 @@ use Rattle.tree.specs.File.{address, treeOf, usedNodes}
 abbrev pub InRange : Tree → ℕ → ℕ → Type 0
 InRange t a c = SomeBelow (t .count a) (λ j. child t a j ≡ c)
 
--- Node c is in some live node's child range: some used node's, since a nameless node's has no element.
+-- Node c is in some live node's child range. It is enough to look at used nodes: a nameless node's child count is 0.
 abbrev pub IsChild : List ℕ → ℕ → Type 0
 IsChild b c =
     SomeBelow (countOf b (nodesAt b)) (λ s. SomeBelow (usedOf nodeSize b (nodesAt b) s) (λ e. InRange (treeOf b) (address s e) c))
