@@ -1,4 +1,4 @@
--- Groundwork for request T-12 of document 02: changing a value of an attribute of type 1. The changed file obeys every rule, is accepted
+-- Groundwork for request T-12: changing a value of an attribute of type 1. The changed file obeys every rule, is accepted
 -- in the same workspace with the same marks, and has the same view. Assumes nothing.
 use Prim.Native.Nat.{ℕ, _<_}
 use mathlib.Core.Path.{_≡_}

@@ -1,4 +1,4 @@
--- Every refusal of acceptance is a row of document 01's table: what a broken check of the stated order means, group by group.
+-- Every refusal of acceptance is a row of the table of refusals: what a broken check of the stated order means, group by group.
 -- Assumes nothing.
 use Prim.Native.Nat.{ℕ, _-_, _≤_, _<_}
 use native.Mathlib.Omega.{arith}

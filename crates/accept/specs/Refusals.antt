@@ -1,4 +1,4 @@
--- Rows 1 to 23 of document 01's table ("Refusal numbers"): number, place, and what is broken there. A file can break several rules;
+-- Rows 1 to 23 of the table of refusals (FORMAT, "Refusals"): number, place, and what is broken there. A file can break several rules;
 -- the first in the stated order is given. 24 to 26 belong to the questions.
 use Prim.Native.Nat.{ℕ, _+_, _-_, _*_, _≤_, _<_}
 use mathlib.Core.Path.{_≡_}

@@ -1,4 +1,4 @@
--- Every rule of document 01 but 20, as it states them: what acceptance means for a file. 20 is about the workspace.
+-- Every rule but 20 (FORMAT, "Refusals"): what acceptance means for a file. 20 is about the workspace.
 use Prim.Native.Nat.{ℕ, _<_}
 use mathlib.Core.List.{List}
 use Rattle.layout.specs.Header.{keyCount}

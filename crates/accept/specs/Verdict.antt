@@ -1,4 +1,4 @@
--- The verdict on a file (01, "Refusal numbers"): every check of 1 to 23 in the stated order, and the first that does not hold.
+-- The verdict on a file (FORMAT, "Refusals"): every check of 1 to 23 in the stated order, and the first that does not hold.
 use Prim.Native.Nat.{ℕ}
 use mathlib.Core.List.{List, _++_}
 use Rattle.verdict.specs.Checks.{Check, firstFault}

@@ -1,4 +1,4 @@
-// Acceptance: every refusal of 1 to 23, the first fault in the stated order (01, "Refusal numbers").
+// Acceptance: every refusal of 1 to 23, the first fault in the stated order (FORMAT, "Refusals").
 ghost use mathlib.Core.Path.{_≡_};
 ghost use lib.ListN.{length};
 ghost use Rattle.layout.specs.View.{Fits};

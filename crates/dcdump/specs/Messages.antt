@@ -1,4 +1,4 @@
--- The lines that the program writes (01, "The program"), each with its newline.
+-- The lines that the program writes (FORMAT, "Frames"), each with its newline.
 use Prim.Native.Nat.{ℕ}
 use mathlib.Core.List.{List, [], _∷_, _++_}
 use Rattle.print.specs.Text.{decimal}

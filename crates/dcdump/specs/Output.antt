@@ -1,4 +1,4 @@
--- What the program writes for what it reads (01, "The program").
+-- What the program writes for what it reads (FORMAT, "Frames").
 use Prim.Native.Nat.{ℕ}
 use mathlib.Core.List.{List, _++_}
 use lib.ListN.{length}

@@ -1,4 +1,4 @@
-// The buffers of the program (01, "The program"). Of each only its length matters: a caller's proof is spared its zeros.
+// The buffers of the program (FORMAT, "Frames"). Of each only its length matters: a caller's proof is spared its zeros.
 ghost use mathlib.Core.Path.{_≡_};
 ghost use lib.ListN.{length};
 ghost use Rattle.dcdump.specs.Reading.{readMost};

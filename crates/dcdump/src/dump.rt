@@ -1,4 +1,4 @@
-// What is written for what was read (01, "The program").
+// What is written for what was read (FORMAT, "Frames").
 ghost use mathlib.Core.Path.{_≡_};
 ghost use mathlib.Core.List.{_++_};
 ghost use Prim.Native.Nat.{_≤_};

@@ -1,4 +1,4 @@
-// The program: frames on standard input, a report on standard output (01, "The program").
+// The program: frames on standard input, a report on standard output (FORMAT, "Frames").
 mod buffers;
 mod dump;
 mod messages;

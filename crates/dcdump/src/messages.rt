@@ -1,4 +1,4 @@
-// The lines that the program writes (01, "The program").
+// The lines that the program writes (FORMAT, "Frames").
 ghost use mathlib.Core.List.{[], _∷_, _++_};
 ghost use Rattle.print.specs.Put.{Put};
 ghost use Rattle.print.specs.Text.{decimal};

@@ -1,4 +1,4 @@
--- Inputs of one or two lines, as the paper reads them. Assumes nothing.
+-- Inputs of one or two lines, as they are to be read (FORMAT, "Frames"). Assumes nothing.
 use mathlib.Core.Path.{_≡_, refl}
 use mathlib.Core.List.{List, [], _∷_, _++_, flatten}
 use Prim.Native.Nat.{ℕ}

@@ -1,4 +1,4 @@
--- Frames (01, "The program"): lines of hexadecimal to bytes, or the first bad line.
+-- Frames (FORMAT, "Frames"): lines of hexadecimal to bytes, or the first bad line.
 use Prim.Native.Nat.{ℕ, _+_}
 use mathlib.Core.Bool.{Bool, cond, _&&_}
 use mathlib.Core.List.{List, [], _∷_, flatten}

@@ -1,4 +1,4 @@
--- Lines of the program's input, and hexadecimal digits (01, "The program").
+-- Lines of the program's input, and hexadecimal digits (FORMAT, "Frames").
 use Prim.Native.Nat.{ℕ, _+_, _-_, _*_}
 use mathlib.Core.Bool.{Bool, true, false, cond, _&&_}
 use mathlib.Core.List.{List, [], _∷_}

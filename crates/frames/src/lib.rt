@@ -1,4 +1,4 @@
-// Frames: lines of hexadecimal to bytes (01, "The program").
+// Frames: lines of hexadecimal to bytes (FORMAT, "Frames").
 ghost use mathlib.Core.Path.{_≡_};
 ghost use mathlib.Core.Bool.{true};
 ghost use Prim.Native.Nat.{_+_, _≤_, _<_};

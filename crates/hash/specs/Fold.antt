@@ -1,4 +1,4 @@
--- The value hash (01, "Strings"): fold each character, hash, keep the low 14 bits.
+-- The value hash (FORMAT, "Value hash"): fold each character, hash, keep the low 14 bits.
 use Prim.Native.Nat.{ℕ, _-_, _/_, _%_, _^_, _<_}
 use mathlib.Core.Path.{_≡_}
 use mathlib.Core.Bool.{Bool, cond, not, _&&_, _||_}

@@ -1,4 +1,4 @@
--- The string hash and the bucket (01, "Strings").
+-- The string hash and the bucket (FORMAT, "Hash").
 use Prim.Native.Nat.{ℕ, _/_, _%_}
 use mathlib.Core.List.{List, [], _∷_}
 use lib.Bits.{bitXor}

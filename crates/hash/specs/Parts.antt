@@ -1,4 +1,4 @@
--- What people who write builders may rely on (02, T-07). proofs/Parts has the proof, `hash-laws`.
+-- What people who write builders may rely on (docs/changes/T-07.md). proofs/Parts has the proof, `hash-laws`.
 use Prim.Native.Nat.{ℕ}
 use mathlib.Core.Path.{_≡_}
 use mathlib.Core.List.{List, [], _∷_, _++_}

@@ -1,4 +1,4 @@
--- The table of the hash (01, "Strings": T has 256 entries, copied from 000), its rule, and the tables that the code lends.
+-- The table of the hash (FORMAT, "Hash": T has 256 entries), its rule, and the tables that the code lends.
 use Prim.Native.Nat.{ℕ, zero, suc, _*_, _/_, _%_, _^_, _<_}
 use mathlib.Core.Path.{_≡_}
 use mathlib.Core.Bool.{cond}
@@ -7,7 +7,7 @@ use lib.Bits.{bitXor}
 use lib.Dec.{ltb}
 use lib.ListN.{length, getD}
 
--- T, as document 000 prints it.
+-- T, as the public description of the format prints it.
 unfoldable pub T : List ℕ
 T =
     0x00000000 ∷ 0x04c11db7 ∷ 0x09823b6e ∷ 0x0d4326d9 ∷ 0x130476dc ∷ 0x17c56b6b ∷ 0x1a864db2 ∷ 0x1e475005 ∷

@@ -1,11 +1,11 @@
-// The string hash and the value hash (01, "Strings").
+// The string hash and the value hash (FORMAT, "Hash", "Value hash").
 ghost use mathlib.Core.Path.{_≡_};
 ghost use Prim.Native.Nat.{_+_, _/_, _%_, _^_, _≤_, _<_};
 ghost use Rattle.hash.specs.Table.{Entries, zerosOn, Tables};
 ghost use Rattle.hash.specs.Hash.{hashByte, hashChar, bucketOf};
 ghost use Rattle.hash.specs.Fold.{folded, FoldedPair, valueHashOf};
 
-// T, as document 000 prints it.
+// T, as the public description of the format prints it.
 const T: [u32; 256] = [
     0x00000000,
     0x04c11db7,

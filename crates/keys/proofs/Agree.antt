@@ -1,5 +1,5 @@
 -- The names of a file stay, and its keys obey their rules as before, where four bytes among the attributes change. Groundwork for request
--- T-12 of document 02. Assumes nothing.
+-- T-12. Assumes nothing.
 use Prim.Native.Nat.{ℕ, _<_}
 use native.Mathlib.Omega.{arith}
 use mathlib.Core.Path.{_≡_, sym, _∙_}

@@ -1,4 +1,4 @@
--- Keys (01, "Refusal numbers", 15): four names each.
+-- Keys (FORMAT, "Keys"; refusal 15): four names each.
 use Prim.Native.Nat.{ℕ, _+_, _*_, _≤_, _<_}
 use mathlib.Core.Path.{_≡_}
 use mathlib.Core.List.{List}

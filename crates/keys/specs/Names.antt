@@ -1,4 +1,4 @@
--- The names of a file (01, "Strings", "Questions"), and the two special ones.
+-- The names of a file (FORMAT, "String tables", "Questions"), and the two special ones.
 use Prim.Native.Nat.{ℕ, _-_, _≤_}
 use mathlib.Core.Path.{_≡_}
 use mathlib.Core.Logic.{_⊎_}

@@ -1,4 +1,4 @@
--- Refusals 14 and 15 (01, "Refusal numbers").
+-- Refusals 14 and 15 (FORMAT, "Refusals").
 use Prim.Native.Nat.{ℕ}
 use mathlib.Core.List.{List, [], _∷_}
 use Rattle.verdict.specs.Checks.{Check, check, each}

@@ -1,4 +1,4 @@
-// Refusals 14 and 15: the special names and the keys (01, "Refusal numbers").
+// Refusals 14 and 15: the special names and the keys (FORMAT, "Refusals").
 pub mod list;
 pub mod special;
 

@@ -1,4 +1,4 @@
--- The header and the keys (01, "Layout").
+-- The header and the keys (FORMAT, "Header", "Keys").
 use Prim.Native.Nat.{ℕ, _+_, _*_}
 use mathlib.Core.List.{List, [], _∷_}
 use Rattle.verdict.specs.Checks.{Check, atMost, equal, each}

@@ -1,4 +1,4 @@
--- What the scans of the front and of a table leave. Where a table is refused, the papers leave open what the starts hold: only
+-- What the scans of the front and of a table leave. Where a table is refused, nothing says what the starts hold: only
 -- their number stays.
 use Prim.Native.Nat.{ℕ}
 use mathlib.Core.Path.{_≡_}

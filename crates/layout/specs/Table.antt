@@ -1,4 +1,4 @@
--- A string table as it lies in the file (01, "Layout"): a segmented region of characters, its buckets, its address list.
+-- A string table as it lies in the file (FORMAT, "String tables"): a segmented region of characters, its buckets, its address list.
 use Prim.Native.Nat.{ℕ, zero, suc, _+_, _-_, _*_, _≤_, _<_}
 use mathlib.Core.Path.{_≡_}
 use mathlib.Core.List.{List, [], _∷_, _++_}

@@ -1,4 +1,4 @@
--- The checked view (01, "Layout"): the header report, the region places, and where each bucket starts; and its fit to the bytes.
+-- The checked view (FORMAT, "File layout"): the header report, the region places, and where each bucket starts; and its fit to the bytes.
 use Prim.Native.Nat.{ℕ}
 use mathlib.Core.Path.{_≡_}
 use mathlib.Core.List.{List}

@@ -1,4 +1,4 @@
-// Refusals 1 to 6 along the file, and the view of a file that passes them (01, "Layout").
+// Refusals 1 to 6 along the file, and the view of a file that passes them (FORMAT, "File layout").
 mod front;
 mod tables;
 pub mod whole;
@@ -26,7 +26,7 @@ pub const NODE_SIZE: usize = 24;
 
 pub const CHARACTER_SIZE: usize = 2;
 
-// The most that the values' address count can say: the papers set it no limit of its own.
+// The most that the values' address count can say: the format sets it no limit of its own.
 pub const MOST_VALUES: usize = 4_294_967_295;
 
 // The most that the names' address count may say.

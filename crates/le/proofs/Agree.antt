@@ -1,5 +1,5 @@
 -- Numbers read from two files that agree outside the four bytes at x; a word written there, and the old word put back.
--- Groundwork for request T-12 of document 02. Assumes nothing.
+-- Groundwork for request T-12. Assumes nothing.
 use Prim.Native.Nat.{ℕ, zero, suc, _+_, _-_, _*_, _/_, _%_, _^_, _≤_, _<_}
 use native.Mathlib.Nat.{add-zero}
 use native.Mathlib.Omega.{arith}

@@ -1,5 +1,5 @@
 -- Words written into a list of bytes one after the other, and taken back newest first: every byte is as it was.
--- Groundwork for request T-12 of document 02, whose contract will use `old-word` and `series-back`. Assumes nothing.
+-- Groundwork for request T-12, whose contract will use `old-word` and `series-back`. Assumes nothing.
 use Prim.Native.Nat.{ℕ, _+_, _^_, _≤_, _<_}
 use mathlib.Core.Path.{_≡_, refl, _∙_}
 use mathlib.Core.List.{List, [], _∷_, _++_}

@@ -1,4 +1,4 @@
--- Floats by their bit patterns (01, "Layout": bits unchanged, NaN included). The logic has one NaN, so the bits stand beside the float.
+-- Floats by their bit patterns (FORMAT, "Header": bits unchanged, NaN included). The logic has one NaN, so the bits stand beside the float.
 use Prim.Native.Nat.{ℕ}
 use mathlib.Core.List.{List}
 use lib.Ieee.{ofBits, binary32, binary64}

@@ -1,4 +1,4 @@
--- Little-endian numbers at an offset of a list of bytes (01, "Layout"). Past the end a byte reads as 0.
+-- Little-endian numbers at an offset of a list of bytes (FORMAT, "Conventions"). Past the end a byte reads as 0.
 use Prim.Native.Nat.{ℕ, _+_, _*_, _/_, _%_}
 use mathlib.Core.List.{List, [], _∷_}
 use lib.ListN.{getD}

@@ -1,4 +1,4 @@
-// Little-endian numbers at an offset of a slice of bytes (01, "Layout": little endian).
+// Little-endian numbers at an offset of a slice of bytes (FORMAT, "Conventions").
 ghost use mathlib.Core.Path.{_≡_};
 ghost use Prim.Native.Nat.{_+_, _≤_, _<_, _^_};
 ghost use lib.ListN.{length};

@@ -1,4 +1,4 @@
--- A text that is asked with (01, "Refusal numbers").
+-- A text that is asked with (FORMAT, "Refusals").
 use Prim.Native.Nat.{ℕ, _%_}
 use mathlib.Core.List.{List, [], _∷_}
 use lib.ListN.{length}

@@ -1,4 +1,4 @@
--- The two kinds of lookup (01, "Questions"), and 01's numbers for what one answers.
+-- The two kinds of lookup (FORMAT, "Questions"), and the numbers for what one answers.
 use Prim.Native.Nat.{ℕ, _+_, _*_}
 use mathlib.Core.List.{List}
 use Rattle.le.specs.Le.{u16At, u32At}

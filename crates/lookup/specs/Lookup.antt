@@ -1,4 +1,4 @@
--- Lookup of a text in a string table (01, "Questions"; demand 2): found exactly when an entry bears that very text.
+-- Lookup of a text in a string table (FORMAT, "Questions"; demand 2): found exactly when an entry bears that very text.
 use Prim.Native.Nat.{ℕ, _+_, _*_, _/_}
 use mathlib.Core.Path.{_≡_}
 use mathlib.Core.List.{List}

@@ -1,4 +1,4 @@
-// Name by text and value by text in an accepted string table (01, "Questions").
+// Name by text and value by text in an accepted string table (FORMAT, "Questions").
 ghost use mathlib.Core.Path.{_≡_};
 ghost use Prim.Native.Nat.{_+_, _*_, _≤_};
 ghost use lib.ListN.{length};

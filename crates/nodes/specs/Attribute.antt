@@ -1,4 +1,4 @@
--- Attributes (01, "Nodes and attributes"): the fields of the attribute at offset q, and the value read out.
+-- Attributes (FORMAT, "Attributes"): the fields of the attribute at offset q, and the value read out.
 use Prim.Native.Nat.{ℕ, _+_, _-_, _≤_}
 use mathlib.Core.Path.{_≡_}
 use mathlib.Core.Bool.{cond}

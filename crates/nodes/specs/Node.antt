@@ -1,4 +1,4 @@
--- Nodes (01, "Nodes and attributes"): the fields of the node at offset p, and what they mean.
+-- Nodes (FORMAT, "Nodes"): the fields of the node at offset p, and what they mean.
 use Prim.Native.Nat.{ℕ, _+_}
 use mathlib.Core.Path.{_≡_}
 use mathlib.Core.Bool.{cond}

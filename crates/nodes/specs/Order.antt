@@ -1,4 +1,4 @@
--- Refusals 16 to 19 and 23, node by node (01, "Refusal numbers").
+-- Refusals 16 to 19 and 23, node by node (FORMAT, "Refusals").
 use Prim.Native.Nat.{ℕ}
 use mathlib.Core.List.{List, [], _∷_, _++_}
 use Rattle.verdict.specs.Checks.{Check, check, each}

@@ -1,4 +1,4 @@
-// Refusals 16 to 19 and 23: nodes and attributes (01, "Nodes and attributes", "Refusal numbers").
+// Refusals 16 to 19 and 23: nodes and attributes (FORMAT, "Nodes", "Attributes", "Refusals").
 pub mod all;
 mod attribute;
 mod node;

@@ -1,4 +1,4 @@
--- The outline by chains (01, "Nodes and attributes", "Questions"): one line for each chain from the root, in document order.
+-- The outline by chains (FORMAT, "Outline", "Chains and document order"): one line for each chain from the root, in document order.
 -- (proofs/Listed.antt: this is what outlineOf gives for every accepted file.)
 use Prim.Native.Nat.{ℕ}
 use mathlib.Core.Path.{_≡_}

@@ -1,4 +1,4 @@
--- The outline (01, "Questions"): the root's block; a node's block is its line and then the blocks of its children, in order.
+-- The outline (FORMAT, "Outline"): the root's block; a node's block is its line and then the blocks of its children, in order.
 use Prim.Native.Nat.{ℕ, zero, suc, _+_, _*_}
 use mathlib.Core.Bool.{Bool, true, false, cond}
 use mathlib.Core.List.{List, [], _∷_, _++_}

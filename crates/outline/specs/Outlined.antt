@@ -1,4 +1,4 @@
--- The outline question: refusal 26, and what is left in the buffer (01, "Questions", "Refusal numbers").
+-- The outline question: refusal 26, and what is left in the buffer (FORMAT, "Questions", "Refusals").
 use Prim.Native.Nat.{ℕ}
 use mathlib.Core.List.{List, [], _∷_, _++_}
 use lib.ListN.{length, drop}

@@ -1,4 +1,4 @@
-// The outline of an accepted file (01, "Questions").
+// The outline of an accepted file (FORMAT, "Outline").
 ghost use mathlib.Core.Path.{_≡_};
 ghost use lib.ListN.{length};
 ghost use Rattle.outline.specs.Ready.{OutlineReady};

@@ -1,4 +1,4 @@
--- Path listing (01, "Questions"): the matches written out, or refusal 25.
+-- Path listing (FORMAT, "Questions"): the matches written out, or refusal 25.
 use Prim.Native.Nat.{ℕ, _+_, _/_}
 use mathlib.Core.Bool.{Bool, true, false, cond, not, _&&_}
 use mathlib.Core.List.{List, [], _∷_, _++_}

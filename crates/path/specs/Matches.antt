@@ -1,4 +1,4 @@
--- The matches of a path (01, "Questions"; demand 3), defined by chains and the names that they bear.
+-- The matches of a path (FORMAT, "Questions"; demand 3), defined by chains and the names that they bear.
 use Prim.Native.Nat.{ℕ, _<_}
 use mathlib.Core.Path.{_≡_}
 use mathlib.Core.List.{List, [], _∷_, List·Memᴰ}

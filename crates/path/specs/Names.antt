@@ -1,4 +1,4 @@
--- A path and its names (01, "Questions"), and refusal 24.
+-- A path and its names (FORMAT, "Questions"), and refusal 24.
 use Prim.Native.Nat.{ℕ, zero, suc, _-_, _%_}
 use native.Mathlib.Decide.{ℕ-discrete}
 use mathlib.Core.Path.{_≡_}

@@ -1,4 +1,4 @@
-// Path listing in an accepted file (01, "Questions").
+// Path listing in an accepted file (FORMAT, "Questions").
 mod below;
 pub mod listing;
 pub mod names;

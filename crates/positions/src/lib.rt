@@ -1,4 +1,4 @@
-// Refusal 13, and all of 7 to 13 of a string table (01, "Refusal numbers").
+// Refusal 13, and all of 7 to 13 of a string table (FORMAT, "Refusals").
 ghost use mathlib.Core.Path.{_≡_};
 ghost use Prim.Native.Nat.{_≤_, _<_, _^_};
 ghost use Rattle.verdict.specs.Checks.{Tells, Sure, firstFault};

@@ -1,4 +1,4 @@
--- How characters and numbers are written (01, "Questions", "The program").
+-- How characters and numbers are written (FORMAT, "Outline", "Frames").
 use Prim.Native.Nat.{ℕ, zero, suc, _+_, _/_, _%_, _^_}
 use mathlib.Core.Bool.{Bool, cond, not, _&&_, _||_}
 use mathlib.Core.List.{List, [], _∷_, _++_}

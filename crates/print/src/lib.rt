@@ -1,4 +1,4 @@
-// Bytes, numbers and characters, put into a lent buffer as far as it reaches (01, "Questions", "The program").
+// Bytes, numbers and characters, put into a lent buffer as far as it reaches (FORMAT, "Outline", "Frames").
 // One function serves both for the length of a text, with an empty buffer, and for writing it.
 mod bytes;
 mod chars;

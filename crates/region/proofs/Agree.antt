@@ -1,5 +1,5 @@
 -- The facts about a region depend only on its counts and on the length of the file, so they hold after a change of four bytes that touches
--- no count. Groundwork for request T-12 of document 02. Assumes nothing.
+-- no count. Groundwork for request T-12. Assumes nothing.
 use Prim.Native.Nat.{ℕ, zero, suc, _+_, _-_, _≤_, _<_}
 use native.Mathlib.Omega.{arith}
 use native.Mathlib.Nat.{add-zero, add-mul, mul-le-mul-right}

@@ -1,4 +1,4 @@
--- Refusals 2 and 5 along a segmented region (01, "Refusal numbers"), each field tested as it is read.
+-- Refusals 2 and 5 along a segmented region (FORMAT, "Refusals"), each field tested as it is read.
 use Prim.Native.Nat.{ℕ, _+_, _*_}
 use mathlib.Core.List.{List, [], _∷_}
 use lib.ListN.{length}

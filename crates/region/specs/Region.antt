@@ -1,4 +1,4 @@
--- A segmented region (01, "Layout") of elements of size bytes, at offset r of the file b: a segment count, then for each
+-- A segmented region (FORMAT, "Segmented regions") of elements of size bytes, at offset r of the file b: a segment count, then for each
 -- segment its full count, its used count and full count elements. Addresses and ranges in it.
 use Prim.Native.Nat.{ℕ, zero, suc, _+_, _*_, _≤_, _<_}
 use mathlib.Core.List.{List, [], _∷_, _++_}

@@ -1,5 +1,5 @@
 -- A string table that stands behind four changed bytes keeps its texts, and obeys its rules as before. Groundwork for request T-12 of
--- document 02. Assumes nothing.
+-- the customer. Assumes nothing.
 use Prim.Native.Nat.{ℕ, _+_, _≤_}
 use mathlib.Core.Path.{_≡_, sym, _∙_}
 use mathlib.Core.List.{List}

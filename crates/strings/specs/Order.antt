@@ -1,4 +1,4 @@
--- Refusals 7 to 13 of a string table in the order in which they run (01, "Refusal numbers").
+-- Refusals 7 to 13 of a string table in the order in which they run (FORMAT, "Refusals").
 use Prim.Native.Nat.{ℕ, _+_, _-_}
 use mathlib.Core.List.{List, [], _∷_, _++_}
 use Rattle.verdict.specs.Checks.{Check, check, each}

@@ -1,4 +1,4 @@
--- The rules of a string table, by the numbers of 01, "Refusal numbers".
+-- The rules of a string table, by their numbers (FORMAT, "Refusals").
 use Prim.Native.Nat.{ℕ, _+_, _-_, _≤_, _<_}
 use mathlib.Core.Path.{_≡_}
 use lib.ListN.{length}
@@ -54,7 +54,7 @@ pub record EntryRules (t : Table) (k j : ℕ) : Type 0 where
   pub bucket : bucketOf (t .buckets) (hashOf t k j) ≡ k
   pub indexed : Indexed t k j
 
--- All rules of a table, as the paper states them.
+-- All rules of a table (FORMAT, "Refusals").
 pub record TableRules (t : Table) : Type 0 where
   pub entry : (k j : ℕ) → k < t .buckets → j < entries t k → EntryRules t k j
   pub ascending : (k i j : ℕ) → k < t .buckets → j < entries t k → i + 1 ≡ j → hashOf t k i ≤ hashOf t k j

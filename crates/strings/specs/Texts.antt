@@ -1,4 +1,4 @@
--- The texts of a string table (01, "Strings").
+-- The texts of a string table (FORMAT, "Texts").
 use Prim.Native.Nat.{ℕ}
 use mathlib.Core.Bool.{cond}
 use mathlib.Core.List.{List}

@@ -1,4 +1,4 @@
-// Refusals 7 to 12: the entries of a string table (01, "Strings", "Refusal numbers").
+// Refusals 7 to 12: the entries of a string table (FORMAT, "String tables", "Refusals").
 pub mod ahead;
 pub mod entry;
 mod listed;

@@ -1,4 +1,4 @@
--- What crosses to C: document 01's number and values for each answer.
+-- What crosses to C: the numbers and values of each answer (FORMAT, "Refusals", "Questions").
 use Prim.Native.Nat.{ℕ}
 use lib.Ieee.{ofBits, binary64}
 use Rattle.verdict.specs.declared.Verdict.{Verdict}

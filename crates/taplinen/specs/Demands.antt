@@ -1,4 +1,4 @@
--- The three demands (document 00), stated about the definitions that the contracts of the exported functions (src) name. Each contract
+-- The three demands (docs/DEMANDS.md), stated about the definitions that the contracts of the exported functions (src) name. Each contract
 -- says, for every input and without a precondition, that the answer and every buffer equal these definitions. That each call ends and
 -- stays within its buffers is proved of each function and is not repeated here. proofs/Demands proves this page.
 --
@@ -126,7 +126,7 @@ pub record Acceptance (b : List ℕ) (room : ℕ) : Type 1 where
   -- Otherwise it is refused for the first fault in the stated order, which is that of acceptChecks (accept/specs/Verdict): that rule is
   -- broken, and every rule before it holds.
   pub refused : (n p : ℕ) → Refuses (acceptAnswer b room) n p ↔ FirstBroken (acceptChecks b room) n p
-  -- Every refusal is a row of document 01's table: the rule with that number is broken at that place. Of an accepted file no row is broken.
+  -- Every refusal is a row of the table of refusals (accept/specs/Refusals): the rule with that number is broken at that place. Of an accepted file no row is broken.
   pub row : (n p : ℕ) → Refuses (acceptAnswer b room) n p → Broken b room n p
   pub no-row : acceptAnswer b room .refusal ≡ 0 → (n p : ℕ) → Broken b room n p → ⊥
   -- Accepted: the value is the number of used nodes.

@@ -1,4 +1,4 @@
--- The two hashes by themselves, for people who write builders (02, T-07). No file is asked.
+-- The two hashes by themselves, for people who write builders (docs/changes/T-07.md). No file is asked.
 use Prim.Native.Nat.{ℕ, _%_, _<_}
 use mathlib.Core.Path.{_≡_}
 use mathlib.Core.List.{List, [], _∷_, _++_}
@@ -17,7 +17,7 @@ valueHashAnswer text = valueHash (textFrom text)
 
 -- What C callers may rely on. proofs/BothHashes has the proof, `hash-answers`.
 pub record HashAnswers : Type 0 where
-  -- Of whole characters it is document 01's hash, on from the start.
+  -- Of whole characters it is the hash of a text (FORMAT, "Hash"), on from the start.
   pub whole : (h : ℕ) (p : List ℕ) → ((k : ℕ) → getD p k 0 < 256) → length p % 2 ≡ 0 → hashAnswer h p ≡ hashOn h (textFrom p)
   -- Two calls, the second from the hash that the first answers, answer what one call on the joined text does, wherever it is split.
   pub two-calls : (h : ℕ) (p q : List ℕ) → hashAnswer (hashAnswer h p) q ≡ hashAnswer h (p ++ q)

@@ -1,4 +1,4 @@
--- The exported questions (01, "Questions"): each takes the file and a workspace and accepts first.
+-- The exported questions (FORMAT, "Questions"): each takes the file and a workspace and accepts first.
 use Prim.Native.Nat.{ℕ}
 use mathlib.Core.List.{List, _++_}
 use lib.ListN.{length}

@@ -6,7 +6,7 @@ ghost use Rattle.taplinen.specs.Answers.{answered};
 use lookup::Lookup;
 use verdict::Verdict;
 
-// refusal 0: answered, value is the answer; otherwise 01's number, value its place. kind, for lookups: 0 found, 1 absent.
+// refusal 0: answered, value is the answer; otherwise the number of the refusal, value its place. kind, for lookups: 0 found, 1 absent.
 #[repr(C)]
 pub struct Answer {
     pub refusal: u32,

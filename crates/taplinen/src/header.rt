@@ -4,7 +4,7 @@ ghost use lib.ListN.{length};
 ghost use Rattle.taplinen.specs.Questions.{headerAnswer, workspaceLeft};
 use verdict::Verdict;
 
-// refusal 0: accepted, and the header's fields; otherwise 01's number with its place, and 0 elsewhere.
+// refusal 0: accepted, and the header's fields; otherwise the number of the refusal with its place, and 0 elsewhere.
 #[repr(C)]
 pub struct HeaderReport {
     pub refusal: u32,

@@ -6,3 +6,4 @@ pub mod header;
 pub mod lookups;
 pub mod outlines;
 pub mod questions;
+pub mod version;

@@ -1,4 +1,4 @@
--- A text that stands behind four changed bytes is the same in both files. Groundwork for request T-12 of document 02. Assumes nothing.
+-- A text that stands behind four changed bytes is the same in both files. Groundwork for request T-12. Assumes nothing.
 use Prim.Native.Nat.{ℕ, zero, suc, _+_, _-_, _≤_}
 use native.Mathlib.Omega.{arith}
 use mathlib.Core.Path.{_≡_, refl, _∙_}

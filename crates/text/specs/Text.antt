@@ -1,4 +1,4 @@
--- Texts (01, "Strings"): the characters from an address up to the first 0 in the used part.
+-- Texts (FORMAT, "Texts"): the characters from an address up to the first 0 in the used part.
 use Prim.Native.Nat.{ℕ, zero, suc, _+_, _-_, _*_}
 use mathlib.Core.Path.{_≡_}
 use mathlib.Core.Bool.{cond}

@@ -1,4 +1,4 @@
-// The two hashes of a text that a caller hands over whole or in parts (02, T-07).
+// The two hashes of a text that a caller hands over whole or in parts (docs/changes/T-07.md).
 ghost use mathlib.Core.Path.{_≡_};
 ghost use Prim.Native.Nat.{_+_, _*_, _/_, _≤_, _<_, _^_};
 ghost use lib.ListN.{length, drop};

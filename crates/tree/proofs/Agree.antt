@@ -1,5 +1,5 @@
 -- The tree of a file stays, with its rules and marks, where four bytes among the attributes change: it reads only nodes. Groundwork for
--- request T-12 of document 02, whose contract will use `tree-same` for chains. Assumes nothing.
+-- request T-12, whose contract will use `tree-same` for chains. Assumes nothing.
 use Prim.Native.Nat.{ℕ, _+_, _≤_}
 use mathlib.Core.Path.{_≡_, refl, ap, fun-ext, _∙_}
 use mathlib.Core.List.{List, [], _∷_}

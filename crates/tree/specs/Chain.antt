@@ -1,4 +1,4 @@
--- Chains and document order (01, "Nodes and attributes"), over any tree whose nodes are numbers. The root is node 0.
+-- Chains and document order (FORMAT, "Chains and document order"), over any tree whose nodes are numbers. The root is node 0.
 use mathlib.Core.Path.{_≡_}
 use mathlib.Core.Bool.{cond}
 use mathlib.Core.Logic.{_⊎_}

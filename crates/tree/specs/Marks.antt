@@ -1,4 +1,4 @@
--- What acceptance leaves in the workspace (01, "Refusal numbers").
+-- What acceptance leaves in the workspace (FORMAT, "Workspace").
 use Prim.Native.Nat.{ℕ, _+_}
 use mathlib.Core.Path.{_≡_}
 use mathlib.Core.List.{List, [], _∷_, _++_}

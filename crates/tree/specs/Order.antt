@@ -1,4 +1,4 @@
--- Refusals 20 to 22 (01, "Refusal numbers").
+-- Refusals 20 to 22 (FORMAT, "Refusals").
 use Prim.Native.Nat.{ℕ}
 use mathlib.Core.List.{List, [], _∷_}
 use Rattle.verdict.specs.Checks.{Check, check, atMost, each}

@@ -1,4 +1,4 @@
--- What the tree's checks answer and leave in the workspace (01, "Refusal numbers"), and what the code holds for them.
+-- What the tree's checks answer and leave in the workspace (FORMAT, "Refusals", "Workspace"), and what the code holds for them.
 use Prim.Native.Nat.{ℕ, _+_, _<_}
 use mathlib.Core.Path.{_≡_}
 use mathlib.Core.Bool.{Bool, true, false, cond, _||_}

@@ -1,4 +1,4 @@
--- The rules of the tree, by the numbers of 01, "Refusal numbers".
+-- The rules of the tree, by their numbers (FORMAT, "Refusals").
 use Prim.Native.Nat.{ℕ, _≤_, _<_}
 use mathlib.Core.Path.{_≡_}
 use mathlib.Core.List.{List}

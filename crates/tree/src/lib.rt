@@ -1,4 +1,4 @@
-// Refusals 20 to 22: the workspace, the tree test and the depth (01, "Refusal numbers").
+// Refusals 20 to 22: the workspace, the tree test and the depth (FORMAT, "Refusals").
 ghost use mathlib.Core.Path.{_≡_};
 ghost use lib.ListN.{length};
 ghost use Rattle.verdict.specs.Checks.{firstFault};

@@ -1,5 +1,4 @@
--- Every value that document 01 states ("To be proved of the definitions, as a single table"), proved of the definitions that the
--- contracts cite. Assumes nothing.
+-- The worked values (FORMAT, "Worked values"), proved of the definitions that the contracts cite. Assumes nothing.
 use Prim.Native.Nat.{ℕ}
 use mathlib.Core.Path.{_≡_, refl}
 use mathlib.Core.List.{[], _∷_}

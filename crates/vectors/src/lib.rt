@@ -1,1 +1,1 @@
-// The worked values of document 01, "To be proved of the definitions": see proofs/Table.antt. There is no code here.
+// The worked values (FORMAT, "Worked values"): see proofs/Table.antt. There is no code here.

@@ -1,4 +1,4 @@
--- Refusals (01, "Refusal numbers"): checks as data, in the order in which they are to run, and the first that does not hold.
+-- Refusals (FORMAT, "Refusals"): checks as data, in the order in which they are to run, and the first that does not hold.
 use mathlib.Core.Path.{_≡_}
 use mathlib.Core.Bool.{Bool, true, false}
 use Prim.Native.Nat.{ℕ, zero, suc, _+_, _≤_, _<_}

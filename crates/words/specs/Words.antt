@@ -1,4 +1,4 @@
--- Key words and type words (01, "Nodes and attributes").
+-- Key words and type words (FORMAT, "Nodes", "Attributes").
 use Prim.Native.Nat.{ℕ, _/_, _%_}
 
 -- In the key word the low four bits are the flags.

@@ -1,4 +1,4 @@
-// The two words of nodes and attributes that hold two fields each (01, "Nodes and attributes").
+// The two words of nodes and attributes that hold two fields each (FORMAT, "Nodes", "Attributes").
 ghost use mathlib.Core.Path.{_≡_};
 ghost use Prim.Native.Nat.{_<_};
 ghost use Rattle.words.specs.Words.{flagsOf, keyIndexOf, typeOf, extendedOf};
