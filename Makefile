@@ -28,9 +28,12 @@ CRATES := crates.txt $(shell find crates -name must-fail -prune -o -print)
 COMPILE = $(CC) -std=gnu11 -Iinclude $(CPPFLAGS) $(CFLAGS)
 
 .DELETE_ON_ERROR:
-.PHONY: all install uninstall test check compare bench cost dump examples clean help
+.PHONY: all built install uninstall test check compare bench cost dump examples clean help
 
-all: $(STATIC) $(SHARED) $(TOOL) $(DUMP) ## prove and build the libraries, taplinen and dcdump (the default)
+all: built ## prove and build the libraries, taplinen and dcdump (the default)
+	@echo "Ready: the libraries $(STATIC) and $(SHARED), the programs $(TOOL) and $(DUMP)."
+
+built: $(STATIC) $(SHARED) $(TOOL) $(DUMP)
 
 $(STATIC): $(CRATES)
 	@scripts/build staticlib taplinen
@@ -52,7 +55,10 @@ $(TOOL): $(wildcard tool tool/*.c tool/*.h) include/taplinen.h $(STATIC) Makefil
 $(EXAMPLES): target/%: examples/%.c include/taplinen.h $(STATIC)
 	$(COMPILE) -pthread $(LDFLAGS) $< $(STATIC) $(LDLIBS) -o $@
 
-install: all ## install under PREFIX (/usr/local), below DESTDIR if it is set
+# The loader looks into these two directories by itself, through a cache that ldconfig writes.
+RUN_LDCONFIG = @case "$(DESTDIR):$(PREFIX):$$(id -u)" in :/usr:0|:/usr/local:0) $(LDCONFIG) || true ;; esac
+
+install: built ## install under PREFIX (/usr/local), below DESTDIR if it is set
 	$(INSTALL) -d "$(DESTDIR)$(BINDIR)" "$(DESTDIR)$(LIBDIR)" "$(DESTDIR)$(INCLUDEDIR)" "$(DESTDIR)$(PKGCONFIGDIR)" \
 	  "$(DESTDIR)$(MANDIR)/man1" "$(DESTDIR)$(MANDIR)/man3"
 	$(INSTALL) -m 755 $(TOOL) $(DUMP) "$(DESTDIR)$(BINDIR)"
@@ -67,22 +73,22 @@ install: all ## install under PREFIX (/usr/local), below DESTDIR if it is set
 	$(INSTALL) -m 644 target/taplinen.pc "$(DESTDIR)$(PKGCONFIGDIR)"
 	$(INSTALL) -m 644 man/taplinen.1 man/dcdump.1 "$(DESTDIR)$(MANDIR)/man1"
 	$(INSTALL) -m 644 man/taplinen.3 "$(DESTDIR)$(MANDIR)/man3"
-	@if [ -z "$(DESTDIR)" ] && [ "$$(id -u)" = 0 ]; then $(LDCONFIG) || true; fi
+	$(RUN_LDCONFIG)
 
 uninstall: ## remove what `make install` with the same variables has installed
 	rm -f "$(DESTDIR)$(BINDIR)/taplinen" "$(DESTDIR)$(BINDIR)/dcdump" "$(DESTDIR)$(LIBDIR)/libtaplinen.a" \
 	  "$(DESTDIR)$(LIBDIR)/$(notdir $(SHARED))" "$(DESTDIR)$(LIBDIR)/$(SONAME)" "$(DESTDIR)$(LIBDIR)/libtaplinen.so" \
 	  "$(DESTDIR)$(INCLUDEDIR)/taplinen.h" "$(DESTDIR)$(PKGCONFIGDIR)/taplinen.pc" "$(DESTDIR)$(MANDIR)/man1/taplinen.1" \
 	  "$(DESTDIR)$(MANDIR)/man1/dcdump.1" "$(DESTDIR)$(MANDIR)/man3/taplinen.3"
-	@if [ -z "$(DESTDIR)" ] && [ "$$(id -u)" = 0 ]; then $(LDCONFIG) || true; fi
+	$(RUN_LDCONFIG)
 
-test: ## run all tests, with every proof from nothing
+test: ## remove target/, then run all proofs and all tests: about 25 minutes
 	.ci/run
 
 check: ## prove the crate CRATE and what it needs; without CRATE all crates
 	rt check $(CRATE)
 
-compare: $(STATIC) ## compare the library with a second program for ten minutes (needs cargo)
+compare: $(STATIC) ## compare the library with the second program, that of compare/, for ten minutes (needs cargo)
 	cd compare && TAPLINEN_LIB=$(CURDIR)/target/staticlib cargo build --quiet --release --offline -p compare --features rattle
 	compare/target/release/compare --full --seconds 600
 
@@ -95,6 +101,7 @@ cost: $(TOOL) ## count the instructions per byte as files grow (needs cargo and 
 
 FILE ?= samples/shop.dc
 dump: $(DUMP) ## print FILE (at most 32,768 bytes) with dcdump
+	@[ -f "$(FILE)" ] && [ -r "$(FILE)" ] || { echo "make dump: cannot read the file $(FILE)" >&2; exit 1; }
 	@scripts/frames "$(FILE)" | $(DUMP)
 
 examples: $(EXAMPLES) ## build examples/NAME.c as target/NAME
@@ -105,3 +112,4 @@ clean: ## remove all that was built, the proofs as well
 help: ## list the targets
 	@awk -F ':.*## ' '/^[a-z]+:.*## / { printf "make %-10s %s\n", $$1, $$2 }' Makefile
 	@echo "Variables: CC CPPFLAGS CFLAGS LDFLAGS LDLIBS DESTDIR PREFIX BINDIR LIBDIR INCLUDEDIR MANDIR PKGCONFIGDIR INSTALL LDCONFIG"
+	@echo "RT_JOBS: how many crates are proved at a time, 4 if it is not set. Each takes up to 1 GB of memory."

@@ -1,4 +1,4 @@
-/* A small server: several threads answer requests about one file.
+/* The inside of a small server: several threads answer requests about one file. It has no network: the requests are a fixed list.
  *
  *     server FILE
  *
@@ -9,8 +9,8 @@
  *   - Many names are asked with one call, since each call checks the file again.
  *   - refusal is tested before the rest of an answer is used.
  *
- * The requests are a fixed list, made for samples/shop.dc. Threads take them in any order; the answers are printed in the order of the
- * list. Texts are ASCII here; tool/text.c shows how to convert UTF-8. */
+ * The list of requests is made for samples/shop.dc. Threads take them in any order; the answers are printed in the order of the list. Texts
+ * are ASCII here; tool/text.c shows how to convert UTF-8. */
 #include <pthread.h>
 #include <stdatomic.h>
 #include <stdio.h>
@@ -129,17 +129,24 @@ static int serve(struct server *s)
     return started > 0;
 }
 
+/* Reads the file. If that fails, it tells why and returns 0. */
 static int read_file(struct server *s, const char *name)
 {
     FILE *f = fopen(name, "rb");
-    long end = f != NULL && fseek(f, 0, SEEK_END) == 0 ? ftell(f) : -1;
+    long end = -1;
+    /* A directory can be opened, but not read. */
+    if (f != NULL && (fgetc(f) != EOF || !ferror(f)) && fseek(f, 0, SEEK_END) == 0)
+        end = ftell(f);
     if (end >= 0 && fseek(f, 0, SEEK_SET) == 0) {
         s->file = allocate((size_t)end + 1);
         s->file_len = fread(s->file, 1, (size_t)end, f);
     }
+    int done = end >= 0 && s->file_len == (size_t)end;
+    if (!done)
+        perror(name);
     if (f != NULL)
         fclose(f);
-    return end >= 0 && s->file_len == (size_t)end;
+    return done;
 }
 
 /* Learns the length of a workspace and makes the outline. Each takes a call that is refused because its buffer is too short. */
@@ -175,9 +182,9 @@ int main(int argc, char **argv)
     };
     struct server s = {.requests = requests, .count = sizeof requests / sizeof requests[0]};
     int status = 2;
-    if (argc != 2 || !read_file(&s, argv[1])) {
+    if (argc != 2) {
         fputs("usage: server FILE\n", stderr);
-    } else {
+    } else if (read_file(&s, argv[1])) {
         taplinen_answer a = prepare(&s);
         if (a.refusal != TAPLINEN_ANSWERED) {
             fprintf(stderr, "refused %u at %llu: %s\n", a.refusal, (unsigned long long)a.value, taplinen_reason(a.refusal));

@@ -50,9 +50,7 @@ static void check(const char *name, const struct progress *progress, struct tall
     struct input input;
     if (input_open(&input, name)) {
         show_progress(progress, tally);
-        taplinen_answer answer = input_check(&input);
-        if (answer.refusal == TAPLINEN_REFUSED_WORKSPACE)
-            answer = taplinen_accept(input.bytes, input.len, input.workspace, input.workspace_len);
+        taplinen_answer answer = taplinen_accept(input.bytes, input.len, input.workspace, input.workspace_len);
         clear_progress(progress);
         print_result(&input, answer, tally);
     } else {

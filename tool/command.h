@@ -6,9 +6,9 @@
 
 /* The exit status. Where two apply, the higher one is given. */
 enum status {
-    STATUS_ANSWERED = 0, /* accepted or found */
-    STATUS_NEGATIVE = 1, /* refused, absent or no match */
-    STATUS_ERROR = 2     /* wrong use, unreadable file, out of memory or write error */
+    STATUS_ANSWERED = 0, /* all files accepted, all texts found, a match */
+    STATUS_NEGATIVE = 1, /* a file refused, a text absent, no match */
+    STATUS_ERROR = 2     /* wrong use, unreadable file, text that is not UTF-8, out of memory or write error */
 };
 
 struct arguments;

@@ -4,11 +4,13 @@
 #include <stdio.h>
 #include <stdlib.h>
 
-static void print_message(const char *format, va_list values)
+static void print_message(const struct command *command, const char *format, va_list values)
 {
     /* Where both outputs go to one file, lines stay in order. */
     fflush(stdout);
     fputs("taplinen: ", stderr);
+    if (command != NULL)
+        fprintf(stderr, "%s: ", command->name);
     vfprintf(stderr, format, values);
     fputc('\n', stderr);
 }
@@ -17,18 +19,21 @@ enum status print_error(const char *format, ...)
 {
     va_list values;
     va_start(values, format);
-    print_message(format, values);
+    print_message(NULL, format, values);
     va_end(values);
     return STATUS_ERROR;
 }
 
-enum status wrong_use(const char *format, ...)
+enum status wrong_use(const struct command *command, const char *format, ...)
 {
     va_list values;
     va_start(values, format);
-    print_message(format, values);
+    print_message(command, format, values);
     va_end(values);
-    fputs("Try 'taplinen --help'.\n", stderr);
+    if (command != NULL)
+        fprintf(stderr, "Try 'taplinen help %s'.\n", command->name);
+    else
+        fputs("Try 'taplinen --help'.\n", stderr);
     return STATUS_ERROR;
 }
 

@@ -12,11 +12,13 @@ struct explanation {
 };
 
 static const struct explanation explanations[] = {
-    {1, "0", "whether it is the right file, and whether it is decompressed"},
+    {1, "0", "whether it is the right file, and whether it is decrypted and decompressed"},
     {2, "the offset of the field or array", "a truncated file, or a count before the place that is too large"},
     {3, "0, the offset of the version", "a file of another edition, or one that is not decrypted and decompressed"},
     {4, "the offset of the word", "how the header is written"},
-    {5, "the offset of the count", "how segments are written: at most 65,535 elements, and no more used than full"},
+    {5, "the offset of the count",
+     "the count: a key count is 1 to 4,096; segment counts and full counts are at most 65,535; a used count is at most its full count; an "
+     "address count is at least 1, that of the names at most 65,536"},
     {6, "the offset of the footer, or of the first byte after it", "padding after the footer, or a table with a wrong count"},
     {7, "the offset of the entry", "the address, or the used count of its segment"},
     {8, "the offset of the entry", "a text cut off at the end of its segment; the length counts the final 0"},
@@ -26,7 +28,7 @@ static const struct explanation explanations[] = {
     {12, "the offset of the entry", "a text that was added twice"},
     {13, "the offset of the list element", "an address left over in the list"},
     {14, "the offset of the names address count", "the order of the names: these two are added last"},
-    {15, "the offset of the key", "the name indexes of the key; key 0 is all zero"},
+    {15, "the offset of the key", "the fields of the key: each is 0 or a name index, which is at most the number of names"},
     {16, "the offset of the node, or of the node segment count if there is no used node 0:0",
      "the name index, flags and key index of the node; the root has the name __root__ and no attributes"},
     {17, "the offset of the node", "its attribute address and attribute count"},
@@ -65,7 +67,7 @@ enum status run_explain(const struct arguments *arguments)
     }
     const struct explanation *explanation = find(arguments->operands[0]);
     if (explanation == NULL)
-        return wrong_use("explain: there is no refusal %s", arguments->operands[0]);
+        return wrong_use(arguments->command, "there is no refusal %s", arguments->operands[0]);
     printf("refusal: %u\n", explanation->number);
     printf("reason: %s\n", taplinen_reason(explanation->number));
     printf("place: %s\n", explanation->place);

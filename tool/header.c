@@ -37,17 +37,21 @@ static void print_header(const taplinen_header_report *header)
     print_date(header->timestamp);
 }
 
+static enum status ask(const struct input *input)
+{
+    taplinen_header_report header = taplinen_header(input->bytes, input->len, input->workspace, input->workspace_len);
+    if (header.refusal != TAPLINEN_ANSWERED)
+        return print_refusal(stderr, input, header.refusal, header.place);
+    print_header(&header);
+    return STATUS_ANSWERED;
+}
+
 enum status run_header(const struct arguments *arguments)
 {
     struct input input;
-    enum status status = input_prepare(&input, arguments->operands[0]);
-    if (status == STATUS_ANSWERED) {
-        taplinen_header_report header = taplinen_header(input.bytes, input.len, input.workspace, input.workspace_len);
-        if (header.refusal == TAPLINEN_ANSWERED)
-            print_header(&header);
-        else
-            status = print_refusal(stderr, &input, header.refusal, header.place);
-    }
+    enum status status = STATUS_ERROR;
+    if (input_open(&input, arguments->operands[0]))
+        status = ask(&input);
     input_close(&input);
     return status;
 }

@@ -10,7 +10,6 @@
 #include <unistd.h>
 
 #include "error.h"
-#include "refusal.h"
 
 /* One byte more than a file may have. Longer files are refused whatever they hold, so no more is read. */
 static const size_t MOST_BYTES = TAPLINEN_FILE_SIZE_MAX + 1;
@@ -48,6 +47,14 @@ static bool read_whole(struct input *input, int fd)
     return true;
 }
 
+/* A byte for each 16 bytes of the file is always enough. A file that is too long is refused whatever the workspace. */
+static void add_workspace(struct input *input)
+{
+    size_t len = input->len < TAPLINEN_FILE_SIZE_MAX ? input->len : TAPLINEN_FILE_SIZE_MAX;
+    input->workspace_len = len / 16;
+    input->workspace = allocate(input->workspace_len);
+}
+
 bool input_open(struct input *input, const char *name)
 {
     *input = (struct input){.name = name};
@@ -55,31 +62,13 @@ bool input_open(struct input *input, const char *name)
     int fd = standard ? STDIN_FILENO : open(name, O_RDONLY | O_CLOEXEC);
     /* Standard input is always read, since it need not be at its start. Pipes and devices cannot be mapped. */
     bool done = fd >= 0 && ((!standard && map(input, fd)) || read_whole(input, fd));
-    if (!done)
+    if (done)
+        add_workspace(input);
+    else
         print_error("%s: %s", name, strerror(errno));
     if (fd >= 0 && !standard)
         close(fd);
     return done;
-}
-
-taplinen_answer input_check(struct input *input)
-{
-    taplinen_answer answer = taplinen_accept(input->bytes, input->len, NULL, 0);
-    if (answer.refusal == TAPLINEN_REFUSED_WORKSPACE) {
-        input->workspace_len = (size_t)answer.value;
-        input->workspace = allocate(input->workspace_len);
-    }
-    return answer;
-}
-
-enum status input_prepare(struct input *input, const char *name)
-{
-    if (!input_open(input, name))
-        return STATUS_ERROR;
-    taplinen_answer answer = input_check(input);
-    if (answer.refusal == TAPLINEN_REFUSED_WORKSPACE)
-        return STATUS_ANSWERED;
-    return print_refusal(stderr, input, answer.refusal, answer.value);
 }
 
 void input_close(struct input *input)

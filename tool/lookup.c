@@ -76,8 +76,7 @@ static enum status look_up(const struct table *table, const struct arguments *ar
     enum status status = STATUS_ERROR;
     if (append_texts(&list, texts, count)) {
         struct input input;
-        status = input_prepare(&input, arguments->operands[0]);
-        if (status == STATUS_ANSWERED)
+        if (input_open(&input, arguments->operands[0]))
             status = ask(table, &input, &list, texts, count);
         input_close(&input);
     }

@@ -13,8 +13,8 @@ static command_run run_help;
 static const struct command commands[] = {
     {"check", run_check, "FILE...", "Check whether files are accepted", 1, ANY_NUMBER, {{0}}},
     {"header", run_header, "FILE", "Print version, revision and timestamp", 1, 1, {{0}}},
-    {"name", run_name, "FILE TEXT...", "Look texts up among the names", 2, ANY_NUMBER, {{0}}},
-    {"value", run_value, "FILE TEXT...", "Look texts up among the values", 2, ANY_NUMBER, {{0}}},
+    {"name", run_name, "FILE TEXT...", "Look texts up in the names table", 2, ANY_NUMBER, {{0}}},
+    {"value", run_value, "FILE TEXT...", "Look texts up in the values table", 2, ANY_NUMBER, {{0}}},
     {"path", run_path, "FILE [PATH]", "List the nodes that a path of names leads to", 1, 2,
      {{"--separator", "C", "The character between the names of PATH, instead of /"}, {0}}},
     {"outline", run_outline, "FILE", "Print the tree", 1, 1,
@@ -31,7 +31,7 @@ static const struct command *find(const char *name)
     for (size_t i = 0; i < COMMANDS; i++)
         if (strcmp(commands[i].name, name) == 0)
             return &commands[i];
-    wrong_use("unknown command %s", name);
+    wrong_use(NULL, "unknown command %s", name);
     return NULL;
 }
 
@@ -42,12 +42,13 @@ static enum status print_help(void)
     for (size_t i = 0; i < COMMANDS; i++)
         printf("  %-8s%-14s  %s\n", commands[i].name, commands[i].usage, commands[i].help);
     puts("\n"
-         "  --help                  Print this help\n"
+         "  -h, --help              Print this help; after a command, help for it\n"
          "  --version               Print the version\n"
          "\n"
          "FILE may be -, which is standard input. -- ends the options.\n"
-         "Exit status: 0 answered; 1 refused, absent or no match; 2 wrong use, unreadable\n"
-         "file, out of memory or write error.");
+         "Exit status: 0 if all files are accepted, all texts are found, there is a match;\n"
+         "1 if a file is refused, a text is absent, there is no match; 2 for wrong use, an\n"
+         "unreadable file, a text that is not UTF-8, out of memory or a write error.");
     return STATUS_ANSWERED;
 }
 
@@ -98,15 +99,15 @@ static enum status run(int argc, char **argv)
     if (!same_version())
         return STATUS_ERROR;
     if (argc < 2)
-        return wrong_use("no command");
-    if (strcmp(argv[1], "--help") == 0)
+        return wrong_use(NULL, "no command");
+    if (asks_help(argv[1]))
         return print_help();
     if (strcmp(argv[1], "--version") == 0) {
         puts("taplinen " TAPLINEN_VERSION);
         return STATUS_ANSWERED;
     }
     if (argv[1][0] == '-')
-        return wrong_use("unknown option %s", argv[1]);
+        return wrong_use(NULL, "unknown option %s", argv[1]);
     const struct command *command = find(argv[1]);
     return command != NULL ? run_command(command, argv + 2, (size_t)argc - 2) : STATUS_ERROR;
 }

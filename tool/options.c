@@ -14,6 +14,11 @@ static bool gives(const char *word, const char *name, const char **value)
     return true;
 }
 
+bool asks_help(const char *word)
+{
+    return strcmp(word, "--help") == 0 || strcmp(word, "-h") == 0;
+}
+
 static enum parsed parse_option(struct arguments *arguments, const char *word)
 {
     const struct command *command = arguments->command;
@@ -22,16 +27,20 @@ static enum parsed parse_option(struct arguments *arguments, const char *word)
         const struct option *option = &command->options[i];
         if (!gives(word, option->name, &value))
             continue;
-        if ((option->value != NULL) != (value != NULL)) {
-            wrong_use("%s: option %s takes %s value", command->name, option->name, option->value != NULL ? "a" : "no");
+        if (option->value != NULL && value == NULL) {
+            wrong_use(command, "option %s takes a value: write %s=%s", option->name, option->name, option->value);
+            return PARSED_WRONG;
+        }
+        if (option->value == NULL && value != NULL) {
+            wrong_use(command, "option %s takes no value", option->name);
             return PARSED_WRONG;
         }
         arguments->values[i] = value != NULL ? value : "";
         return PARSED_RUN;
     }
-    if (strcmp(word, "--help") == 0)
+    if (asks_help(word))
         return PARSED_HELP;
-    wrong_use("%s: unknown option %s", command->name, word);
+    wrong_use(command, "unknown option %s", word);
     return PARSED_WRONG;
 }
 
@@ -40,7 +49,7 @@ static enum parsed check_count(const struct arguments *arguments)
     const struct command *command = arguments->command;
     if (arguments->count >= command->least && arguments->count <= command->most)
         return PARSED_RUN;
-    wrong_use("%s: too %s arguments", command->name, arguments->count < command->least ? "few" : "many");
+    wrong_use(command, "too %s arguments", arguments->count < command->least ? "few" : "many");
     return PARSED_WRONG;
 }
 

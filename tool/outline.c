@@ -57,7 +57,7 @@ static void write_utf8(const uint8_t *p, const uint8_t *end)
 
 static enum status ask(const struct input *input, bool utf8)
 {
-    /* The empty buffer is always too short: the outline has at least the line of the root. */
+    /* Two calls: one to learn the length, one to write. The empty buffer is always too short, since the root has a line. */
     taplinen_answer answer = taplinen_outline(input->bytes, input->len, input->workspace, input->workspace_len, NULL, 0);
     if (answer.refusal != TAPLINEN_REFUSED_OUTLINE)
         return print_refusal(stderr, input, answer.refusal, answer.value);
@@ -78,8 +78,8 @@ static enum status ask(const struct input *input, bool utf8)
 enum status run_outline(const struct arguments *arguments)
 {
     struct input input;
-    enum status status = input_prepare(&input, arguments->operands[0]);
-    if (status == STATUS_ANSWERED)
+    enum status status = STATUS_ERROR;
+    if (input_open(&input, arguments->operands[0]))
         status = ask(&input, option_value(arguments, "--utf8") != NULL);
     input_close(&input);
     return status;

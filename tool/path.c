@@ -20,7 +20,7 @@ static char separator(const struct arguments *arguments)
         return '/';
     if (strlen(value) == 1 && (unsigned char)value[0] < 0x80)
         return value[0];
-    wrong_use("path: the separator must be one ASCII character");
+    wrong_use(arguments->command, "the separator must be one ASCII character");
     return 0;
 }
 
@@ -39,7 +39,7 @@ static bool append_path(struct characters *path, const char *text, char between)
 
 static enum status ask(const struct input *input, const struct characters *path)
 {
-    /* A node matches once at most, so there are no more matches than used nodes: the bytes of the workspace. */
+    /* A node matches once at most, and the workspace has a byte for each used node: no more matches than it has bytes. */
     size_t list_len = PLACE_LEN * input->workspace_len;
     uint8_t *list = allocate(list_len);
     taplinen_answer answer = taplinen_path(input->bytes, input->len, input->workspace, input->workspace_len, path->bytes, path->len,
@@ -48,7 +48,7 @@ static enum status ask(const struct input *input, const struct characters *path)
     if (answer.refusal != TAPLINEN_ANSWERED) {
         status = print_refusal(stderr, input, answer.refusal, answer.value);
     } else if (answer.value == 0) {
-        fputs("no match\n", stderr);
+        print_error("no match");
         status = STATUS_NEGATIVE;
     } else {
         for (size_t i = 0; i < answer.value; i++)
@@ -67,8 +67,7 @@ enum status run_path(const struct arguments *arguments)
     enum status status = STATUS_ERROR;
     if (append_path(&path, arguments->count > 1 ? arguments->operands[1] : "", between)) {
         struct input input;
-        status = input_prepare(&input, arguments->operands[0]);
-        if (status == STATUS_ANSWERED)
+        if (input_open(&input, arguments->operands[0]))
             status = ask(&input, &path);
         input_close(&input);
     }

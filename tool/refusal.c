@@ -38,7 +38,7 @@ static void print_place(FILE *out, uint32_t refusal, unsigned long long place)
     case TAPLINEN_REFUSED_WORKSPACE:
     case TAPLINEN_REFUSED_OUTLINE: fprintf(out, ", needs %llu bytes", place); break;
     case TAPLINEN_REFUSED_TEXT: fprintf(out, ", length %llu bytes", place); break;
-    case TAPLINEN_REFUSED_PLACES: fprintf(out, ", needs %llu places", place); break;
+    case TAPLINEN_REFUSED_PLACES: fprintf(out, ", needs room for %llu", place); break;
     default: fprintf(out, " at offset %llu", place); break;
     }
 }
@@ -53,6 +53,14 @@ static void print_bytes(FILE *out, const struct input *input, size_t place, size
     fputc('\n', out);
 }
 
+static void print_length(FILE *out, const struct input *input)
+{
+    if (input->len == 0)
+        fputs("  the file is empty\n", out);
+    else
+        fprintf(out, "  the file has %zu byte%s\n", input->len, input->len == 1 ? "" : "s");
+}
+
 enum status print_refusal(FILE *out, const struct input *input, uint32_t refusal, uint64_t place)
 {
     fprintf(out, "%s: refused %u", input->name, refusal);
@@ -61,5 +69,7 @@ enum status print_refusal(FILE *out, const struct input *input, uint32_t refusal
     size_t len = thing_len(refusal);
     if (len > 0 && place < input->len)
         print_bytes(out, input, (size_t)place, len);
+    if (refusal == TAPLINEN_REFUSED_TRUNCATED)
+        print_length(out, input);
     return STATUS_NEGATIVE;
 }

@@ -1,4 +1,4 @@
-/* Holds taplinen.h to what it says. Compiled as C11 and as C++17, and linked to the library. */
+/* Tests that taplinen.h is as it says. Compiled as C11, C++11 and C++17, and linked to the library. */
 #include <taplinen.h>
 #include <taplinen.h>
 
@@ -53,7 +53,7 @@ static void check_reasons(void)
     expect(REFUSALS == 27, "the number of refusals", REFUSALS);
     for (uint32_t i = 0; i < REFUSALS; i++) {
         const char *reason = taplinen_reason(i);
-        expect(refusals[i] == i, "a constant has another number than its place in the list", i);
+        expect(refusals[i] == i, "a constant has another number than its position in the list", i);
         if (reason == NULL || reason[0] == '\0') {
             expect(0, "a refusal has no sentence", i);
             continue;
@@ -81,6 +81,14 @@ static void check_found(void)
 
     for (uint32_t i = 0; i < sizeof cases / sizeof cases[0]; i++)
         expect(taplinen_found(cases[i].answer) == cases[i].found, "taplinen_found is wrong in case", i);
+}
+
+static void check_u32(void)
+{
+    static const uint8_t bytes[] = {0x01, 0x02, 0x83, 0xf4, 0xff, 0xff, 0xff, 0xff};
+
+    expect(taplinen_u32(bytes) == 0xf4830201u, "taplinen_u32 is wrong", taplinen_u32(bytes));
+    expect(taplinen_u32(bytes + 4) == 0xffffffffu, "taplinen_u32 is wrong", taplinen_u32(bytes + 4));
 }
 
 /* Every function can be called without a file. All but the hashes are refused with 2 at 0. */
@@ -122,6 +130,7 @@ int main(void)
 {
     check_reasons();
     check_found();
+    check_u32();
     check_calls();
     check_version();
     return faults != 0;
