@@ -9,6 +9,7 @@ use Rattle.verdict.specs.declared.Verdict.the-variants.{Accepted}
 use Rattle.verdict.proofs.Laws.{Clean, pass, clean-inv, fault-none, fault-append, append-inv, each-inv, each-clean}
 use Rattle.layout.specs.Table.{Table, entries, hashOf, count}
 use Rattle.strings.specs.Rules.{Resolved, Delimited, Hashed, Placed, Indexed, Twin, Carried, TableRules}
+use Rattle.strings.specs.Held.{TextRight}
 use Rattle.strings.specs.Order.{entryChecks, bucketEntryChecks, allEntryChecks, positionChecks, allPositionChecks, stringChecks}
 
 -- an entry's six checks hold
@@ -19,6 +20,10 @@ pub record Good (t : Table) (k j : ℕ) : Type 0 where
   pub placed : Placed t k j
   pub indexed : Indexed t k j
   pub alone : ¬ Twin t k j
+
+-- among them those of its text
+pub good-text : (t : Table) (k j : ℕ) → Good t k j → TextRight t k j
+good-text t k j g = record { resolved = g .resolved; delimited = g .delimited; hashed = g .hashed }
 
 module _ (t : Table) where
   pub entry-good : (k j : ℕ) → Clean (entryChecks t k j) → Good t k j

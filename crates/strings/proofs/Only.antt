@@ -13,7 +13,7 @@ use Rattle.layout.specs.Table.{Table, entries, hashOf, indexOf, segmentOf, elem
 use Rattle.strings.specs.Texts.{textTo, textOf, listedText}
 use Rattle.strings.specs.Held.{Sorted}
 use Rattle.strings.specs.Order.{allEntryChecks}
-use Rattle.strings.proofs.Accepted.{all-good}
+use Rattle.strings.proofs.Accepted.{all-good, good-text}
 use Rattle.strings.proofs.Runs.{up}
 
 -- an entry bears the text at its address
@@ -60,8 +60,7 @@ module _ (t : Table) (ok : Clean (allEntryChecks t)) where
 
   sorted-all : (k j : ℕ) → k < t .buckets → j < entries t k → Sorted t k j
   sorted-all k j h l = record {
-    resolved = λ i m. all-good t ok k i h (omega arith) .resolved;
-    hashed = λ i m. all-good t ok k i h (omega arith) .hashed;
+    right = λ i m. good-text t k i (all-good t ok k i h (omega arith));
     ascends = λ i m. all-good t ok k i h (omega arith) .placed .ascends;
   }
 

@@ -4,19 +4,27 @@ use native.Mathlib.Nat.{le-refl, le-trans, eq-or-lt-of-le}
 use native.Mathlib.Omega.{arith}
 use mathlib.Core.Path.{_≡_, ap, sym, subst, _∙_}
 use mathlib.Core.Logic.{⊎-elim}
+use lib.ListN.{length}
 use Rattle.laws.proofs.Order.{le-or-lt}
 use Rattle.verdict.proofs.Laws.{Clean}
 use Rattle.hash.specs.Hash.{hashText}
-use Rattle.layout.specs.Table.{Table, hashOf}
+use Rattle.layout.specs.Table.{Table, hashOf, lengthOf}
 use Rattle.strings.specs.Texts.{textOf}
-use Rattle.strings.specs.Rules.{Resolved, Hashed, Placed, Twin}
+use Rattle.strings.specs.Rules.{Placed, Twin}
 use Rattle.strings.specs.Held.{TextRight, Sorted}
 use Rattle.strings.specs.Order.{entryChecks}
-use Rattle.strings.proofs.Accepted.{entry-good}
+use Rattle.strings.proofs.Accepted.{entry-good, good-text}
 
 -- no entry from i up to j has j's text
 unfoldable pub Alone : Table → ℕ → ℕ → ℕ → Type 0
 Alone t k j i = (m : ℕ) → i ≤ m → m < j → textOf t k m ≡ textOf t k j → ⊥
+
+-- texts whose entries have other lengths are not the same
+pub parted : (t : Table) (k i j x y : ℕ) → TextRight t k i → TextRight t k j → x ≡ lengthOf t k i → y ≡ lengthOf t k j → (x ≡ y → ⊥)
+    → textOf t k i ≡ textOf t k j → ⊥
+parted t k i j x y r s p q d e =
+    let n : length (textOf t k i) ≡ length (textOf t k j) = ap length e in
+    d (omega (arith, p, q, r .delimited .long, s .delimited .long))
 
 module _ (t : Table) (k j : ℕ) where
   pub alone-start : Alone t k j j
@@ -53,7 +61,7 @@ module _ (t : Table) (k j : ℕ) where
             let m = w .0 in
             let x = up m n (omega arith) (omega arith) in
             let y = up n j (omega arith) (omega arith) in
-            let z : hashOf t k m ≡ hashOf t k j = r .hashed m (omega (arith, w .1)) ∙ ap hashText (w .2) ∙ sym (r .hashed j (le-refl j)) in
+            let z : hashOf t k m ≡ hashOf t k j = r .right m (omega (arith, w .1)) .hashed ∙ ap hashText (w .2) ∙ sym (r .right j (le-refl j) .hashed) in
             d (omega arith)
 
   pub twin-found : (i n : ℕ) → n + 1 ≡ i → i ≤ j → textOf t k n ≡ textOf t k j → Twin t k j
@@ -62,8 +70,7 @@ module _ (t : Table) (k j : ℕ) where
   -- an entry whose text is right and that is placed, behind entries that passed
   pub sorted : ((i : ℕ) → i < j → Clean (entryChecks t k i)) → TextRight t k j → Placed t k j → Sorted t k j
   sorted f r p = record {
-    resolved = λ i l. ⊎-elim (λ q. subst (Resolved t k) (sym q) (r .resolved)) (λ w. entry-good t k i (f i w) .resolved) (eq-or-lt-of-le l);
-    hashed = λ i l. ⊎-elim (λ q. subst (Hashed t k) (sym q) (r .hashed)) (λ w. entry-good t k i (f i w) .hashed) (eq-or-lt-of-le l);
+    right = λ i l. ⊎-elim (λ q. subst (TextRight t k) (sym q) r) (λ w. good-text t k i (entry-good t k i (f i w))) (eq-or-lt-of-le l);
     ascends = λ i l. ⊎-elim (λ q. subst (λ (x : ℕ). hashOf t k (x - 1) ≤ hashOf t k x) (sym q) (p .ascends)) (λ w. entry-good t k i (f i w) .placed .ascends)
         (eq-or-lt-of-le l);
   }

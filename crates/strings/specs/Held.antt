@@ -34,8 +34,7 @@ pub record TextRight (t : Table) (k j : ℕ) : Type 0 where
   pub delimited : Delimited t k j
   pub hashed : Hashed t k j
 
--- The entries of a bucket up to j resolve and have their texts' hashes, in order: what the test for a twin asks.
+-- The texts of the entries of a bucket up to j are right, and their hashes in order: what the test for a twin asks.
 pub record Sorted (t : Table) (k j : ℕ) : Type 0 where
-  pub resolved : (i : ℕ) → i ≤ j → Resolved t k i
-  pub hashed : (i : ℕ) → i ≤ j → Hashed t k i
+  pub right : (i : ℕ) → i ≤ j → TextRight t k i
   pub ascends : (i : ℕ) → i ≤ j → hashOf t k (i - 1) ≤ hashOf t k i

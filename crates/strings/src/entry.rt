@@ -6,7 +6,7 @@ ghost use Rattle.verdict.specs.Checks.{Tells, Sure, firstFault};
 ghost use Rattle.verdict.specs.declared.Verdict.the-variants.{Accepted};
 ghost use Rattle.hash.specs.Table.{Tables};
 ghost use Rattle.layout.specs.Table.{entryAt, entries};
-ghost use Rattle.strings.specs.Rules.{Resolved, Placed, Indexed, Twin};
+ghost use Rattle.strings.specs.Rules.{Placed, Indexed, Twin};
 ghost use Rattle.strings.specs.Order.{entryChecks};
 ghost use Rattle.strings.specs.Held.{Held, heldTable, Here, TextRight, Sorted};
 ghost use Rattle.strings.specs.Ahead.{Glanced};
@@ -88,7 +88,8 @@ pub(crate) fn indexed(
     le::u16_at(b, p + 2) == le::u16_at(b, e + 14)
 }
 
-// Whether entries i and j of bucket k have the same text; both addresses resolve.
+// Whether entries i and j of bucket k, whose texts are right, have the same text. Their lengths are compared first: texts that repeat one
+// word, which have one hash if that of the word is 0, share all but their ends.
 fn same_text(
     b: &[u8],
     s: Strings,
@@ -99,13 +100,16 @@ fn same_text(
     j: usize,
 ) -> bool
     requires { ⌜ Held (now b) s (now samples) (now starts)
-        × Here (heldTable (now b) s (now starts)) k i × Resolved (heldTable (now b) s (now starts)) k i
-        × Here (heldTable (now b) s (now starts)) k j × Resolved (heldTable (now b) s (now starts)) k j ⌝ }
+        × Here (heldTable (now b) s (now starts)) k i × TextRight (heldTable (now b) s (now starts)) k i
+        × Here (heldTable (now b) s (now starts)) k j × TextRight (heldTable (now b) s (now starts)) k j ⌝ }
     ensures { λ r. ⌜ Tells (textOf (heldTable (now (b .entry)) s (now (starts .entry))) k i
         ≡ textOf (heldTable (now (b .entry)) s (now (starts .entry))) k j) r ⌝ }
 {
     let d = entry_at(b, s, samples, starts, k, i);
     let e = entry_at(b, s, samples, starts, k, j);
+    if le::u32_at(b, d + 4) != le::u32_at(b, e + 4) {
+        return false;
+    }
     let x = spot::spot_to(b, s.chars, samples, d + 12);
     let y = spot::spot_to(b, s.chars, samples, e + 12);
     let Spot::At(p, m) = x else {

@@ -28,7 +28,7 @@ returns c = let l = c .before .before .before .before .loop .inv in
 
 same-text-requires : tie.Need-same-text-requires Inv-loop μ-loop
 same-text-requires c κs = let p = c .before .before .before .before .before .before .before .before .before .pre in
-    (p .0, earlier _ _ _ _ (p .1) (omega arith), p .2 .resolved _ (omega arith), p .1, p .2 .resolved _ (omega arith))
+    (p .0, earlier _ _ _ _ (p .1) (omega arith), p .2 .right _ (omega arith), p .1, p .2 .right _ (omega arith))
 
 returns-2 : tie.Need-returns-2 Inv-loop μ-loop
 returns-2 c = let l = c .before .before .before .before .before .before .loop .inv in tells-yes (twin-found _ _ _ _ _ (omega arith) (l .0) (c .before .same-text .ensures .so (c .if2 .taken)))
