@@ -15,12 +15,12 @@ use Rattle.le.specs.Le.{u16At}
 use Rattle.region.specs.declared.Place.{Place}
 use Rattle.region.specs.declared.Place.the-variants.{At, Nowhere}
 use Rattle.region.specs.declared.Region.{Region}
-use Rattle.region.specs.Region.{Laid, Resolves, rangeAt}
+use Rattle.region.specs.Region.{Laid, Resolves, rangeAt, placeOf}
 use Rattle.region.specs.Samples.{Mapped}
 use Rattle.region.proofs.Laws.{place-fits, range-each}
 use Rattle.layout.specs.Layout.{attributeSize, nodeSize, attributesAt, nodesAt}
 use Rattle.nodes.specs.Node.{nodeName, attributeField, childField, attributeSegment, attributeElement, attributeCount, childCount, Live, nodeAt, attributeAt}
-use Rattle.nodes.specs.Rules.{NodeRule, AttributesReach, TextsRight, TextsOf, ChildRule}
+use Rattle.nodes.specs.Rules.{NodeRule, AttributesReach, ChildRule}
 use Rattle.nodes.specs.Decisions.{nodeRule?, attributesReach?, childRule?}
 use Rattle.nodes.specs.Order.{nodeAttributeChecks, nodeChecks}
 use Rattle.nodes.proofs.Sought.{sought-out, sought-in, sought-range, sought-at, sought-fits}
@@ -83,9 +83,10 @@ module _ (b : List ℕ) (p n : ℕ) (c : n ≡ attributeCount b p) where
       attributes-start = let z : attributeElement b p + 0 ≡ attributeElement b p = omega arith in rw z (sought-at _ _ _ _ _ _ _ c r f a e)
 
       -- what is known of all used attributes is known of these
-      pub attributes-known : TextsRight b → TextsOf b p n
+      pub attributes-known : (P : ℕ → Type 0) → ((seg el : ℕ) → Resolves attributeSize b (attributesAt b) seg el → P (placeOf attributeSize b (attributesAt b) seg el))
+          → (i : ℕ) → i < n → P (attributeAt b p i)
       unfolding attributeAt
-      attributes-known k i l = k _ _ (range-each _ _ _ _ _ n i (sought-range _ _ _ _ _ _ _ c r f a e) l)
+      attributes-known P k i l = k _ _ (range-each _ _ _ _ _ n i (sought-range _ _ _ _ _ _ _ c r f a e) l)
 
 -- ---- the verdict on node seg:el, which stands at x, for each way out
 

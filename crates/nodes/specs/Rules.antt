@@ -5,7 +5,7 @@ use mathlib.Core.Logic.{_⊎_}
 use mathlib.Core.List.{List}
 use Rattle.words.specs.Words.{flagsOf, keyIndexOf, typeOf, extendedOf}
 use Rattle.hash.specs.Fold.{valueHash}
-use Rattle.region.specs.Region.{Resolves, Reaches, placeOf}
+use Rattle.region.specs.Region.{Resolves, Reaches}
 use Rattle.layout.specs.Header.{keyCount}
 use Rattle.layout.specs.Layout.{attributeSize, nodeSize, attributesAt, nodesAt, values}
 use Rattle.strings.specs.Texts.{textTo}
@@ -51,14 +51,6 @@ pub record TextRule (b : List ℕ) (q : ℕ) : Type 0 where
 
 abbrev pub TextRight : List ℕ → ℕ → Type 0
 TextRight b q = typeOf (typeWord b q) ≡ 3 → TextRule b q
-
--- 19 holds of every used attribute, whichever node has it.
-abbrev pub TextsRight : List ℕ → Type 0
-TextsRight b = (seg el : ℕ) → Resolves attributeSize b (attributesAt b) seg el → TextRight b (placeOf attributeSize b (attributesAt b) seg el)
-
--- 19 holds of n attributes of the node at p.
-abbrev pub TextsOf : List ℕ → ℕ → ℕ → Type 0
-TextsOf b p n = (i : ℕ) → i < n → TextRight b (attributeAt b p i)
 
 -- 23: the child range of the node at p resolves, and the name indices of its live nodes do not fall.
 pub record ChildRule (b : List ℕ) (p : ℕ) : Type 0 where

@@ -2,7 +2,7 @@
 ghost use mathlib.Core.Path.{_≡_};
 ghost use Rattle.verdict.specs.Checks.{firstFault};
 ghost use Rattle.hash.specs.Table.{Tables};
-ghost use Rattle.nodes.specs.Rules.{TextsRight};
+ghost use Rattle.nodes.specs.Doubts.{AllTrusted, NoDoubt};
 ghost use Rattle.verdict.specs.Checks.{Sure};
 ghost use Rattle.nodes.specs.Order.{allNodeChecks};
 ghost use Rattle.nodes.specs.Held.{Ready};
@@ -11,7 +11,7 @@ use keys::Names;
 use layout::Places;
 use verdict::Verdict;
 
-// Refusals 16 to 19 and 23 of every used node, up to the first fault; 19 may be known not to be due to any.
+// Refusals 16 to 19 and 23 of every used node, up to the first fault; 19 is due only to attributes that are doubted.
 pub fn check_nodes(
     b: &[u8],
     t: &[u32; 2048],
@@ -22,8 +22,10 @@ pub fn check_nodes(
     value_starts: &[u32; 1024],
     value_buckets: &[u32],
     known: bool,
+    doubts: &[u32; 4096],
 ) -> Verdict
-    requires { ⌜ Tables (now t) × Ready (now b) p names (now «attribute_starts») (now «node_starts») (now «value_starts») (now «value_buckets») × Sure (TextsRight (now b)) known ⌝ }
+    requires { ⌜ Tables (now t) × Ready (now b) p names (now «attribute_starts») (now «node_starts») (now «value_starts») (now «value_buckets»)
+        × Sure (NoDoubt (now doubts)) known × AllTrusted (now b) (now doubts) ⌝ }
     ensures { λ r. ⌜ r ≡ firstFault (allNodeChecks (now (b .entry))) ⌝ }
 {
     let nodes = p.nodes;
@@ -54,6 +56,7 @@ pub fn check_nodes(
                 el,
                 x,
                 known,
+                doubts,
             ) {
                 Verdict::Accepted => {}
                 Verdict::Refused(num, place) => {

@@ -1,6 +1,6 @@
 // Refusals 18 and 19: the attributes of a node.
 ghost use mathlib.Core.Path.{_≡_};
-ghost use Prim.Native.Nat.{_+_, _*_, _≤_, _<_};
+ghost use Prim.Native.Nat.{ℕ, _+_, _*_, _≤_, _<_};
 ghost use lib.ListN.{length};
 ghost use Rattle.verdict.specs.Checks.{Tells, firstFault};
 ghost use Rattle.verdict.specs.declared.Verdict.the-variants.{Accepted};
@@ -11,7 +11,8 @@ ghost use Rattle.strings.specs.Held.{Held, heldTable};
 ghost use Rattle.keys.specs.Known.{Known};
 ghost use Rattle.nodes.specs.Node.{attributeCount, attributeAt};
 ghost use Rattle.nodes.specs.Attribute.{Typed};
-ghost use Rattle.nodes.specs.Rules.{AttributeRule, TextRight, TextsOf};
+ghost use Rattle.nodes.specs.Rules.{AttributeRule, TextRight};
+ghost use Rattle.nodes.specs.Doubts.{Trusted, NoDoubt};
 ghost use Rattle.nodes.specs.Order.{nodeAttributeChecks};
 ghost use Rattle.verdict.specs.Checks.{Sure};
 use keys::Names;
@@ -101,7 +102,7 @@ fn text_right(
     run::run_has(b, s, samples, starts, k, h, low, 12, address)
 }
 
-// The same where it may be known of the attribute already.
+// The same where it may be known of the attribute already: that nothing is doubted saves a look at its place.
 fn text_passes(
     b: &[u8],
     t: &[u32; 2048],
@@ -110,18 +111,23 @@ fn text_passes(
     starts: &[u32],
     q: usize,
     known: bool,
+    doubts: &[u32; 4096],
 ) -> bool
     requires { ⌜ Tables (now t) × Held (now b) s (now samples) (now starts) × (heldTable (now b) s (now starts) ≡ values (now b))
-        × (firstFault (stringChecks (values (now b))) ≡ Accepted) × (q + 12 ≤ length (now b)) × Sure (TextRight (now b) q) known ⌝ }
+        × (firstFault (stringChecks (values (now b))) ≡ Accepted) × (q + 12 ≤ length (now b)) × Sure (NoDoubt (now doubts)) known
+        × Trusted (now b) (now doubts) q ⌝ }
     ensures { λ r. ⌜ Tells (TextRight (now (b .entry)) q) r ⌝ }
 {
     if known {
         return true;
     }
+    if doubts[q / 4 % 4096] == 0 {
+        return true;
+    }
     text_right(b, t, s, samples, starts, q)
 }
 
-// Refusals 18 and 19 of the attributes of the node at p, the first of which stands at a; 19 may be known not to be due.
+// Refusals 18 and 19 of the attributes of the node at p, the first of which stands at a; 19 is due only to those that are doubted.
 pub fn check_attributes(
     b: &[u8],
     t: &[u32; 2048],
@@ -133,10 +139,12 @@ pub fn check_attributes(
     a: usize,
     n: usize,
     known: bool,
+    doubts: &[u32; 4096],
 ) -> Verdict
     requires { ⌜ Tables (now t) × Known (now b) names × Held (now b) s (now samples) (now starts)
         × (heldTable (now b) s (now starts) ≡ values (now b)) × (firstFault (stringChecks (values (now b))) ≡ Accepted) ⌝ }
-    requires { ⌜ (n ≡ attributeCount (now b) p) × (a ≡ attributeAt (now b) p 0) × (a + n * 12 ≤ length (now b)) × Sure (TextsOf (now b) p n) known ⌝ }
+    requires { ⌜ (n ≡ attributeCount (now b) p) × (a ≡ attributeAt (now b) p 0) × (a + n * 12 ≤ length (now b)) × Sure (NoDoubt (now doubts)) known
+        × ((i : ℕ) → i < n → Trusted (now b) (now doubts) (attributeAt (now b) p i)) ⌝ }
     ensures { λ r. ⌜ r ≡ firstFault (nodeAttributeChecks (now (b .entry)) p) ⌝ }
 {
     let mut i = 0;
@@ -145,7 +153,7 @@ pub fn check_attributes(
         if !attribute_right(b, names, p, i, q) {
             return Verdict::Refused(18, q);
         }
-        if !text_passes(b, t, s, samples, starts, q, known) {
+        if !text_passes(b, t, s, samples, starts, q, known, doubts) {
             return Verdict::Refused(19, q);
         }
         i += 1;

@@ -10,7 +10,8 @@ ghost use Rattle.layout.specs.Header.{keyCount};
 ghost use Rattle.layout.specs.Layout.{nodeSize, nodesAt};
 ghost use Rattle.keys.specs.Known.{Known};
 ghost use Rattle.nodes.specs.Node.{nodeAt, Live};
-ghost use Rattle.nodes.specs.Rules.{NodeRule, TextsRight, ChildRule};
+ghost use Rattle.nodes.specs.Rules.{NodeRule, ChildRule};
+ghost use Rattle.nodes.specs.Doubts.{AllTrusted, NoDoubt};
 ghost use Rattle.verdict.specs.Checks.{Sure};
 ghost use Rattle.nodes.specs.Search.{Rising};
 ghost use Rattle.nodes.specs.Order.{nodeChecks};
@@ -95,7 +96,7 @@ fn children_right(b: &[u8], nodes: Region, starts: &[u32; 1024], p: usize) -> bo
     }
 }
 
-// Refusals 16 to 19 and 23 of node seg:el, which stands at x; 19 may be known not to be due.
+// Refusals 16 to 19 and 23 of node seg:el, which stands at x; 19 is due only to attributes that are doubted.
 pub fn check_node(
     b: &[u8],
     t: &[u32; 2048],
@@ -109,9 +110,11 @@ pub fn check_node(
     el: usize,
     x: usize,
     known: bool,
+    doubts: &[u32; 4096],
 ) -> Verdict
     requires { ⌜ Tables (now t) × Ready (now b) p names (now «attribute_starts») (now «node_starts») (now «value_starts») (now «value_buckets»)
-        × Resolves nodeSize (now b) (nodesAt (now b)) seg el × (x ≡ nodeAt (now b) seg el) × Sure (TextsRight (now b)) known ⌝ }
+        × Resolves nodeSize (now b) (nodesAt (now b)) seg el × (x ≡ nodeAt (now b) seg el) × Sure (NoDoubt (now doubts)) known
+        × AllTrusted (now b) (now doubts) ⌝ }
     ensures { λ r. ⌜ r ≡ firstFault (nodeChecks (now (b .entry)) seg el) ⌝ }
 {
     if !node_right(b, names, p.keys, seg, el, x) {
@@ -150,6 +153,7 @@ pub fn check_node(
             a,
             n,
             known,
+            doubts,
         );
         if let Verdict::Refused(num, place) = v {
             return Verdict::Refused(num, place);

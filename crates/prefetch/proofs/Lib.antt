@@ -1,3 +1,4 @@
+pub mod Doubting
 pub mod Taking
 pub mod Filling
 pub mod Rights

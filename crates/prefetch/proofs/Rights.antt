@@ -26,7 +26,9 @@ use Rattle.strings.proofs.Begun.{begins-first, begins-behind}
 use Rattle.positions.specs.Packed.{Packed}
 use Rattle.nodes.specs.Attribute.{typeWord, textSegment, textElement}
 use Rattle.strings.specs.Rules.{EntryAddress}
-use Rattle.nodes.specs.Rules.{TextRight, TextsRight}
+use Rattle.nodes.specs.Doubts.{Trusted, AllTrusted}
+use Rattle.prefetch.specs.Doubted.{Kept}
+use Rattle.prefetch.proofs.Doubting.{still}
 use Rattle.verdict.specs.Checks.{Sure, SomeBelow}
 use Rattle.nodes.proofs.Addresses.{spot-fits, address-of}
 use Rattle.le.proofs.Numbers.{Bytes}
@@ -113,8 +115,8 @@ all-right b t slots at left n y e laid s h f j l k = record {
 -- ---- all used attributes: the rows of the segments
 
 -- the rows before segment seg
-abbrev pub RowsRight : List ℕ → ℕ → Type 0
-RowsRight b seg = (s : ℕ) → s < seg → (e : ℕ) → e < usedOf attributeSize b (attributesAt b) s → TextRight b (placeOf attributeSize b (attributesAt b) s e)
+abbrev pub RowsTrusted : List ℕ → List ℕ → ℕ → Type 0
+RowsTrusted b d seg = (s : ℕ) → s < seg → (e : ℕ) → e < usedOf attributeSize b (attributesAt b) s → Trusted b d (placeOf attributeSize b (attributesAt b) s e)
 
 module _ (b : List ℕ) {g : Region} (w : Mapped attributeSize b (attributesAt b) g) where
   pub rows-start : g .at + 4 ≡ startOf attributeSize b (attributesAt b) 0
@@ -136,16 +138,19 @@ module _ (b : List ℕ) {g : Region} (w : Mapped attributeSize b (attributesAt b
         let l : seg < countOf b (attributesAt b) = omega (arith, w .count-is) in
         omega (arith, used-at attributeSize b (attributesAt b) seg at used q e, w .laid .used seg l, w .laid .fits seg l)
 
-pub rows-none : (b : List ℕ) → RowsRight b 0
-rows-none b = below-none _
+pub rows-none : (b d : List ℕ) → RowsTrusted b d 0
+rows-none b d = below-none _
+
+pub rows-still : (b d d′ : List ℕ) (seg : ℕ) → Kept d d′ → RowsTrusted b d seg → RowsTrusted b d′ seg
+rows-still b d d′ seg k r s l e h = still k (r s l e h)
 
 -- one row more, which starts at `at`
-pub rows-more : (b : List ℕ) (seg at used el : ℕ) → RowsRight b seg → at ≡ startOf attributeSize b (attributesAt b) seg → used ≡ usedOf attributeSize b (attributesAt b) seg
-    → used ≤ el → ((i : ℕ) → i < el → TextRight b (at + 8 + i * 12)) → RowsRight b (seg + 1)
+pub rows-more : (b d : List ℕ) (seg at used el : ℕ) → RowsTrusted b d seg → at ≡ startOf attributeSize b (attributesAt b) seg → used ≡ usedOf attributeSize b (attributesAt b) seg
+    → used ≤ el → ((i : ℕ) → i < el → Trusted b d (at + 8 + i * 12)) → RowsTrusted b d (seg + 1)
 unfolding placeOf attributeSize
-rows-more b seg at used el r p q l h =
-    below-more (λ (s : ℕ). (e : ℕ) → e < usedOf attributeSize b (attributesAt b) s → TextRight b (placeOf attributeSize b (attributesAt b) s e)) seg r
-    (λ e d. subst (λ (x : ℕ). TextRight b (x + 8 + e * 12)) p (h e (omega (arith, q, l))))
+rows-more b d seg at used el r p q l h =
+    below-more (λ (s : ℕ). (e : ℕ) → e < usedOf attributeSize b (attributesAt b) s → Trusted b d (placeOf attributeSize b (attributesAt b) s e)) seg r
+    (λ e g. subst (λ (x : ℕ). Trusted b d (x + 8 + e * 12)) p (h e (omega (arith, q, l))))
 
-pub rows-all : (b : List ℕ) (seg : ℕ) → RowsRight b seg → countOf b (attributesAt b) ≤ seg → TextsRight b
-rows-all b seg r l s e h = r s (omega (arith, h .seg-in)) e (h .el-in)
+pub rows-all : (b d : List ℕ) (seg : ℕ) → RowsTrusted b d seg → countOf b (attributesAt b) ≤ seg → AllTrusted b d
+rows-all b d seg r l s e h = r s (omega (arith, h .seg-in)) e (h .el-in)

@@ -13,8 +13,8 @@ use Rattle.verdict.specs.Checks.{SomeBelow}
 use Rattle.words.specs.Words.{typeOf}
 use Rattle.nodes.specs.Attribute.{typeWord}
 use Rattle.nodes.specs.Rules.{TextRight}
+use Rattle.nodes.specs.Doubts.{doubtOf, Trusted}
 use Rattle.prefetch.specs.Slots.{Each, Slotted}
-use Rattle.prefetch.specs.Batch.{AllRight}
 
 below : (i e : ℕ) → (i ≡ e → ⊥) → i < e + 1 → i < e
 below i e y d = omega arith
@@ -86,10 +86,10 @@ module _ (b : List ℕ) (first el e n : ℕ) (slots : List ℕ) (s : Slotted b f
       go (yes z) = subst (λ (m : ℕ). Slotted b first el (e + 1) m (set slots n (first + e * 12))) (omega arith) (step-text z)
       go (no z) = subst (λ (m : ℕ). Slotted b first el (e + 1) m (set slots n (first + e * 12))) (omega (arith, z)) (step-other z)
 
--- the texts that were passed are right where those in the slots are
-pub passed-right : (b : List ℕ) (first el e n : ℕ) (slots : List ℕ) → Slotted b first el e n slots → AllRight b slots n
-    → ((i : ℕ) → i < el → TextRight b (first + i * 12)) → (i : ℕ) → i < e → TextRight b (first + i * 12)
-passed-right b first el e n slots s r h i d t = ⊎-elim (λ g. later g t) (λ g. h i g t) (le-or-lt el i)
+-- the texts that were passed are trusted where those in the slots are
+pub passed-trusted : (b d : List ℕ) (first el e n : ℕ) (slots : List ℕ) → Slotted b first el e n slots → Each n (λ j. Trusted b d (getD slots j 0))
+    → ((i : ℕ) → i < el → Trusted b d (first + i * 12)) → (i : ℕ) → i < e → Trusted b d (first + i * 12)
+passed-trusted b d first el e n slots s r h i l = record { right = λ z t. ⊎-elim (λ g. later g z t) (λ g. h i g .right z t) (le-or-lt el i) }
   where
-    later : el ≤ i → TextRight b (first + i * 12)
-    later g u = let w = s .all i g d u in subst (TextRight b) (w .2) (r (w .0) (w .1)) u
+    later : el ≤ i → getD d (doubtOf (first + i * 12)) 0 ≡ 0 → TextRight b (first + i * 12)
+    later g z u = let w = s .all i g l u in subst (Trusted b d) (w .2) (r (w .0) (w .1)) .right z u

@@ -1,2 +1,3 @@
 pub mod Slots
 pub mod Batch
+pub mod Doubted

@@ -1,5 +1,7 @@
 // All used attributes, in the order of the file.
 ghost use mathlib.Core.Path.{_≡_};
+ghost use Prim.Native.Nat.{_≤_};
+ghost use lib.ListN.{length};
 ghost use Rattle.verdict.specs.Checks.{firstFault, Sure};
 ghost use Rattle.verdict.specs.declared.Verdict.the-variants.{Accepted};
 ghost use Rattle.hash.specs.Table.{Tables};
@@ -8,9 +10,11 @@ ghost use Rattle.layout.specs.Layout.{attributeSize, attributesAt, values};
 ghost use Rattle.strings.specs.Order.{stringChecks};
 ghost use Rattle.strings.specs.Held.{Held, heldTable};
 ghost use Rattle.positions.specs.Packed.{Packed};
-ghost use Rattle.nodes.specs.Rules.{TextsRight};
+ghost use Rattle.nodes.specs.Doubts.{AllTrusted, NoDoubt};
 ghost use Rattle.nodes.specs.Order.{allNodeChecks};
 ghost use Rattle.nodes.specs.Held.{Ready};
+ghost use Rattle.prefetch.specs.Slots.{SlotsIn};
+ghost use Rattle.prefetch.specs.Doubted.{Doubted, Examined};
 use crate::slots;
 use crate::steps;
 use keys::Names;
@@ -19,8 +23,48 @@ use region::Region;
 use strings::Strings;
 use verdict::Verdict;
 
-// Whether 19 is known to hold of every used attribute. False tells nothing: an attribute that no node has may be at fault.
-fn texts_right(
+// Doubts the attributes in the first n slots.
+fn doubt_all(slots: &[u32; 64], n: usize, doubts: &mut [u32; 4096])
+    requires { ⌜ (n ≤ 64) × (length (now slots) ≡ 64) × (length (now doubts) ≡ 4096) ⌝ }
+    ensures { λ _. ⌜ Doubted (now (slots .entry)) n (now (doubts .entry)) (now (doubts .exit)) ⌝ }
+{
+    let mut j = 0;
+    while j < n {
+        doubts[le::wide(slots[j]) / 4 % 4096] = 1;
+        j += 1;
+    }
+}
+
+// Doubts the attributes in the first n slots, unless 19 is known to hold of each. Whether nothing is doubted.
+fn examine_batch(
+    b: &[u8],
+    t: &[u32; 2048],
+    s: Strings,
+    samples: &[u32; 1024],
+    starts: &[u32],
+    packed: bool,
+    slots: &[u32; 64],
+    n: usize,
+    known: bool,
+    doubts: &mut [u32; 4096],
+) -> bool
+    requires { ⌜ Tables (now t) × Held (now b) s (now samples) (now starts) × (heldTable (now b) s (now starts) ≡ values (now b))
+        × (firstFault (stringChecks (values (now b))) ≡ Accepted) × (length (now slots) ≡ 64) × SlotsIn (now b) (now slots) n × (n ≤ 64)
+        × Sure (Packed (values (now b))) packed ⌝ }
+    requires { ⌜ (length (now doubts) ≡ 4096) × Sure (NoDoubt (now doubts)) known ⌝ }
+    ensures answer { λ r. ⌜ Sure (NoDoubt (now (doubts .exit))) r ⌝ }
+    ensures doubts { λ _. ⌜ Examined (now (b .entry)) (now (slots .entry)) n (now (doubts .entry)) (now (doubts .exit)) ⌝ }
+{
+    if steps::batch_right(b, t, s, samples, starts, slots, n, packed) {
+        return known;
+    }
+    doubt_all(slots, n, doubts);
+    false
+}
+
+// Doubts every used attribute of which 19 is not known to hold. Whether nothing is doubted. An attribute that no node has may be at fault, so
+// a doubt refuses nothing; and it costs its own batch a second check, not all others.
+fn find_doubts(
     b: &[u8],
     t: &[u32; 2048],
     attributes: Region,
@@ -28,13 +72,17 @@ fn texts_right(
     samples: &[u32; 1024],
     starts: &[u32],
     packed: bool,
+    doubts: &mut [u32; 4096],
 ) -> bool
     requires { ⌜ Tables (now t) × Held (now b) s (now samples) (now starts) × (heldTable (now b) s (now starts) ≡ values (now b))
         × (firstFault (stringChecks (values (now b))) ≡ Accepted) × Sure (Packed (values (now b))) packed
         × Mapped attributeSize (now b) (attributesAt (now b)) attributes ⌝ }
-    ensures { λ r. ⌜ Sure (TextsRight (now (b .entry))) r ⌝ }
+    requires { ⌜ (length (now doubts) ≡ 4096) × NoDoubt (now doubts) ⌝ }
+    ensures answer { λ r. ⌜ Sure (NoDoubt (now (doubts .exit))) r ⌝ }
+    ensures doubts { λ _. ⌜ AllTrusted (now (b .entry)) (now (doubts .exit)) ⌝ }
 {
     let mut slots = [0u32; 64];
+    let mut known = true;
     let mut at = attributes.at + 4;
     let mut seg = 0;
     while seg < attributes.count {
@@ -42,15 +90,24 @@ fn texts_right(
         let mut el = 0;
         while el < used {
             let taken = slots::take(b, at + 8, el, used, &mut slots);
-            if !steps::batch_right(b, t, s, samples, starts, &slots, taken.count, packed) {
-                return false;
-            }
+            known = examine_batch(
+                b,
+                t,
+                s,
+                samples,
+                starts,
+                packed,
+                &slots,
+                taken.count,
+                known,
+                doubts,
+            );
             el = taken.next;
         }
         at = at + 8 + le::u32_at(b, at) * 12;
         seg += 1;
     }
-    true
+    known
 }
 
 // Refusals 16 to 19 and 23 of every used node, up to the first fault.
@@ -74,7 +131,17 @@ pub fn check_nodes(
         chars,
         list: p.value_list,
     };
-    let known = texts_right(b, t, p.attributes, s, value_starts, value_buckets, packed);
+    let mut doubts = [0u32; 4096];
+    let known = find_doubts(
+        b,
+        t,
+        p.attributes,
+        s,
+        value_starts,
+        value_buckets,
+        packed,
+        &mut doubts,
+    );
     nodes::all::check_nodes(
         b,
         t,
@@ -85,5 +152,6 @@ pub fn check_nodes(
         value_starts,
         value_buckets,
         known,
+        &doubts,
     )
 }

@@ -19,18 +19,18 @@ use Rattle.nodes.proofs.all.check_nodes.Statement.{statement}
 use Rattle.nodes.proofs.all.check_nodes.Tie as tie
 
 abbrev Inv-loop : tie.InvT-loop
-Inv-loop b t p names attribute-starts node-starts value-starts value-buckets known nodes at fault₀ seg used el₀ fault el =
+Inv-loop b t p names attribute-starts node-starts value-starts value-buckets known doubts nodes at fault₀ seg used el₀ fault el =
     (el ≤ used) × (fault ≡ Accepted) × (firstFault (allNodeChecks b) ≡ nodesLeft b seg el)
 
 abbrev μ-loop : tie.MeasureT-loop
-μ-loop b t p names attribute-starts node-starts value-starts value-buckets known nodes at fault₀ seg used el₀ fault el = used - el
+μ-loop b t p names attribute-starts node-starts value-starts value-buckets known doubts nodes at fault₀ seg used el₀ fault el = used - el
 
 abbrev Inv-segments : tie.InvT-segments
-Inv-segments b t p names attribute-starts node-starts value-starts value-buckets known nodes at₀ fault₀ seg₀ at fault seg =
+Inv-segments b t p names attribute-starts node-starts value-starts value-buckets known doubts nodes at₀ fault₀ seg₀ at fault seg =
     (seg ≤ nodes .count) × (at ≡ startOf nodeSize b (nodesAt b) seg) × (fault ≡ Accepted) × (firstFault (allNodeChecks b) ≡ segmentsLeft b seg)
 
 abbrev μ-segments : tie.MeasureT-segments
-μ-segments b t p names attribute-starts node-starts value-starts value-buckets known nodes at₀ fault₀ seg₀ at fault seg = nodes .count - seg
+μ-segments b t p names attribute-starts node-starts value-starts value-buckets known doubts nodes at₀ fault₀ seg₀ at fault seg = nodes .count - seg
 
 region : (c : tie.Start Inv-loop μ-loop Inv-segments μ-segments) → Mapped nodeSize (c .args .b .now) (nodesAt (c .args .b .now)) (c .args .p .nodes)
 region c = c .pre .1 .placed .nodes
@@ -95,7 +95,7 @@ add-x-2 : tie.Need-add-x-2 Inv-loop μ-loop Inv-segments μ-segments
 add-x-2 c = record { fits = omega (arith, inside c) }
 
 check-node-requires : tie.Need-check-node-requires Inv-loop μ-loop Inv-segments μ-segments
-check-node-requires c κs = let s = c .before .before .before .before .before .before .before .before .before .before .before .before .before .before in (s .pre .0, s .pre .1, here c, place c, s .pre .2)
+check-node-requires c κs = let s = c .before .before .before .before .before .before .before .before .before .before .before .before .before .before in (s .pre .0, s .pre .1, here c, place c, s .pre .2, s .pre .3)
 
 loop-again : tie.Need-loop-again Inv-loop μ-loop Inv-segments μ-segments
 loop-again c = let i = c .before .before .before .before .loop .inv in

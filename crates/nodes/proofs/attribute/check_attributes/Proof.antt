@@ -4,17 +4,17 @@ use mathlib.Core.Path.{_≡_, sym, subst, _∙_}
 use borrow.Author.Needs.{needs}
 use borrow.Author.Tests.{not-true, not-false}
 use Rattle.verdict.specs.Checks.{firstFault}
-use Rattle.nodes.specs.Rules.{TextRight}
+use Rattle.nodes.specs.Doubts.{Trusted}
 use Rattle.nodes.specs.Order.{nodeAttributeChecks}
 use Rattle.nodes.proofs.Attributes.{attributesLeft, attribute-is, attributes-start, attributes-none, attributes-more, refused-18, refused-19}
 use Rattle.nodes.proofs.attribute.check_attributes.Statement.{statement}
 use Rattle.nodes.proofs.attribute.check_attributes.Tie as tie
 
 abbrev Inv-loop : tie.InvT-loop
-Inv-loop b t names s samples starts p a n known i₀ i = firstFault (nodeAttributeChecks b p) ≡ attributesLeft b p i
+Inv-loop b t names s samples starts p a n known doubts i₀ i = firstFault (nodeAttributeChecks b p) ≡ attributesLeft b p i
 
 abbrev μ-loop : tie.MeasureT-loop
-μ-loop b t names s samples starts p a n known i₀ i = n - i
+μ-loop b t names s samples starts p a n known doubts i₀ i = n - i
 
 loop-holds : tie.Need-loop-holds Inv-loop μ-loop
 loop-holds c = attributes-start _ _
@@ -28,7 +28,7 @@ returns c = sym (c .before .before .before .loop .inv ∙ refused-18 _ _ _ _ (c 
 text-passes-requires : tie.Need-text-passes-requires Inv-loop μ-loop
 text-passes-requires c κs = let s = c .before .before .before .before .before .before in
     let p = s .pre .0 in
-    (p .0, p .2, p .3, p .4, omega arith, λ z. subst (TextRight _) (sym (attribute-is _ _ _ _ (s .pre .1 .1))) (s .pre .1 .3 z _ (c .before .before .loop-test .taken)))
+    (p .0, p .2, p .3, p .4, omega arith, s .pre .1 .3, subst (Trusted _ _) (sym (attribute-is _ _ _ _ (s .pre .1 .1))) (s .pre .1 .4 _ (c .before .before .loop-test .taken)))
 
 returns-2 : tie.Need-returns-2 Inv-loop μ-loop
 returns-2 c = sym (c .before .before .before .before .before .loop .inv ∙ refused-19 _ _ _ _ (c .before .before .before .before .before .before .before .before .pre .1 .0) (c .before .before .before .before .loop-test .taken) _ (attribute-is _ _ _ _ (c .before .before .before .before .before .before .before .before .pre .1 .1)) (c .before .before .before .attribute-right .ensures .so (not-false _ (c .before .before .if1 .left))) (c .before .text-passes .ensures .not (not-true _ (c .if2 .taken))))

@@ -1,10 +1,15 @@
 use borrow.Author.Needs.{needs}
 use Rattle.verdict.proofs.Laws.{tells-yes}
+use Rattle.nodes.specs.Doubts.{doubtOf}
 use Rattle.nodes.proofs.attribute.text_passes.Statement.{statement}
 use Rattle.nodes.proofs.attribute.text_passes.Tie as tie
 
 returns : tie.Need-returns
-returns c = tells-yes (c .before .before .before .pre .5 (c .if1 .taken))
+returns c = let p = c .before .before .before .pre in tells-yes (p .6 .right (p .5 (c .if1 .taken) _))
+
+returns-2 : tie.Need-returns-2
+unfolding doubtOf
+returns-2 c = tells-yes (c .before .before .before .before .before .pre .6 .right (c .if2 .taken))
 
 pub text-passes-spec : {M : Type 1} → statement M
-text-passes-spec = tie.close (tie.spec returns (λ c κs. search needs) (λ c. search needs))
+text-passes-spec = tie.close (tie.spec returns (λ c. search needs) (λ c. search needs) returns-2 (λ c κs. search needs) (λ c. search needs))

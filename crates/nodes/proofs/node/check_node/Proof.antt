@@ -11,6 +11,7 @@ use Rattle.layout.specs.Layout.{attributeSize, attributesAt}
 use Rattle.nodes.specs.Held.{valueStrings}
 use Rattle.nodes.specs.Node.{attributeSegment, attributeElement, attributeCount, Live}
 use Rattle.nodes.specs.Rules.{NodeRule, AttributesReach}
+use Rattle.nodes.specs.Doubts.{Trusted}
 use Rattle.nodes.specs.Order.{nodeAttributeChecks}
 use Rattle.nodes.proofs.Sought.{lent}
 use Rattle.nodes.proofs.Ways.{node-fits, live-node, attribute-count, attributes-sought, attributes-none, attributes-nowhere, attributes-reach, attributes-fit, attributes-start, attributes-known, refused-16, refused-17, refused-attribute, refused-23, node-passes, nameless-passes}
@@ -89,7 +90,7 @@ check-attributes-requires c κs = let s = c .before .before .before .before .bef
     let n = count (c .before .before .before .before .before .before .before .before) in
     let f = range (c .before .before .before .before) in
     let e = c .before .before .r .given .1 in
-    ((s .pre .0, y .known, y .strings, y .table, y .accepted), (n, attributes-start _ _ _ n _ f _ e, attributes-fit _ _ _ n _ f _ e (y .laid .attributes), λ z. attributes-known _ _ _ n _ f _ e (s .pre .4 z)))
+    ((s .pre .0, y .known, y .strings, y .table, y .accepted), (n, attributes-start _ _ _ n _ f _ e, attributes-fit _ _ _ n _ f _ e (y .laid .attributes), s .pre .4, attributes-known _ _ _ n _ f _ e (Trusted _ _) (s .pre .5)))
 
 returns-4 : tie.Need-returns-4
 returns-4 c = refused-attribute _ _ _ _ (c .before .before .before .before .before .before .before .before .before .before .before .before .before .before .before .before .before .before .before .pre .3) (rule (c .before .before .before .before .before .before .before .before .before .before .before .before .before .before .before)) (attributes-reach _ _ _ (count (c .before .before .before .before .before .before .before .before .before .before .before .before)) _ (range (c .before .before .before .before .before .before .before .before)) _ (c .before .before .before .before .before .before .r .given .1))
