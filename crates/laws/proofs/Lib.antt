@@ -3,3 +3,4 @@ pub mod Xor
 pub mod Computed
 pub mod Splice
 pub mod Pigeon
+pub mod Zeros

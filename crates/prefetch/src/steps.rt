@@ -12,6 +12,7 @@ ghost use Rattle.hash.specs.Hash.{bucketOf};
 ghost use Rattle.hash.specs.Fold.{valueHash};
 ghost use Rattle.region.specs.Samples.{Mapped, Starts};
 ghost use Rattle.text.specs.Text.{textIn};
+ghost use Rattle.memo.specs.Memo.{Remembers};
 ghost use Rattle.layout.specs.Layout.{values};
 ghost use Rattle.strings.specs.Rules.{EntryAddress};
 ghost use Rattle.strings.specs.Order.{allEntryChecks, stringChecks};
@@ -22,6 +23,8 @@ ghost use Rattle.positions.specs.Packed.{Packed};
 ghost use Rattle.nodes.specs.Attribute.{typeWord, textSegment, textElement};
 ghost use Rattle.prefetch.specs.Slots.{SlotsIn};
 ghost use Rattle.prefetch.specs.Batch.{Fits, Behind, AllSpots, AllFit, AllSeen, AllBehind, AllHashed, AllFound, AllRight};
+ghost use Rattle.prefetch.specs.Noted.{noted};
+use crate::long;
 use region::Region;
 use search::group;
 use search::run;
@@ -96,15 +99,18 @@ fn passes(
     n: usize,
     seen: usize,
     packed: bool,
+    memo: &mut [u32; 3072],
 ) -> bool
-    requires { ⌜ Tables (now t) × (q + 12 ≤ length (now b)) × Fits (now b) x n × (seen % 65536 ≡ u16At (now b) (x - 2)) ⌝ }
-    ensures { λ r. ⌜ Sure ((extendedOf (typeWord (now (b .entry)) q) ≡ valueHash (textIn (now (b .entry)) x n))
+    requires { ⌜ Tables (now t) × (q + 12 ≤ length (now b)) × Fits (now b) x n × (seen % 65536 ≡ u16At (now b) (x - 2))
+        × (length (now b) < 2 ^ 32) × Remembers (noted (now b)) (now memo) ⌝ }
+    ensures answer { λ r. ⌜ Sure ((extendedOf (typeWord (now (b .entry)) q) ≡ valueHash (textIn (now (b .entry)) x n))
         × Sure (Behind (now (b .entry)) x (textElement (now (b .entry)) q)) packed) r ⌝ }
+    ensures memo { λ _. ⌜ Remembers (noted (now (b .entry))) (now (memo .exit)) ⌝ }
 {
     if !can_begin(le::u16_at(b, q + 6), seen, packed) {
         return false;
     }
-    words::extended(le::u16_at(b, q + 2)) == text::value_hash(b, t, x, n)
+    words::extended(le::u16_at(b, q + 2)) == long::value_hash(b, t, x, n, memo)
 }
 
 // Whether each does.
@@ -117,11 +123,14 @@ fn all_pass(
     left: &[u32; 64],
     seen: &[u32; 64],
     packed: bool,
+    memo: &mut [u32; 3072],
 ) -> bool
     requires { ⌜ Tables (now t) × (length (now slots) ≡ 64) × SlotsIn (now b) (now slots) n × (n ≤ 64) × Lengths (now at) (now left) (now seen)
-        × AllFit (now b) n (now at) (now left) × AllSeen (now b) n (now at) (now seen) ⌝ }
-    ensures { λ r. ⌜ Sure (AllHashed (now (b .entry)) (now (slots .entry)) n (now (at .entry)) (now (left .entry))
+        × AllFit (now b) n (now at) (now left) × AllSeen (now b) n (now at) (now seen) × (length (now b) < 2 ^ 32)
+        × Remembers (noted (now b)) (now memo) ⌝ }
+    ensures answer { λ r. ⌜ Sure (AllHashed (now (b .entry)) (now (slots .entry)) n (now (at .entry)) (now (left .entry))
         × Sure (AllBehind (now (b .entry)) (now (slots .entry)) n (now (at .entry))) packed) r ⌝ }
+    ensures memo { λ _. ⌜ Remembers (noted (now (b .entry))) (now (memo .exit)) ⌝ }
 {
     let mut j = 0;
     while j < n {
@@ -133,6 +142,7 @@ fn all_pass(
             le::wide(left[j]),
             le::wide(seen[j]),
             packed,
+            memo,
         ) {
             return false;
         }
@@ -149,14 +159,16 @@ fn hash_texts(
     at: &[u32; 64],
     left: &[u32; 64],
     hashes: &mut [u32; 64],
+    memo: &mut [u32; 3072],
 )
-    requires { ⌜ Tables (now t) × (n ≤ 64) × Lengths (now at) (now left) (now hashes) × AllFit (now b) n (now at) (now left) ⌝ }
-    ensures { λ _. ⌜ length (now (hashes .exit)) ≡ 64 ⌝ }
+    requires { ⌜ Tables (now t) × (n ≤ 64) × Lengths (now at) (now left) (now hashes) × AllFit (now b) n (now at) (now left)
+        × (length (now b) < 2 ^ 32) × Remembers (noted (now b)) (now memo) ⌝ }
+    ensures hashes { λ _. ⌜ length (now (hashes .exit)) ≡ 64 ⌝ }
+    ensures memo { λ _. ⌜ Remembers (noted (now (b .entry))) (now (memo .exit)) ⌝ }
 {
     let mut j = 0;
     while j < n {
-        let m = text::measure(b, t, le::wide(at[j]), le::wide(left[j]));
-        hashes[j] = m.hash as u32;
+        hashes[j] = long::text_hash(b, t, le::wide(at[j]), le::wide(left[j]), memo) as u32;
         j += 1;
     }
 }
@@ -224,11 +236,13 @@ pub fn batch_right(
     slots: &[u32; 64],
     n: usize,
     packed: bool,
+    memo: &mut [u32; 3072],
 ) -> bool
     requires { ⌜ Tables (now t) × Held (now b) s (now samples) (now starts) × (heldTable (now b) s (now starts) ≡ values (now b))
         × (firstFault (stringChecks (values (now b))) ≡ Accepted) × (length (now slots) ≡ 64) × SlotsIn (now b) (now slots) n × (n ≤ 64)
-        × Sure (Packed (values (now b))) packed ⌝ }
-    ensures { λ r. ⌜ Sure (AllRight (now (b .entry)) (now (slots .entry)) n) r ⌝ }
+        × Sure (Packed (values (now b))) packed × Remembers (noted (now b)) (now memo) ⌝ }
+    ensures answer { λ r. ⌜ Sure (AllRight (now (b .entry)) (now (slots .entry)) n) r ⌝ }
+    ensures memo { λ _. ⌜ Remembers (noted (now (b .entry))) (now (memo .exit)) ⌝ }
 {
     let mut at = [0u32; 64];
     let mut left = [0u32; 64];
@@ -237,14 +251,14 @@ pub fn batch_right(
     }
     let mut seen = [0u32; 64];
     see(b, n, &at, &left, &mut seen);
-    if !all_pass(b, t, slots, n, &at, &left, &seen, packed) {
+    if !all_pass(b, t, slots, n, &at, &left, &seen, packed, memo) {
         return false;
     }
     if packed {
         return true;
     }
     let mut hashes = [0u32; 64];
-    hash_texts(b, t, n, &at, &left, &mut hashes);
+    hash_texts(b, t, n, &at, &left, &mut hashes, memo);
     let mut low = [0usize; 64];
     group::settle(b, s, samples, starts, &hashes, n, &mut low);
     find_entries(b, s, samples, starts, slots, n, &hashes, &low)

@@ -2,6 +2,7 @@ pub mod Laws
 pub mod Walk
 pub mod Passed
 pub mod Words
+pub mod Split
 pub mod OneByOne
 pub mod Counted
 pub mod AsBytes

@@ -9,15 +9,15 @@ use lib.ListN.{getD}
 use Rattle.verdict.proofs.Laws.{tells-yes}
 use Rattle.le.specs.Le.{u16At, u32At}
 use Rattle.hash.specs.Hash.{hashChar, hashOn}
-use Rattle.hash.specs.Fold.{folded, FoldedPair, foldText, valueHashOf}
+use Rattle.hash.specs.Fold.{folded, FoldedPair, valueHashOf}
 use Rattle.hash.proofs.Laws.{char-lt}
 use Rattle.hash.proofs.Halves.{fold-one}
 use Rattle.text.specs.declared.Extent.{Extent}
 use Rattle.text.specs.Text.{chars, textIn}
-use Rattle.text.specs.Measure.{MeasuredOn}
+use Rattle.text.specs.Measure.{MeasuredOn, ValueRun}
 use Rattle.text.proofs.Laws.{chars-none, chars-more}
 use Rattle.text.proofs.Walk.{charsFrom, textFrom, chars-start, chars-rest, chars-next, text-shut, text-next, hash-end, hash-next}
-use Rattle.text.proofs.Passed.{Passed, PassedFolded, passed-next, folded-next, measured, value-hashed}
+use Rattle.text.proofs.Passed.{Passed, PassedFolded, passed-next, folded-next, measured, value-met}
 
 pub record Two (b : List ℕ) (p n i c w : ℕ) : Type 0 where
   pub left : i + 1 < n
@@ -63,8 +63,8 @@ module _ {b : List ℕ} {p n i c w : ℕ} (q : Two b p n i c w) where
   pub measured-none : {s h : ℕ} {r : Extent} → Passed b p n s i h → c ≡ 0 → (r .ended ≡ true) × (r .length ≡ i) × (r .hash ≡ h) → MeasuredOn b p n s r
   measured-none k z e = measured b p n _ i _ _ k (two-shut z) (rw (e .0) (tells-yes (omega (arith, q .left)))) (e .1, e .2)
 
-  pub value-none : {s h r : ℕ} → PassedFolded b p n s i h → c ≡ 0 → r ≡ valueHashOf h → r ≡ valueHashOf (hashOn s (foldText (textIn b p n)))
-  value-none k z e = value-hashed b p n _ i _ _ k (two-shut z) e
+  pub value-none : {s h r : ℕ} → PassedFolded b p n s i h → c ≡ 0 → r ≡ valueHashOf h → ValueRun b p n s r
+  value-none k z e = value-met b p n _ i _ _ k (two-shut z) (omega (arith, q .left)) e
 
   -- or at the second
   pub measured-one : {s h g : ℕ} {r : Extent} → Passed b p n s i h → (c ≡ 0 → ⊥) → w < 65536 → (g ≡ hashChar h w) × (g < 2 ^ 32)
@@ -76,12 +76,12 @@ module _ {b : List ℕ} {p n i c w : ℕ} (q : Two b p n i c w) where
       (two-last z) (rw (f .0) (tells-yes (q .left))) (f .1, f .2)
 
   pub value-one : {s h x g r : ℕ} → PassedFolded b p n s i h → (c ≡ 0 → ⊥) → w < 65536 → FoldedPair w x → (g ≡ hashChar h x) × (g < 2 ^ 32)
-      → r ≡ valueHashOf g → r ≡ valueHashOf (hashOn s (foldText (textIn b p n)))
+      → r ≡ valueHashOf g → ValueRun b p n s r
   value-one k y z f e d =
       let m : w ≡ w % 65536 = omega arith in
-      value-hashed b p n _ (i + 1) _ _
+      value-met b p n _ (i + 1) _ _
       (folded-next b p n _ i (i + 1) _ _ _ _ k refl (omega (arith, q .left)) (two-first y) (fold-one w _ z f .0 ∙ ap folded m) e)
-      (two-last z) d
+      (two-last z) (q .left) d
 
   -- or after both
   pub passed-pair : {s h g : ℕ} (j : ℕ) → Passed b p n s i h → (c ≡ 0 → ⊥) → 65536 ≤ w → j ≡ i + 2

@@ -6,10 +6,10 @@ ghost use lib.ListN.{length};
 ghost use Rattle.verdict.specs.Checks.{Tells};
 ghost use Rattle.hash.specs.Table.{Tables};
 ghost use Rattle.hash.specs.Hash.{hashOn};
-ghost use Rattle.hash.specs.Fold.{foldText, valueHashOf, valueHash};
+ghost use Rattle.hash.specs.Fold.{foldText, valueHashOf};
 ghost use Rattle.text.specs.Text.{chars, textIn};
 ghost use Rattle.text.specs.Zeros.{zerosIn};
-ghost use Rattle.text.specs.Measure.{MeasuredOn, Measured, CharOrEnd};
+ghost use Rattle.text.specs.Measure.{MeasuredOn, Measured, ValueRun, CharOrEnd};
 
 pub mod parts;
 
@@ -85,49 +85,65 @@ fn measure_few(b: &[u8], t: &[u32; 2048], p: usize, n: usize, h: usize) -> Exten
     }
 }
 
-// The value hash of the text at offset p, of at most n characters: four in a step, while four are left.
-pub fn value_hash(b: &[u8], t: &[u32; 2048], p: usize, n: usize) -> usize
-    requires { ⌜ Tables (now t) × (p + 2 * n ≤ length (now b)) ⌝ }
-    ensures { λ r. ⌜ r ≡ valueHash (textIn (now (b .entry)) p n) ⌝ }
+// The value hash, on from h, of the text at offset p, if a 0 ends it within n characters; otherwise 16,384 more than the hash of the n folded
+// characters, with which the text goes on. It is one number since it is asked for at every attribute. Four characters in a step, while four
+// are left.
+pub fn value_run(b: &[u8], t: &[u32; 2048], p: usize, n: usize, h: usize) -> usize
+    requires { ⌜ Tables (now t) × (p + 2 * n ≤ length (now b)) × (h < 2 ^ 32) ⌝ }
+    ensures { λ r. ⌜ ValueRun (now (b .entry)) p n h r ⌝ }
 {
-    let mut h = 0;
+    let mut g = h;
     let mut i = 0;
     while i + 3 < n {
         let v = le::u32_at(b, p + 2 * i);
         let w = le::u32_at(b, p + 2 * (i + 2));
         let f = hash::fold_quad(v, w);
         if v & 65535 == 0 {
-            return hash::value_hash(h);
+            return hash::value_hash(g);
         }
         if v < 65536 {
-            return hash::value_hash(hash::char_on(t, h, f.first));
+            return hash::value_hash(hash::char_on(t, g, f.first));
         }
         if w & 65535 == 0 {
-            return hash::value_hash(hash::pair_on(t, h, f.first));
+            return hash::value_hash(hash::pair_on(t, g, f.first));
         }
         if w < 65536 {
-            return hash::value_hash(hash::char_on(t, hash::pair_on(t, h, f.first), f.second));
+            return hash::value_hash(hash::char_on(t, hash::pair_on(t, g, f.first), f.second));
         }
-        h = hash::quad_on(t, h, f.first, f.second);
+        g = hash::quad_on(t, g, f.first, f.second);
         i += 4;
     }
-    value_hash_few(b, t, p + 2 * i, n - i, h)
+    value_run_few(b, t, p + 2 * i, n - i, g)
 }
 
-// The same by single characters, on from the hash h of the folded characters before them.
-fn value_hash_few(b: &[u8], t: &[u32; 2048], p: usize, n: usize, h: usize) -> usize
+// The same by single characters.
+fn value_run_few(b: &[u8], t: &[u32; 2048], p: usize, n: usize, h: usize) -> usize
     requires { ⌜ Tables (now t) × (p + 2 * n ≤ length (now b)) × (h < 2 ^ 32) ⌝ }
-    ensures { λ r. ⌜ r ≡ valueHashOf (hashOn h (foldText (textIn (now (b .entry)) p n))) ⌝ }
+    ensures { λ r. ⌜ ValueRun (now (b .entry)) p n h r ⌝ }
 {
     let mut g = h;
     let mut i = 0;
-    loop {
-        let c = char_or_end(b, p, n, i);
+    while i < n {
+        let c = le::u16_at(b, p + 2 * i);
         if c == 0 {
             return hash::value_hash(g);
         }
         g = hash::char_on(t, g, hash::fold(c));
         i += 1;
+    }
+    16384 + g
+}
+
+// The value hash, on from h, of the text at offset p, of at most n characters.
+pub fn value_hash(b: &[u8], t: &[u32; 2048], p: usize, n: usize, h: usize) -> usize
+    requires { ⌜ Tables (now t) × (p + 2 * n ≤ length (now b)) × (h < 2 ^ 32) ⌝ }
+    ensures { λ r. ⌜ r ≡ valueHashOf (hashOn h (foldText (textIn (now (b .entry)) p n))) ⌝ }
+{
+    let r = value_run(b, t, p, n, h);
+    if r < 16384 {
+        r
+    } else {
+        hash::value_hash(r - 16384)
     }
 }
 

@@ -14,7 +14,7 @@ returns-2 c =
     text-nowhere _ _ _ _ (c .before .before .before .before .before .u16-at .ensures .0) (c .before .before .before .before .kind .ensures .0) (c .before .before .before .if1 .left) _ (p .2) (p .3) (c .before .before .spot-to .ensures) (c .enum-told .given .1)
 
 value-hash-requires : tie.Need-value-hash-requires
-value-hash-requires c κs = let p = c .before .before .before .before .before .before .before .before .before .before .pre in (p .0, spot-fits _ _ _ _ (p .1 .laid .characters) (c .before .before .before .before .spot-to .ensures) (c .before .before .a .given .1))
+value-hash-requires c κs = let p = c .before .before .before .before .before .before .before .before .before .before .pre in (p .0, spot-fits _ _ _ _ (p .1 .laid .characters) (c .before .before .before .before .spot-to .ensures) (c .before .before .a .given .1), omega arith)
 
 returns-3 : tie.Need-returns-3
 returns-3 c =
@@ -27,6 +27,9 @@ measure-requires c κs = let p = c .before .before .before .before .before .befo
 
 lower-requires : tie.Need-lower-requires
 lower-requires c κs = let p = c .before .before .before .before .before .before .before .before .before .before .before .before .before .before .pre in (p .1, c .bucket .ensures .1, clean-entries _ _ (p .2) (p .3))
+
+add-u32-at : tie.Need-add-u32-at
+add-u32-at c = let p = c .before .before .before .before .before .before .before .before .before .before .before .before .before .before .before .pre in record { fits = omega (arith, p .4, p .1 .small) }
 
 run-has-requires : tie.Need-run-has-requires
 run-has-requires c κs = let p = c .before .before .before .before .before .before .before .before .before .before .before .before .before .before .before .before .pre in (p .1, c .before .before .bucket .ensures .1, clean-entries _ _ (p .2) (p .3), c .before .lower .ensures, omega arith)
@@ -43,4 +46,4 @@ text-right-spec =
     tie.close
     (tie.spec (λ c. search needs) (λ c κs. search needs) (λ c κs. search needs) returns (λ c. search needs) (λ c κs. search needs)
     (λ c. search needs) (λ c. search needs) returns-2 (λ c κs. search needs) value-hash-requires returns-3 measure-requires (λ c κs. search needs)
-    lower-requires (λ c. search needs) (λ c κs. search needs) run-has-requires returns-4)
+    lower-requires add-u32-at (λ c κs. search needs) run-has-requires returns-4)

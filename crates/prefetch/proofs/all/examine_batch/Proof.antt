@@ -4,11 +4,14 @@ use borrow.Author.Needs.{needs}
 use Rattle.prefetch.proofs.all.examine_batch.Statement.{statement}
 use Rattle.prefetch.proofs.all.examine_batch.Tie as tie
 
+batch-right-requires : tie.Need-batch-right-requires
+batch-right-requires c κs = c .before .before .before .pre .0
+
 returns : tie.Need-returns
-returns c = (c .before .before .before .before .pre .1 .1, examined-right _ _ _ _ (c .before .batch-right .ensures (c .if1 .taken)))
+returns c = (c .before .before .before .before .before .pre .1 .1, (examined-right _ _ _ _ (c .before .batch-right .ensures .0 (c .if1 .taken)), c .before .batch-right .ensures .1))
 
 returns-2 : tie.Need-returns-2
-returns-2 c = (unsure, examined-doubted _ _ _ _ _ (c .doubt-all .ensures))
+returns-2 c = (unsure, (examined-doubted _ _ _ _ _ (c .doubt-all .ensures), c .before .before .before .batch-right .ensures .1))
 
 pub examine-batch-spec : {M : Type 1} → statement M
-examine-batch-spec = tie.close (tie.spec (λ c κs. search needs) returns (λ c κs. search needs) returns-2)
+examine-batch-spec = tie.close (tie.spec batch-right-requires returns (λ c κs. search needs) returns-2)

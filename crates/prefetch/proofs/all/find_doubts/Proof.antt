@@ -9,7 +9,9 @@ use mathlib.Core.Path.{_≡_, refl, _∙_}
 use lib.ListN.{length}
 use Rattle.region.specs.Region.{startOf}
 use Rattle.layout.specs.Layout.{attributeSize, attributesAt}
+use Rattle.memo.specs.Memo.{Remembers}
 use Rattle.nodes.specs.Doubts.{Trusted, NoDoubt}
+use Rattle.prefetch.specs.Noted.{noted}
 use Rattle.prefetch.proofs.Taking.{passed-trusted}
 use native.Mathlib.Omega.{arith}
 use borrow.Author.Needs.{needs}
@@ -17,18 +19,18 @@ use Rattle.prefetch.proofs.all.find_doubts.Statement.{statement}
 use Rattle.prefetch.proofs.all.find_doubts.Tie as tie
 
 abbrev Inv-loop2 : tie.InvT-loop2
-Inv-loop2 b t attributes s samples starts packed doubts₀ slots₀ known₀ at seg used el₀ doubts slots known el =
-    (el ≤ used) × (length slots ≡ 64) × (length doubts ≡ 4096) × Sure (NoDoubt doubts) known × RowsTrusted b doubts seg × ((i : ℕ) → i < el → Trusted b doubts (at + 8 + i * 12))
+Inv-loop2 b t attributes s samples starts packed doubts₀ memo₀ slots₀ known₀ at seg used el₀ doubts memo slots known el =
+    (el ≤ used) × (length slots ≡ 64) × (length doubts ≡ 4096) × Sure (NoDoubt doubts) known × RowsTrusted b doubts seg × ((i : ℕ) → i < el → Trusted b doubts (at + 8 + i * 12)) × Remembers (noted b) memo
 
 abbrev μ-loop2 : tie.MeasureT-loop2
-μ-loop2 b t attributes s samples starts packed doubts₀ slots₀ known₀ at seg used el₀ doubts slots known el = used - el
+μ-loop2 b t attributes s samples starts packed doubts₀ memo₀ slots₀ known₀ at seg used el₀ doubts memo slots known el = used - el
 
 abbrev Inv-loop : tie.InvT-loop
-Inv-loop b t attributes s samples starts packed doubts₀ slots₀ known₀ at₀ seg₀ doubts slots known at seg =
-    (seg ≤ attributes .count) × (at ≡ startOf attributeSize b (attributesAt b) seg) × (length slots ≡ 64) × (length doubts ≡ 4096) × Sure (NoDoubt doubts) known × RowsTrusted b doubts seg
+Inv-loop b t attributes s samples starts packed doubts₀ memo₀ slots₀ known₀ at₀ seg₀ doubts memo slots known at seg =
+    (seg ≤ attributes .count) × (at ≡ startOf attributeSize b (attributesAt b) seg) × (length slots ≡ 64) × (length doubts ≡ 4096) × Sure (NoDoubt doubts) known × RowsTrusted b doubts seg × Remembers (noted b) memo
 
 abbrev μ-loop : tie.MeasureT-loop
-μ-loop b t attributes s samples starts packed doubts₀ slots₀ known₀ at₀ seg₀ doubts slots known at seg = attributes .count - seg
+μ-loop b t attributes s samples starts packed doubts₀ memo₀ slots₀ known₀ at₀ seg₀ doubts memo slots known at seg = attributes .count - seg
 
 -- the segment that a turn is at lies in the file, and so does its used part
 turn : (c : tie.Then1 Inv-loop2 μ-loop2 Inv-loop μ-loop) → let at = c .before .before .loop .at in at + 8 + u32At (c .before .before .before .before .before .before .args .b .now) at * 12 ≤ length (c .before .before .before .before .before .before .args .b .now)
@@ -41,7 +43,7 @@ add-at : tie.Need-add-at Inv-loop2 μ-loop2 Inv-loop μ-loop
 add-at c = record { fits = omega (arith, c .before .before .before .pre .0 .5 .laid .head, c .before .before .before .pre .0 .5 .at-is, c .before .before .before .pre .0 .1 .small) }
 
 loop-holds : tie.Need-loop-holds Inv-loop2 μ-loop2 Inv-loop μ-loop
-loop-holds c = let p = c .before .before .before .pre in (omega arith, rows-start _ (p .0 .5), refl, p .1 .0, λ z. p .1 .1, rows-none _ _)
+loop-holds c = let p = c .before .before .before .pre in (omega arith, rows-start _ (p .0 .5), refl, p .1 .0, λ z. p .1 .1, rows-none _ _, p .0 .6)
 
 add-u32-at : tie.Need-add-u32-at Inv-loop2 μ-loop2 Inv-loop μ-loop
 add-u32-at c = record { fits = omega (arith, turn c) }
@@ -50,7 +52,7 @@ u32-at-requires : tie.Need-u32-at-requires Inv-loop2 μ-loop2 Inv-loop μ-loop
 u32-at-requires c κs = omega (arith, turn c)
 
 loop2-holds : tie.Need-loop2-holds Inv-loop2 μ-loop2 Inv-loop μ-loop
-loop2-holds c = let i = c .before .before .before .loop .inv in (omega arith, i .2, i .3, i .4, i .5, below-none _)
+loop2-holds c = let i = c .before .before .before .loop .inv in (omega arith, i .2, i .3, i .4, i .5, below-none _, i .6)
 
 add-take : tie.Need-add-take Inv-loop2 μ-loop2 Inv-loop μ-loop
 add-take c = record { fits = omega (arith, turn (c .before .before .before)) }
@@ -60,20 +62,21 @@ take-requires c κs = (row (c .before .before .before), omega (arith, c .before 
 
 examine-batch-requires : tie.Need-examine-batch-requires Inv-loop2 μ-loop2 Inv-loop μ-loop
 examine-batch-requires c κs =
-    let p = c .before .before .before .before .before .before .before .before .before .before .before .before .before .pre .0 in
-    let t = c .before .before .take .ensures .slotted in
-    let i = c .before .before .before .before .before .loop2 .inv in
-    ((p .0, p .1, p .2, p .3, t .long, t .within, t .few, p .4), (i .2, i .3))
+    let p = c .before .before .before .before .before .before .before .before .before .before .before .before .before .before .pre .0 in
+    let t = c .before .before .before .take .ensures .slotted in
+    let i = c .before .before .before .before .before .before .loop2 .inv in
+    ((p .0, p .1, p .2, p .3, t .long, t .within, t .few, p .4, i .6), (i .2, i .3))
 
 loop2-less : tie.Need-loop2-less Inv-loop2 μ-loop2 Inv-loop μ-loop
-loop2-less c = let t = c .before .before .before .take .ensures in omega (arith, t .on (c .before .before .before .before .before .loop2-test .taken), t .upto)
+loop2-less c = let t = c .before .before .before .before .take .ensures in omega (arith, t .on (c .before .before .before .before .before .before .loop2-test .taken), t .upto)
 
 loop2-again : tie.Need-loop2-again Inv-loop2 μ-loop2 Inv-loop μ-loop
 loop2-again c =
-    let t = c .before .before .before .take .ensures in
-    let i = c .before .before .before .before .before .before .loop2 .inv in
-    let d = c .examine-batch .ensures .1 in
-    (t .upto, t .slotted .long, d .kept .long ∙ i .2, c .examine-batch .ensures .0, rows-still _ _ _ _ (d .kept) (i .4), passed-trusted _ _ _ _ _ _ _ (t .slotted) (d .each) (λ n l. still (d .kept) (i .5 n l)))
+    let t = c .before .before .before .before .take .ensures in
+    let i = c .before .before .before .before .before .before .before .loop2 .inv in
+    let e = c .examine-batch .ensures in
+    let d = e .1 .0 in
+    (t .upto, t .slotted .long, d .kept .long ∙ i .2, e .0, rows-still _ _ _ _ (d .kept) (i .4), passed-trusted _ _ _ _ _ _ _ (t .slotted) (d .each) (λ n l. still (d .kept) (i .5 n l)), e .1 .1)
 
 add-at-2 : tie.Need-add-at-2 Inv-loop2 μ-loop2 Inv-loop μ-loop
 add-at-2 c = record { fits = omega (arith, turn (c .before .before .before)) }
@@ -90,7 +93,7 @@ add-at-3 c = record { fits = omega (arith, turn (c .before .before .before .befo
 loop-again : tie.Need-loop-again Inv-loop2 μ-loop2 Inv-loop μ-loop
 loop-again c = let i = c .before .before .before .before .before .before .loop .inv in
     let j = c .before .before .loop2 .inv in
-    (omega arith, rows-next _ (c .before .before .before .before .before .before .before .before .before .before .pre .0 .5) _ _ (c .before .before .before .before .if1 .taken) (i .1) _ (c .u32-at2 .ensures .0), j .1, j .2, j .3, rows-more _ _ _ _ _ _ (j .4) (i .1) (used-at _ _ _ _ _ _ (i .1) (c .before .before .before .u32-at .ensures .0)) (c .before .loop2-test .left) (j .5))
+    (omega arith, rows-next _ (c .before .before .before .before .before .before .before .before .before .before .pre .0 .5) _ _ (c .before .before .before .before .if1 .taken) (i .1) _ (c .u32-at2 .ensures .0), j .1, j .2, j .3, rows-more _ _ _ _ _ _ (j .4) (i .1) (used-at _ _ _ _ _ _ (i .1) (c .before .before .before .u32-at .ensures .0)) (c .before .loop2-test .left) (j .5), j .6)
 
 returns : tie.Need-returns Inv-loop2 μ-loop2 Inv-loop μ-loop
 returns c = let i = c .before .before .loop .inv in (i .4, rows-all _ _ _ (i .5) (omega (arith, c .if1 .left, c .before .before .before .before .before .before .pre .0 .5 .count-is)))
