@@ -19,7 +19,7 @@
 
 #include "taplinen.h"
 
-/* A call needs about 140 KB of stack. With glibc, thread-local data is taken from the stack, too: sanitizers have a lot of it. */
+/* A call needs about 170 KB of stack. With glibc, thread-local data is taken from the stack, too: sanitizers have a lot of it. */
 enum { THREADS = 4, STACK_LEN = 1024 * 1024, TEXT_LEN = 64, ANSWER_LEN = 256 };
 
 struct request {
