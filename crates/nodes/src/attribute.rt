@@ -71,7 +71,7 @@ fn attribute_right(b: &[u8], names: Names, p: usize, i: usize, q: usize) -> bool
 }
 
 // Whether refusal 19 is not due to the attribute at q. An entry with its address would stand in the bucket of the text there.
-fn text_right(
+pub fn text_right(
     b: &[u8],
     t: &[u32; 2048],
     s: Strings,

@@ -1,5 +1,5 @@
 // Refusals 16 to 19 and 23: nodes and attributes (FORMAT, "Nodes", "Attributes", "Refusals").
 pub mod all;
-mod attribute;
+pub mod attribute;
 mod node;
 pub mod value;

@@ -8,9 +8,10 @@ use borrow.Author.Count.{below-none, below-more}
 use lib.ListN.{length, getD, set, replicate, length-set}
 use lib.Seq.{getD-set-same, getD-set-other}
 use Rattle.laws.proofs.Zeros.{zeros}
+use Rattle.nodes.specs.Rules.{TextRight}
 use Rattle.nodes.specs.Doubts.{doubtOf, Trusted, NoDoubt}
 use Rattle.prefetch.specs.Batch.{AllRight}
-use Rattle.prefetch.specs.Doubted.{Kept, Doubted, Examined}
+use Rattle.prefetch.specs.Examined.{Kept, Examined}
 
 -- what was trusted still is when more is doubted
 pub still : {b d d′ : List ℕ} {q : ℕ} → Kept d d′ → Trusted b d q → Trusted b d′ q
@@ -18,9 +19,6 @@ still k t = record { right = λ z. t .right (k .kept _ z) }
 
 pub kept-same : (d : List ℕ) → Kept d d
 kept-same d = record { long = refl; kept = λ i z. z }
-
-pub doubted-none : (slots d : List ℕ) → Doubted slots 0 d d
-doubted-none slots d = record { each = below-none _; kept = kept-same d }
 
 -- a place set to 1, and any place after that
 module _ (d : List ℕ) (i : ℕ) (l : i < length d) where
@@ -30,13 +28,6 @@ module _ (d : List ℕ) (i : ℕ) (l : i < length d) where
   set-other : (k : ℕ) → (k ≡ i → ⊥) → getD (set d i 1) k 0 ≡ getD d k 0
   set-other k e = getD-set-other d i k 1 0 e
 
-  one-stays : (k : ℕ) → getD d k 0 ≡ 1 → getD (set d i 1) k 0 ≡ 1
-  one-stays k e = go (ℕ-discrete k i)
-    where
-      go : Dec (k ≡ i) → getD (set d i 1) k 0 ≡ 1
-      go (yes z) = set-one k z
-      go (no z) = set-other k z ∙ e
-
   zero-was : (k : ℕ) → getD (set d i 1) k 0 ≡ 0 → getD d k 0 ≡ 0
   zero-was k e = go (ℕ-discrete k i)
     where
@@ -44,26 +35,35 @@ module _ (d : List ℕ) (i : ℕ) (l : i < length d) where
       go (yes z) = let w = set-one k z in omega arith
       go (no z) = sym (set-other k z) ∙ e
 
--- one slot more is doubted
-pub doubted-more : (slots d d′ : List ℕ) (j q : ℕ) → length d ≡ 4096 → Doubted slots j d d′ → q ≡ getD slots j 0 → Doubted slots (j + 1) d (set d′ (q / 4 % 4096) 1)
+pub kept-then : {d d′ d″ : List ℕ} → Kept d d′ → Kept d′ d″ → Kept d d″
+kept-then k l = record { long = l .long ∙ k .long; kept = λ i z. k .kept i (l .kept i z) }
+
+-- one attribute: 19 holds of it, or it is doubted
+pub trusted-right : (b d : List ℕ) (q : ℕ) → TextRight b q → Trusted b d q × Kept d d
+trusted-right b d q r = (record { right = λ z. r }, kept-same d)
+
+pub trusted-doubted : (b d : List ℕ) (q : ℕ) → length d ≡ 4096 → Trusted b (set d (q / 4 % 4096) 1) q × Kept d (set d (q / 4 % 4096) 1)
 unfolding doubtOf
-doubted-more slots d d′ j q n w e =
+trusted-doubted b d q n =
     let i = q / 4 % 4096 in
-    let l : q / 4 % 4096 < length d′ = omega (arith, n, w .kept .long) in
-    record {
-      each = below-more (λ (k : ℕ). getD (set d′ (q / 4 % 4096) 1) (doubtOf (getD slots k 0)) 0 ≡ 1) j (λ k h. one-stays d′ i l _ (w .each k h))
-          (set-one d′ i l _ (ap (λ (x : ℕ). x / 4 % 4096) (sym e)));
-      kept = record { long = length-set d′ i 1 ∙ w .kept .long; kept = λ k z. w .kept .kept k (zero-was d′ i l k z) };
-    }
+    let l : q / 4 % 4096 < length d = omega (arith, n) in
+    (record { right = λ z. let e = set-one d i l i refl in absurd (omega arith) }, record { long = length-set d i 1; kept = λ k z. zero-was d i l k z })
+
+-- slot by slot
+pub examined-none : (b slots d : List ℕ) → Examined b slots 0 d d
+examined-none b slots d = record { each = below-none _; kept = kept-same d }
+
+pub examined-more : (b slots d d′ d″ : List ℕ) (j q : ℕ) → Examined b slots j d d′ → q ≡ getD slots j 0 → Trusted b d″ q × Kept d′ d″ → Examined b slots (j + 1) d d″
+examined-more b slots d d′ d″ j q w e t = record {
+  each = below-more (λ (k : ℕ). Trusted b d″ (getD slots k 0)) j (λ k h. still (t .1) (w .each k h)) (subst (Trusted b d″) e (t .0));
+  kept = kept-then (w .kept) (t .1);
+}
+
+pub examined-upto : {b slots d d′ : List ℕ} {n j : ℕ} → n ≤ j → Examined b slots j d d′ → Examined b slots n d d′
+examined-upto {n = n} {j = j} l w = record { each = λ i h. w .each i (omega arith); kept = w .kept }
 
 pub examined-right : (b slots d : List ℕ) (n : ℕ) → AllRight b slots n → Examined b slots n d d
 examined-right b slots d n r = record { each = λ j l. record { right = λ z. r j l }; kept = kept-same d }
-
-pub examined-doubted : (b slots d d′ : List ℕ) (n : ℕ) → Doubted slots n d d′ → Examined b slots n d d′
-examined-doubted b slots d d′ n w = record { each = λ j l. record { right = λ z. let e = w .each j l in absurd (omega arith) }; kept = w .kept }
-
-pub doubted-upto : {slots d d′ : List ℕ} {n j : ℕ} → n ≤ j → Doubted slots j d d′ → Doubted slots n d d′
-doubted-upto {n = n} {j = j} l w = record { each = λ i h. w .each i (omega arith); kept = w .kept }
 
 -- before any batch nothing is doubted
 pub no-doubt : NoDoubt (replicate 4096 0)

@@ -27,7 +27,7 @@ use Rattle.positions.specs.Packed.{Packed}
 use Rattle.nodes.specs.Attribute.{typeWord, textSegment, textElement}
 use Rattle.strings.specs.Rules.{EntryAddress}
 use Rattle.nodes.specs.Doubts.{Trusted, AllTrusted}
-use Rattle.prefetch.specs.Doubted.{Kept}
+use Rattle.prefetch.specs.Examined.{Kept}
 use Rattle.prefetch.proofs.Doubting.{still}
 use Rattle.verdict.specs.Checks.{Sure, SomeBelow}
 use Rattle.nodes.proofs.Addresses.{spot-fits, address-of}

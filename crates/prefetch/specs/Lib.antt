@@ -1,4 +1,4 @@
 pub mod Slots
 pub mod Batch
-pub mod Doubted
+pub mod Examined
 pub mod Noted

@@ -1,6 +1,6 @@
 // All used attributes, in the order of the file.
 ghost use mathlib.Core.Path.{_≡_};
-ghost use Prim.Native.Nat.{_≤_};
+ghost use Prim.Native.Nat.{_+_, _≤_};
 ghost use lib.ListN.{length};
 ghost use Rattle.verdict.specs.Checks.{firstFault, Sure};
 ghost use Rattle.verdict.specs.declared.Verdict.the-variants.{Accepted};
@@ -11,33 +11,66 @@ ghost use Rattle.layout.specs.Layout.{attributeSize, attributesAt, values};
 ghost use Rattle.strings.specs.Order.{stringChecks};
 ghost use Rattle.strings.specs.Held.{Held, heldTable};
 ghost use Rattle.positions.specs.Packed.{Packed};
-ghost use Rattle.nodes.specs.Doubts.{AllTrusted, NoDoubt};
+ghost use Rattle.nodes.specs.Doubts.{Trusted, AllTrusted, NoDoubt};
 ghost use Rattle.nodes.specs.Order.{allNodeChecks};
 ghost use Rattle.nodes.specs.Held.{Ready};
 ghost use Rattle.prefetch.specs.Slots.{SlotsIn};
-ghost use Rattle.prefetch.specs.Doubted.{Doubted, Examined};
+ghost use Rattle.prefetch.specs.Examined.{Kept, Examined};
 ghost use Rattle.prefetch.specs.Noted.{noted};
 use crate::slots;
 use crate::steps;
 use keys::Names;
 use layout::Places;
+use nodes::attribute;
 use region::Region;
 use strings::Strings;
 use verdict::Verdict;
 
-// Doubts the attributes in the first n slots.
-fn doubt_all(slots: &[u32; 64], n: usize, doubts: &mut [u32; 4096])
-    requires { ⌜ (n ≤ 64) × (length (now slots) ≡ 64) × (length (now doubts) ≡ 4096) ⌝ }
-    ensures { λ _. ⌜ Doubted (now (slots .entry)) n (now (doubts .entry)) (now (doubts .exit)) ⌝ }
+// Doubts the attribute at q, unless 19 holds of it.
+fn doubt(
+    b: &[u8],
+    t: &[u32; 2048],
+    s: Strings,
+    samples: &[u32; 1024],
+    starts: &[u32],
+    q: usize,
+    doubts: &mut [u32; 4096],
+)
+    requires { ⌜ Tables (now t) × Held (now b) s (now samples) (now starts) × (heldTable (now b) s (now starts) ≡ values (now b))
+        × (firstFault (stringChecks (values (now b))) ≡ Accepted) × (q + 12 ≤ length (now b)) × (length (now doubts) ≡ 4096) ⌝ }
+    ensures { λ _. ⌜ Trusted (now (b .entry)) (now (doubts .exit)) q × Kept (now (doubts .entry)) (now (doubts .exit)) ⌝ }
+{
+    if attribute::text_right(b, t, s, samples, starts, q) {
+        return;
+    }
+    doubts[q / 4 % 4096] = 1;
+}
+
+// Doubts those of the attributes in the first n slots of which 19 does not hold.
+fn doubt_wrong(
+    b: &[u8],
+    t: &[u32; 2048],
+    s: Strings,
+    samples: &[u32; 1024],
+    starts: &[u32],
+    slots: &[u32; 64],
+    n: usize,
+    doubts: &mut [u32; 4096],
+)
+    requires { ⌜ Tables (now t) × Held (now b) s (now samples) (now starts) × (heldTable (now b) s (now starts) ≡ values (now b))
+        × (firstFault (stringChecks (values (now b))) ≡ Accepted) × (length (now slots) ≡ 64) × SlotsIn (now b) (now slots) n × (n ≤ 64)
+        × (length (now doubts) ≡ 4096) ⌝ }
+    ensures { λ _. ⌜ Examined (now (b .entry)) (now (slots .entry)) n (now (doubts .entry)) (now (doubts .exit)) ⌝ }
 {
     let mut j = 0;
     while j < n {
-        doubts[le::wide(slots[j]) / 4 % 4096] = 1;
+        doubt(b, t, s, samples, starts, le::wide(slots[j]), doubts);
         j += 1;
     }
 }
 
-// Doubts the attributes in the first n slots, unless 19 is known to hold of each. Whether nothing is doubted.
+// Doubts those of the attributes in the first n slots of which 19 does not hold, one by one unless it is known to hold of all. Whether nothing is
+// doubted.
 fn examine_batch(
     b: &[u8],
     t: &[u32; 2048],
@@ -62,12 +95,12 @@ fn examine_batch(
     if steps::batch_right(b, t, s, samples, starts, slots, n, packed, memo) {
         return known;
     }
-    doubt_all(slots, n, doubts);
+    doubt_wrong(b, t, s, samples, starts, slots, n, doubts);
     false
 }
 
-// Doubts every used attribute of which 19 is not known to hold. Whether nothing is doubted. An attribute that no node has may be at fault, so
-// a doubt refuses nothing; and it costs its own batch a second check, not all others.
+// Doubts every used attribute of which 19 does not hold. Whether nothing is doubted. An attribute that no node has may be at fault, so a doubt
+// refuses nothing; and it costs those a second check that share its place, not all others.
 fn find_doubts(
     b: &[u8],
     t: &[u32; 2048],

@@ -3,18 +3,13 @@ use Prim.Native.Nat.{ℕ}
 use mathlib.Core.Path.{_≡_}
 use mathlib.Core.List.{List}
 use lib.ListN.{length, getD}
-use Rattle.nodes.specs.Doubts.{doubtOf, Trusted}
+use Rattle.nodes.specs.Doubts.{Trusted}
 use Rattle.prefetch.specs.Slots.{Each}
 
 -- No doubt is taken back.
 pub record Kept (before after : List ℕ) : Type 0 where
   pub long : length after ≡ length before
   pub kept : (i : ℕ) → getD after i 0 ≡ 0 → getD before i 0 ≡ 0
-
--- The attributes in the first n slots are doubted.
-pub record Doubted (slots : List ℕ) (n : ℕ) (before after : List ℕ) : Type 0 where
-  pub each : Each n (λ j. getD after (doubtOf (getD slots j 0)) 0 ≡ 1)
-  pub kept : Kept before after
 
 -- 19 holds of the attributes in the first n slots, unless they are doubted.
 pub record Examined (b slots : List ℕ) (n : ℕ) (before after : List ℕ) : Type 0 where

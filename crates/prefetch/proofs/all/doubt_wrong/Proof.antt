@@ -1,0 +1,37 @@
+use Prim.Native.Nat.{_-_}
+use mathlib.Core.Path.{_≡_, _∙_}
+use lib.ListN.{length}
+use Rattle.prefetch.specs.Examined.{Examined}
+use Rattle.prefetch.proofs.Doubting.{examined-none, examined-more, examined-upto}
+use native.Mathlib.Omega.{arith}
+use borrow.Author.Needs.{needs}
+use Rattle.prefetch.proofs.all.doubt_wrong.Statement.{statement}
+use Rattle.prefetch.proofs.all.doubt_wrong.Tie as tie
+
+abbrev Inv-loop : tie.InvT-loop
+Inv-loop b t s samples starts slots n doubts₀ j₀ doubts j = (length doubts ≡ 4096) × Examined b slots j doubts₀ doubts
+
+abbrev μ-loop : tie.MeasureT-loop
+μ-loop b t s samples starts slots n doubts₀ j₀ doubts j = n - j
+
+loop-holds : tie.Need-loop-holds Inv-loop μ-loop
+loop-holds c = (c .before .before .pre .7, examined-none _ _ _)
+
+doubt-requires : tie.Need-doubt-requires Inv-loop μ-loop
+doubt-requires c κs =
+    let p = c .before .before .before .before .before .before .before .pre in
+    (p .0, p .1, p .2, p .3, omega (arith, c .before .wide .ensures .0, p .5 _ (c .before .before .before .loop-test .taken)), c .before .before .before .before .loop .inv .0)
+
+loop-again : tie.Need-loop-again Inv-loop μ-loop
+loop-again c =
+    let i = c .before .before .before .before .before .loop .inv in
+    let d = c .doubt .ensures in
+    (d .1 .long ∙ i .0, examined-more _ _ _ _ _ _ _ (i .1) (c .before .before .wide .ensures .0) d)
+
+returns : tie.Need-returns Inv-loop μ-loop
+returns c = examined-upto (c .loop-test .left) (c .before .loop .inv .1)
+
+pub doubt-wrong-spec : {M : Type 1} → statement M
+doubt-wrong-spec =
+    tie.close
+    (tie.spec Inv-loop μ-loop loop-holds (λ c. search needs) (λ c. search needs) (λ c κs. search needs) doubt-requires (λ c. search needs) (λ c. search needs) loop-again returns)
