@@ -1,74 +1,61 @@
-/* The inside of a small server: several threads answer requests about one file. It has no network: the requests are a fixed list.
- *
- *     server FILE
- *
- * It shows what a program with threads has to do:
+/* The inside of a small server: several threads answer requests about one file. It has no network: the requests are a fixed list, made for
+ * samples/shop.dc. It shows what a program with threads has to do:
  *   - The file is loaded once. All threads read the same bytes, which the library never writes to.
  *   - Each thread has a workspace of its own, because every call writes to its workspace.
  *   - The stack of each thread is large enough for a call.
  *   - Many names are asked with one call, since each call checks the file again.
  *   - refusal is tested before the rest of an answer is used.
- *
- * The list of requests is made for samples/shop.dc. Threads take them in any order; the answers are printed in the order of the list. Texts
- * are ASCII here; tool/text.c shows how to convert UTF-8. */
+ * Texts are ASCII here; tool/text.c shows how to convert UTF-8. This is C11 and C++11. */
 #include <pthread.h>
-#include <stdatomic.h>
 #include <stdio.h>
 #include <stdlib.h>
 #include <string.h>
 
-#include "taplinen.h"
+#include <taplinen.h>
 
 /* A call needs about 170 KB of stack. With glibc, thread-local data is taken from the stack, too: sanitizers have a lot of it. */
 enum { THREADS = 4, STACK_LEN = 1024 * 1024, TEXT_LEN = 64, ANSWER_LEN = 256 };
 
+enum request_kind { NAMES, PATH, PRICE };
+
 struct request {
-    enum { NAMES, PATH, PRICE } kind;
+    enum request_kind kind;
     const char *text; /* shorter than TEXT_LEN */
     char answer[ANSWER_LEN];
 };
 
-/* What the threads share. They write to next, and each to the answers of the requests that it took. */
-struct server {
-    uint8_t *file;
-    size_t file_len, ws_len;
-    char *outline;
-    struct request *requests;
-    size_t count;
-    atomic_size_t next;
+static struct request requests[] = {
+    {NAMES, "Item/Quest/Monster/Price", ""}, {NAMES, "LegendarySword/@b`naiosyRyopk", ""}, {PATH, "Item/Price", ""}, {PATH, "Monster", ""},
+    {PRICE, "Iron\\0020sword", ""},          {PRICE, "Oak\\0020shield", ""},               {PRICE, "Gold\\0020crown", ""},
 };
+
+/* What the threads share: the file and its outline, which nobody writes to, and the number of the next request, under a lock. */
+static uint8_t *file;
+static size_t file_len, ws_len;
+static char *outline;
+static pthread_mutex_t lock = PTHREAD_MUTEX_INITIALIZER;
+static size_t next_request;
 
 static void *allocate(size_t len)
 {
-    void *p = malloc(len);
-    if (p == NULL) {
-        fputs("out of memory\n", stderr);
-        exit(2);
-    }
+    void *p = malloc(len + 1);
+    if (p == NULL)
+        abort();
     return p;
 }
 
-/* "Item/Price" as 16-bit characters, low byte first, each name followed by a 0 character. Returns the length in bytes. */
-static size_t names_of(const char *text, uint8_t out[2 * TEXT_LEN])
-{
-    size_t count = strlen(text) + 1;
-    for (size_t i = 0; i < count; i++) {
-        out[2 * i] = text[i] == '/' ? 0 : (uint8_t)text[i];
-        out[2 * i + 1] = 0;
-    }
-    return 2 * count;
-}
-
 /* The indices of names, or the nodes of a path. */
-static void ask(const struct server *s, uint8_t *ws, struct request *r)
+static void ask(uint8_t *ws, struct request *r)
 {
-    /* Room for all names. A path with more than 128 nodes is refused with TAPLINEN_REFUSED_PLACES, which tells their number. */
-    uint8_t texts[2 * TEXT_LEN], out[8 * TEXT_LEN];
-    size_t len = names_of(r->text, texts), at = 0;
-    taplinen_answer a = r->kind == NAMES ? taplinen_names(s->file, s->file_len, ws, s->ws_len, texts, len, out, sizeof out)
-                                         : taplinen_path(s->file, s->file_len, ws, s->ws_len, texts, len, out, sizeof out);
+    /* Each name as 16-bit characters, low byte first, followed by a 0 character. */
+    uint8_t texts[2 * TEXT_LEN] = {0}, out[8 * TEXT_LEN];
+    size_t count = strlen(r->text) + 1, at = 0;
+    for (size_t i = 0; i < count; i++)
+        texts[2 * i] = (uint8_t)(r->text[i] == '/' ? 0 : r->text[i]);
+    taplinen_answer a = r->kind == NAMES ? taplinen_names(file, file_len, ws, ws_len, texts, 2 * count, out, sizeof out)
+                                         : taplinen_path(file, file_len, ws, ws_len, texts, 2 * count, out, sizeof out);
     if (a.refusal != TAPLINEN_ANSWERED) {
-        snprintf(r->answer, ANSWER_LEN, " refused %u at %llu: %s", a.refusal, (unsigned long long)a.value, taplinen_reason(a.refusal));
+        snprintf(r->answer, ANSWER_LEN, " refused %u: %s", a.refusal, taplinen_reason(a.refusal));
         return;
     }
     /* An item has at most 12 characters. Items that have no room are left out. */
@@ -85,11 +72,11 @@ static void ask(const struct server *s, uint8_t *ws, struct request *r)
 
 /* A price. No call gives an attribute, so it is read from the outline: from a line "    Price cost=i:120" below a line with the title,
  * "  Item id=i:7 title=s:TITLE ..". The title is given as the outline writes it, with \0020 for a space. */
-static void find_price(const struct server *s, struct request *r)
+static void find_price(struct request *r)
 {
     char title[TEXT_LEN + 16];
     snprintf(title, sizeof title, " title=s:%s ", r->text);
-    const char *line = strstr(s->outline, title);
+    const char *line = strstr(outline, title);
     snprintf(r->answer, ANSWER_LEN, " none");
     /* Every line ends in a newline, and the lines below an item have two spaces more. */
     while (line != NULL && strncmp(line = strchr(line, '\n') + 1, "    ", 4) == 0)
@@ -99,70 +86,40 @@ static void find_price(const struct server *s, struct request *r)
             snprintf(r->answer, ANSWER_LEN, " a float with the bits %.8s", line + 17);
 }
 
-static void *work(void *shared)
+static void *work(void *unused)
 {
-    struct server *s = shared;
-    uint8_t *ws = allocate(s->ws_len);
-    for (size_t i; (i = atomic_fetch_add(&s->next, 1)) < s->count;)
-        if (s->requests[i].kind == PRICE)
-            find_price(s, &s->requests[i]);
+    uint8_t *ws = (uint8_t *)allocate(ws_len);
+    for (;;) {
+        pthread_mutex_lock(&lock);
+        size_t i = next_request++;
+        pthread_mutex_unlock(&lock);
+        if (i >= sizeof requests / sizeof requests[0])
+            break;
+        if (requests[i].kind == PRICE)
+            find_price(&requests[i]);
         else
-            ask(s, ws, &s->requests[i]);
-    free(ws);
-    return NULL;
-}
-
-/* Starts the threads, and waits until they have answered all requests. Returns whether there was a thread. */
-static int serve(struct server *s)
-{
-    pthread_t threads[THREADS];
-    pthread_attr_t attributes;
-    int started = 0;
-    if (pthread_attr_init(&attributes) != 0)
-        return 0;
-    if (pthread_attr_setstacksize(&attributes, STACK_LEN) == 0)
-        while (started < THREADS && pthread_create(&threads[started], &attributes, work, s) == 0)
-            started++;
-    pthread_attr_destroy(&attributes);
-    for (int i = 0; i < started; i++)
-        pthread_join(threads[i], NULL);
-    return started > 0;
-}
-
-/* Reads the file. If that fails, it tells why and returns 0. */
-static int read_file(struct server *s, const char *name)
-{
-    FILE *f = fopen(name, "rb");
-    long end = -1;
-    /* A directory can be opened, but not read. */
-    if (f != NULL && (fgetc(f) != EOF || !ferror(f)) && fseek(f, 0, SEEK_END) == 0)
-        end = ftell(f);
-    if (end >= 0 && fseek(f, 0, SEEK_SET) == 0) {
-        s->file = allocate((size_t)end + 1);
-        s->file_len = fread(s->file, 1, (size_t)end, f);
+            ask(ws, &requests[i]);
     }
-    int done = end >= 0 && s->file_len == (size_t)end;
-    if (!done)
-        perror(name);
-    if (f != NULL)
-        fclose(f);
-    return done;
+    free(ws);
+    return unused;
 }
 
-/* Learns the length of a workspace and makes the outline. Each takes a call that is refused because its buffer is too short. */
-static taplinen_answer prepare(struct server *s)
+/* Reads the file and makes its outline. An outline with no buffer is refused with its length. */
+static taplinen_answer load(FILE *f)
 {
-    taplinen_answer a = taplinen_accept(s->file, s->file_len, NULL, 0);
-    if (a.refusal != TAPLINEN_REFUSED_WORKSPACE)
-        return a;
-    s->ws_len = (size_t)a.value;
-    uint8_t *ws = allocate(s->ws_len);
-    a = taplinen_outline(s->file, s->file_len, ws, s->ws_len, NULL, 0);
+    size_t room = 1 << 16, got;
+    file = (uint8_t *)allocate(room);
+    while ((got = fread(file + file_len, 1, room - file_len, f)) > 0)
+        if ((file_len += got) == room && (file = (uint8_t *)realloc(file, room *= 2)) == NULL)
+            abort();
+    ws_len = file_len / 16;
+    uint8_t *ws = (uint8_t *)allocate(ws_len);
+    taplinen_answer a = taplinen_outline(file, file_len, ws, ws_len, NULL, 0);
     if (a.refusal == TAPLINEN_REFUSED_OUTLINE) {
         size_t len = (size_t)a.value;
-        s->outline = allocate(len + 1);
-        a = taplinen_outline(s->file, s->file_len, ws, s->ws_len, (uint8_t *)s->outline, len);
-        s->outline[len] = 0;
+        outline = (char *)allocate(len);
+        a = taplinen_outline(file, file_len, ws, ws_len, (uint8_t *)outline, len);
+        outline[len] = 0;
     }
     free(ws);
     return a;
@@ -170,32 +127,35 @@ static taplinen_answer prepare(struct server *s)
 
 int main(int argc, char **argv)
 {
-    static const char *const kinds[] = {"names", "path", "price"};
-    struct request requests[] = {
-        {NAMES, "Item/Quest/Monster/Price", ""},
-        {NAMES, "LegendarySword/@b`naiosyRyopk", ""},
-        {PATH, "Item/Price", ""},
-        {PATH, "Monster", ""},
-        {PRICE, "Iron\\0020sword", ""},
-        {PRICE, "Oak\\0020shield", ""},
-        {PRICE, "Gold\\0020crown", ""},
-    };
-    struct server s = {.requests = requests, .count = sizeof requests / sizeof requests[0]};
-    int status = 2;
-    if (argc != 2) {
-        fputs("usage: server FILE\n", stderr);
-    } else if (read_file(&s, argv[1])) {
-        taplinen_answer a = prepare(&s);
-        if (a.refusal != TAPLINEN_ANSWERED) {
-            fprintf(stderr, "refused %u at %llu: %s\n", a.refusal, (unsigned long long)a.value, taplinen_reason(a.refusal));
-            status = 1;
-        } else if (serve(&s)) {
-            for (size_t i = 0; i < s.count; i++)
-                printf("%s %s:%s\n", kinds[requests[i].kind], requests[i].text, requests[i].answer);
-            status = 0;
-        }
+    FILE *f = argc == 2 ? fopen(argv[1], "rb") : NULL;
+    if (f == NULL) {
+        argc == 2 ? perror(argv[1]) : (void)fputs("usage: server FILE\n", stderr);
+        return 2;
     }
-    free(s.outline);
-    free(s.file);
-    return status;
+    taplinen_answer a = load(f);
+    if (ferror(f)) {
+        perror(argv[1]);
+        return 2;
+    }
+    fclose(f);
+    if (a.refusal != TAPLINEN_ANSWERED) {
+        fprintf(stderr, "refused %u at %llu: %s\n", a.refusal, (unsigned long long)a.value, taplinen_reason(a.refusal));
+        return 1;
+    }
+    pthread_t threads[THREADS];
+    pthread_attr_t attributes;
+    pthread_attr_init(&attributes);
+    pthread_attr_setstacksize(&attributes, STACK_LEN);
+    for (int i = 0; i < THREADS; i++)
+        if (pthread_create(&threads[i], &attributes, work, NULL) != 0)
+            abort();
+    for (int i = 0; i < THREADS; i++)
+        pthread_join(threads[i], NULL);
+    pthread_attr_destroy(&attributes);
+    static const char *const kinds[] = {"names", "path", "price"};
+    for (size_t i = 0; i < sizeof requests / sizeof requests[0]; i++)
+        printf("%s %s:%s\n", kinds[requests[i].kind], requests[i].text, requests[i].answer);
+    free(outline);
+    free(file);
+    return 0;
 }
