@@ -1,4 +1,4 @@
-//! Processor time of this thread: other work on the machine then counts less.
+//! Processor time: other work on the machine then counts less.
 
 #[repr(C)]
 struct TimeSpec {
@@ -6,6 +6,7 @@ struct TimeSpec {
     nanoseconds: i64,
 }
 
+const PROCESS_CPUTIME: i32 = 2;
 const THREAD_CPUTIME: i32 = 3;
 
 extern "C" {
@@ -14,9 +15,18 @@ extern "C" {
 
 /// Seconds of processor time that this thread has used.
 pub fn now() -> f64 {
+    read(THREAD_CPUTIME)
+}
+
+/// Seconds of processor time that all threads of this process have used.
+pub fn of_process() -> f64 {
+    read(PROCESS_CPUTIME)
+}
+
+fn read(clock: i32) -> f64 {
     let mut time = TimeSpec { seconds: 0, nanoseconds: 0 };
     // Writes one time into a place of the right layout.
-    let done = unsafe { clock_gettime(THREAD_CPUTIME, &mut time) };
-    assert_eq!(done, 0, "no thread clock");
+    let done = unsafe { clock_gettime(clock, &mut time) };
+    assert_eq!(done, 0, "no such clock");
     time.seconds as f64 + time.nanoseconds as f64 * 1e-9
 }

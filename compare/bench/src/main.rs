@@ -1,6 +1,6 @@
 //! The benchmark: both loaders on made files of 8, 64 and 256 MB, whose texts
 //! stand in the order of their first use, as builders write them; then the cost
-//! of a byte as files grow, on such files and on files whose texts are strewn.
+//! of a byte as files grow, on such files and on files whose texts are shuffled.
 //!
 //! Before each measurement the workspace is zeroed and every page of the file
 //! has been touched; the best of several rounds counts, in processor time of the
@@ -8,6 +8,8 @@
 //! acceptance (measured in the same run) is taken off; the second loader's go to
 //! a held view. The hashes are measured on short texts, and on each file's bytes
 //! as one text, beside its acceptance.
+//!
+//! `bench traps` measures files that are made to be slow instead.
 
 mod clock;
 mod growth;
@@ -15,6 +17,9 @@ mod hashing;
 mod memory;
 mod pages;
 mod subject;
+mod traps;
+
+use std::process::ExitCode;
 
 use maker::large::{large, Large, Order};
 use maker::rng::Rng;
@@ -183,8 +188,26 @@ fn print(title: &str, file: &Large, numbers: &Numbers, first: &Numbers) {
     );
 }
 
-fn main() {
-    let most = std::env::args().nth(1).and_then(|word| word.parse().ok()).unwrap_or(256);
+fn main() -> ExitCode {
+    let words: Vec<String> = std::env::args().skip(1).collect();
+    match words.first().map(String::as_str) {
+        Some("traps") => match traps::run(words.into_iter().skip(1)) {
+            Ok(()) => return ExitCode::SUCCESS,
+            Err(error) => {
+                eprintln!("{error}");
+                return ExitCode::FAILURE;
+            }
+        },
+        Some(traps::CHILD) => {
+            return traps::child(&words[1..]).map_or(ExitCode::from(2), |()| ExitCode::SUCCESS)
+        }
+        first => ordinary(first.and_then(|word| word.parse().ok()).unwrap_or(256)),
+    }
+    ExitCode::SUCCESS
+}
+
+/// Ordinary files of up to so many megabytes.
+fn ordinary(most: usize) {
     let sizes: Vec<usize> = SIZES.into_iter().filter(|&size| size <= most).collect();
     let subjects = subjects();
     println!("workspace zeroed, file pages touched; times as multiples of the first line's");
@@ -208,7 +231,7 @@ fn main() {
     let cases = [
         ("texts in the order of their first use", Order::AsUsed, Size::Small),
         ("the same in huge pages", Order::AsUsed, Size::Huge),
-        ("texts strewn", Order::Strewn, Size::Small),
+        ("texts shuffled", Order::Shuffled, Size::Small),
     ];
     for (title, order, pages) in cases {
         println!("acceptance of as many bytes in larger files, ns a byte, {title}:");

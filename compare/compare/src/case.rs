@@ -1,11 +1,12 @@
 //! Files to ask about: accepted and damaged ones, from a seed.
 
 use maker::damage;
-use maker::model::Model;
+use maker::model::{Model, Table};
 use maker::rich::{rich, Made};
 use maker::rng::Rng;
 use maker::shapes::{chains, far_nodes, many_keys, many_values, one_text_a_segment, wide};
 use maker::text::Text;
+use maker::traps;
 
 /// A file and what is known of what it holds, for questions.
 #[derive(Clone)]
@@ -53,8 +54,31 @@ pub fn random(rng: &mut Rng) -> Case {
         7..=14 => damaged(rng, most),
         15 | 16 => cut(rng, most),
         17 | 18 => mutated(rng, most),
+        _ if rng.one_in(3) => trapped(rng),
         _ => shaped(rng),
     }
+}
+
+/// A file that is made to be slow, small enough not to be, with an edit or none.
+fn trapped(rng: &mut Rng) -> Case {
+    let classes = traps::of_any_size();
+    let class = rng.pick(&classes);
+    let mut model = class.make(rng.between(7_500, 16_000)).model;
+    let few = |table: &Table, rng: &mut Rng| -> Vec<Text> {
+        (0..40.min(table.list.len())).map(|_| table.text(*rng.pick(&table.list))).collect()
+    };
+    let (names, values) = (few(&model.names, rng), few(&model.values, rng));
+    let first = model.names.text(model.names.list[0]);
+    let paths = (1..4).map(|length| vec![first.clone(); length]).collect();
+    let mut words = class.name.clone();
+    if rng.one_in(2) {
+        let all: Vec<_> = damage::all().filter(|damage| damage.aim > 6).collect();
+        let damage = *rng.pick(&all);
+        if can_take(&model) && (damage.edit)(&mut model, rng) {
+            words = format!("{words}, damaged: {} ({})", damage.words, damage.aim);
+        }
+    }
+    Case { bytes: model.bytes(), words, names, values, paths, weight: 10 }
 }
 
 /// One, two or three edits: with several, the order of the checks matters.
@@ -82,7 +106,7 @@ fn damaged(rng: &mut Rng, most: usize) -> Case {
 /// Whether the nodes and tables still hang together well enough to be edited
 /// further without a look at every step.
 fn can_take(model: &Model) -> bool {
-    let table = |table: &maker::model::Table| {
+    let table = |table: &Table| {
         table.buckets.iter().flat_map(|bucket| &bucket.entries).all(|entry| {
             let segment = table.chars.segments.get(entry.address.0 as usize);
             let used = segment.map_or(0, |segment| segment.used.len() as u64);

@@ -18,15 +18,17 @@ pub mod tally;
 pub mod texts;
 
 use loader::{Loader, Second};
-use second::{Marked, Right};
+use second::{Careful, Marked, Right};
 
 /// The loaders that the plain second one is compared with.
 pub fn others() -> Vec<Box<dyn Loader>> {
     let indexed: Second<Right, Marked> =
         Second::new("second, indexed, with hashes by definition", Right).hashing_by_definition();
+    let careful: Second<Right, Careful> = Second::new("second, careful from the start", Right);
     #[cfg(feature = "rattle")]
-    let others: Vec<Box<dyn Loader>> = vec![Box::new(rattle::Rattle::default()), Box::new(indexed)];
+    let others: Vec<Box<dyn Loader>> =
+        vec![Box::new(rattle::Rattle::default()), Box::new(indexed), Box::new(careful)];
     #[cfg(not(feature = "rattle"))]
-    let others: Vec<Box<dyn Loader>> = vec![Box::new(indexed)];
+    let others: Vec<Box<dyn Loader>> = vec![Box::new(indexed), Box::new(careful)];
     others
 }

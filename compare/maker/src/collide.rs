@@ -4,7 +4,9 @@
 //! Flipping a set of bits changes the hash by the xor of what each bit alone
 //! changes, so a wished change is a linear system with 32 rows.
 
-use second::hashes::string_hash;
+use std::sync::LazyLock;
+
+use second::hashes::{by_definition, string_hash};
 
 use crate::rng::Rng;
 use crate::text::{to_bytes, Text};
@@ -83,10 +85,45 @@ pub fn hash_in_bucket(rng: &mut Rng, bucket: usize, buckets: usize) -> u32 {
     hash ^ (mixed ^ bucket) as u32
 }
 
+/// The two characters that give a text the wished hash, whatever it begins with.
+///
+/// A step takes the hash xor the next byte, and four steps are one to one: from
+/// a hash h, the characters h xor y lead where y leads from 0.
+pub fn closing(beginning: &[u16], wished: u32) -> [u16; 2] {
+    let word = hash(beginning) ^ four_bytes_to(wished);
+    [word as u16, (word >> 16) as u16]
+}
+
+/// The four bytes that lead from 0 to a hash, found by going back four steps. A
+/// step's high byte is that of the table's entry alone, and all entries differ
+/// there.
+fn four_bytes_to(hash: u32) -> u32 {
+    static BY_HIGH_BYTE: LazyLock<[(u8, u32); 256]> = LazyLock::new(|| {
+        let mut entries: [(u8, u32); 256] =
+            std::array::from_fn(|byte| (byte as u8, by_definition::hash(0, &[byte as u8])));
+        entries.sort_by_key(|&(_, entry)| entry >> 24);
+        entries
+    });
+    (0..4).fold(hash, |hash, _| {
+        let (byte, entry) = BY_HIGH_BYTE[(hash >> 24) as usize];
+        (hash ^ entry) << 8 | byte as u32
+    })
+}
+
 #[cfg(test)]
 mod tests {
     use super::*;
     use crate::text::letters;
+
+    #[test]
+    fn closings_give_the_hash() {
+        let mut rng = Rng::new(3);
+        for wished in [0, 1, u32::MAX, 0x8000_0000, 77] {
+            let mut made = letters(&mut rng, 0, 9);
+            made.extend(closing(&made, wished));
+            assert_eq!(hash(&made), wished);
+        }
+    }
 
     #[test]
     fn twins_share_the_hash() {

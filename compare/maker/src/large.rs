@@ -4,7 +4,7 @@
 //! full segments of 65,535; other sizes in proportion.
 //!
 //! A builder that goes over the tree once adds each text where it is first
-//! used, so that texts stand in that order. Strewn files, whose texts stand
+//! used, so that texts stand in that order. Shuffled files, whose texts stand
 //! anywhere, show what is lost where one does not.
 
 use crate::attributes::text_attribute;
@@ -24,6 +24,7 @@ pub struct Large {
     pub attributes: usize,
 }
 
+/// Elements of a full segment.
 const FULL: usize = 65_535;
 const NAMES: usize = 2_000;
 /// Names a node of one level can have: so many, from this one on.
@@ -33,18 +34,48 @@ const LEVELS: [(usize, usize); 4] = [(1, 120), (200, 300), (600, 300), (1_000, 2
 #[derive(Clone, Copy, PartialEq, Eq)]
 pub enum Order {
     AsUsed,
-    Strewn,
+    Shuffled,
+}
+
+/// About how many elements go into a segment of each region.
+#[derive(Clone, Copy)]
+pub struct Lengths {
+    pub attributes: usize,
+    pub nodes: usize,
+    pub characters: usize,
+}
+
+pub const FULL_SEGMENTS: Lengths = Lengths { attributes: FULL, nodes: FULL, characters: FULL };
+
+/// A large file that is still a model.
+pub struct Built {
+    pub model: Model,
+    pub names: Vec<Text>,
+    pub values: Vec<Text>,
+    pub nodes: usize,
+    pub attributes: usize,
 }
 
 pub fn large(megabytes: usize, order: Order) -> Large {
+    let mut built = build(megabytes, order, FULL_SEGMENTS);
+    fill_up(&mut built.model.values.chars);
+    fill_up(&mut built.model.names.chars);
+    fill_up(&mut built.model.nodes);
+    fill_up(&mut built.model.attributes);
+    let Built { model, names, values, nodes, attributes } = built;
+    Large { bytes: model.bytes(), names, values, nodes, attributes }
+}
+
+/// The same before its segments are filled up, in segments of other lengths.
+pub fn build(megabytes: usize, order: Order, lengths: Lengths) -> Built {
     let mut rng = Rng::new(megabytes as u64);
     let parts = megabytes.max(1);
     let (node_goal, value_goal) = (490_000 * parts / 64, 350_000 * parts / 64);
     let mut names: Vec<Text> = (0..NAMES).map(|i| text(&name_words(&mut rng, i))).collect();
     names.extend([text("__root__"), text("__value__")]);
     let mut values: Vec<Text> = (0..value_goal).map(|i| text(&value_words(&mut rng, i))).collect();
-    let mut attributes = Packed::default();
-    let mut nodes = Packed::default();
+    let mut attributes = Packed::new(lengths.attributes);
+    let mut nodes = Packed::new(lengths.nodes);
     grow(&mut rng, node_goal, index_of(&names, "__root__"), &mut nodes, |rng| {
         let count = rng.between(2, 7);
         let first = rng.between(1, NAMES - 120);
@@ -60,18 +91,14 @@ pub fn large(megabytes: usize, order: Order) -> Large {
         by_first_use(&mut values, &mut attributes.region);
     }
     let in_order = order == Order::AsUsed;
-    let style = Style { segment: FULL, untidy: false, share: false, in_order };
-    let mut value_table = table(&mut rng, &values, 1024, style);
-    let mut name_table = table(&mut rng, &names, 512, style);
-    fill_up(&mut value_table.chars);
-    fill_up(&mut name_table.chars);
+    let style = Style { segment: lengths.characters, untidy: false, share: false, in_order };
+    let value_table = table(&mut rng, &values, 1024, style);
+    let name_table = table(&mut rng, &names, 512, style);
     for attribute in text_attributes(&mut attributes.region) {
         let value = attribute.word as usize;
         *attribute = text_attribute(attribute.name, &values[value], value_table.list[value]);
     }
     let (node_count, attribute_count) = (nodes.count, attributes.count);
-    fill_up(&mut nodes.region);
-    fill_up(&mut attributes.region);
     let model = Model {
         attributes: attributes.region,
         nodes: nodes.region,
@@ -79,7 +106,7 @@ pub fn large(megabytes: usize, order: Order) -> Large {
         names: name_table,
         ..smallest().model
     };
-    Large { bytes: model.bytes(), names, values, nodes: node_count, attributes: attribute_count }
+    Built { model, names, values, nodes: node_count, attributes: attribute_count }
 }
 
 fn name_words(rng: &mut Rng, number: usize) -> String {
@@ -138,21 +165,20 @@ fn by_first_use(values: &mut Vec<Text>, region: &mut Region<Attr>) {
     *values = order.into_iter().map(|value| std::mem::take(&mut values[value])).collect();
 }
 
-/// Elements packed into full segments, blocks never across two.
+/// Elements packed into segments of one length, blocks never across two.
 struct Packed<T> {
     region: Region<T>,
+    length: usize,
     count: usize,
 }
 
-impl<T> Default for Packed<T> {
-    fn default() -> Packed<T> {
-        Packed { region: Region::default(), count: 0 }
-    }
-}
-
 impl<T: Clone + Default> Packed<T> {
+    fn new(length: usize) -> Packed<T> {
+        Packed { region: Region::default(), length, count: 0 }
+    }
+
     fn block(&mut self, items: Vec<T>) -> Addr {
-        let room = |segment: &Segment<T>| segment.used.len() + items.len() <= FULL;
+        let room = |segment: &Segment<T>| segment.used.len() + items.len() <= self.length;
         if !self.region.segments.last().is_some_and(room) {
             self.region.segments.push(Segment::default());
         }
@@ -220,7 +246,7 @@ mod tests {
 
     #[test]
     fn large_files_are_accepted() {
-        for order in [Order::AsUsed, Order::Strewn] {
+        for order in [Order::AsUsed, Order::Shuffled] {
             let made = large(2, order);
             let mut workspace = vec![0; made.nodes];
             let plain: Loader<Right, Plain> = Loader::new(Right);

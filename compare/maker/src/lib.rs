@@ -12,6 +12,7 @@ pub mod samples;
 pub mod shapes;
 pub mod table;
 pub mod text;
+pub mod traps;
 pub mod tree;
 mod write;
 

@@ -1,5 +1,6 @@
-//! Writes made files: `maker samples DIRECTORY` or `maker large MEGABYTES FILE`,
-//! with the word `strewn` behind it for texts that stand anywhere.
+//! Writes made files: `maker samples DIRECTORY`, `maker large MEGABYTES FILE`,
+//! with the word `shuffled` behind it for texts that stand anywhere, or
+//! `maker trap NAME KILOBYTES FILE`.
 
 use std::path::Path;
 use std::process::ExitCode;
@@ -19,7 +20,7 @@ fn run(words: &[&str]) -> std::io::Result<bool> {
         ["large", megabytes, file, rest @ ..] => {
             let order = match rest {
                 [] => Order::AsUsed,
-                ["strewn"] => Order::Strewn,
+                ["shuffled"] => Order::Shuffled,
                 _ => return Ok(false),
             };
             let Ok(megabytes) = megabytes.parse() else {
@@ -28,6 +29,16 @@ fn run(words: &[&str]) -> std::io::Result<bool> {
             let made = large(megabytes, order);
             std::fs::write(file, &made.bytes)?;
             println!("{file}: {} bytes, {} nodes", made.bytes.len(), made.nodes);
+        }
+        ["trap", name, kilobytes, file] => {
+            let class = maker::traps::all().into_iter().find(|class| class.name == *name);
+            let (Some(class), Ok(kilobytes)) = (class, kilobytes.parse::<usize>()) else {
+                return Ok(false);
+            };
+            let trap = class.make(1_000 * kilobytes);
+            let bytes = trap.model.bytes();
+            std::fs::write(file, &bytes)?;
+            println!("{file}: {} bytes, refusal {}", bytes.len(), trap.refusal);
         }
         _ => return Ok(false),
     }
@@ -40,7 +51,8 @@ fn main() -> ExitCode {
     match run(&words) {
         Ok(true) => ExitCode::SUCCESS,
         Ok(false) => {
-            eprintln!("maker samples DIRECTORY | maker large MEGABYTES FILE [strewn]");
+            eprintln!("maker samples DIRECTORY | maker large MEGABYTES FILE [shuffled]");
+            eprintln!("maker trap NAME KILOBYTES FILE, with the names of `bench traps`");
             ExitCode::from(2)
         }
         Err(error) => {

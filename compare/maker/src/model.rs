@@ -96,6 +96,13 @@ impl Table {
         let buckets = self.buckets.iter().enumerate();
         buckets.flat_map(|(b, bucket)| (0..bucket.entries.len()).map(move |e| (b, e))).collect()
     }
+
+    /// The characters from a list position's address up to the next 0.
+    pub fn text(&self, address: Addr) -> Vec<u16> {
+        let segment = self.chars.segments.get(address.0 as usize);
+        let used = segment.and_then(|segment| segment.used.get(address.1 as usize..));
+        used.unwrap_or(&[]).iter().copied().take_while(|&character| character != 0).collect()
+    }
 }
 
 #[derive(Clone)]

@@ -15,7 +15,7 @@ pub struct Style {
     /// Texts that end another one are not written again.
     pub share: bool,
     /// Texts stand one after the other by their indices, as a builder that
-    /// writes each when it is added leaves them; otherwise they are strewn.
+    /// writes each when it is added leaves them; otherwise they are shuffled.
     pub in_order: bool,
 }
 

@@ -8,8 +8,8 @@ pub struct Refusal {
 }
 
 /// A refusal at a file offset, ready to be returned by a check.
-pub fn refuse<T>(number: u32, place: usize) -> Result<T, Refusal> {
-    Err(Refusal { number, place: place as u64 })
+pub fn refuse<T, E: From<Refusal>>(number: u32, place: usize) -> Result<T, E> {
+    Err(Refusal { number, place: place as u64 }.into())
 }
 
 /// The answer of every question but the header report, laid out as the C

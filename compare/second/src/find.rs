@@ -1,6 +1,7 @@
 //! Finding the entry of a text, in steps that many lookups can interleave.
 
 use crate::bytes::u32_at;
+use crate::crowd::FEW;
 use crate::definition::folded_hash;
 use crate::hash::{bucket, string_hash};
 use crate::prefetch::prefetch;
@@ -12,13 +13,14 @@ use crate::table::{Entry, Table, ENTRY};
 pub struct Sought {
     hash: u32,
     count: u32,
-    first: usize,
+    /// Offset of the bucket's first entry.
+    first: u32,
     guess: u32,
 }
 
 /// In buckets of so few entries the ones below are simply counted: that takes
 /// no turn a processor could guess wrong.
-const FEW: u32 = 8;
+const SMALL: u32 = 8;
 
 /// Picks the bucket and guesses the place. Hashes are spread evenly over a
 /// bucket, so the hash itself tells about where it stands.
@@ -31,7 +33,7 @@ pub fn seek<R: Reading, const BUCKETS: usize>(
 ) -> Sought {
     let (count, first) = table.bucket(file, bucket(reading, hash, BUCKETS));
     let guess = ((hash as u64 * count as u64) >> 32) as u32;
-    let sought = Sought { hash, count, first, guess };
+    let sought = Sought { hash, count, first: first as u32, guess };
     prefetch(file, sought.place(guess));
     sought
 }
@@ -39,7 +41,7 @@ pub fn seek<R: Reading, const BUCKETS: usize>(
 impl Sought {
     #[inline(always)]
     fn place(&self, number: u32) -> usize {
-        self.first + number as usize * ENTRY
+        self.first as usize + number as usize * ENTRY
     }
 
     #[inline(always)]
@@ -50,7 +52,7 @@ impl Sought {
     /// Corrects the guess by what stands there.
     #[inline]
     pub fn refine(&mut self, file: &[u8]) {
-        if self.count > FEW {
+        if self.count > SMALL {
             let there = self.hash_at(file, self.guess);
             let off = ((self.hash as i64 - there as i64) * self.count as i64) >> 32;
             self.guess = (self.guess as i64 + off).clamp(0, self.count as i64 - 1) as u32;
@@ -65,7 +67,7 @@ impl Sought {
     /// logarithm in any.
     #[inline]
     pub fn first_entry(&self, file: &[u8]) -> u32 {
-        if self.count <= FEW {
+        if self.count <= SMALL {
             let below = |number: u32| (self.hash_at(file, number) < self.hash) as u32;
             return (0..self.count).map(below).sum();
         }
@@ -114,20 +116,29 @@ impl Sought {
         &self,
         reading: R,
         file: &[u8],
-        mut number: u32,
-        same: impl Fn(Entry) -> bool,
+        number: u32,
+        mut same: impl FnMut(Entry) -> bool,
     ) -> Option<Entry> {
-        while number < self.count {
-            let entry = Entry::at(file, self.place(number));
-            if entry.hash != self.hash {
-                return None;
-            }
-            if same(entry) || reading.wrong(Mutant::FirstHashOnly) {
-                return Some(entry);
-            }
-            number += 1;
-        }
-        None
+        let first_only = reading.wrong(Mutant::FirstHashOnly);
+        self.entries(file, number).find(|&entry| same(entry) || first_only)
+    }
+
+    /// The entries with this hash, from the first of them on.
+    #[inline]
+    pub fn entries<'a>(&'a self, file: &'a [u8], first: u32) -> impl Iterator<Item = Entry> + 'a {
+        let all = (first..self.count).map(|number| Entry::at(file, self.place(number)));
+        all.take_while(|entry| entry.hash == self.hash)
+    }
+
+    /// Whether many entries have this hash, of which the first is told.
+    #[inline]
+    pub fn is_crowded(&self, file: &[u8], first: u32) -> bool {
+        let behind = first as u64 + FEW as u64;
+        behind < self.count as u64 && self.hash_at(file, behind as u32) == self.hash
+    }
+
+    pub fn hash(&self) -> u32 {
+        self.hash
     }
 
     /// Asks for the text of an entry that will be compared soon.

@@ -150,11 +150,23 @@ pub fn value_hash<R: Reading>(reading: R, text: &[u8]) -> u16 {
     if otherwise(reading) {
         return definition::value_hash(reading, text);
     }
+    kept(folded_hash(text))
+}
+
+/// What the value hash keeps of the hash of the folded characters.
+#[inline(always)]
+pub fn kept(folded: u32) -> u16 {
+    folded as u16 & 0x3fff
+}
+
+/// The string hash of the folded characters, all of its bits.
+#[inline]
+pub fn folded_hash(text: &[u8]) -> u32 {
     let (blocks, rest) = text.as_chunks::<BLOCK>();
     let (fours, rest) = rest.as_chunks();
     let hash = blocks.iter().fold(0, |hash, block| eights(hash, fold_block(block).as_chunks().0));
     let hash = fours.iter().fold(hash, |hash, &x| four(hash, fold_four(u64::from_le_bytes(x))));
-    few(hash, fold_four(pack(rest)), rest.len() / 2) as u16 & 0x3fff
+    few(hash, fold_four(pack(rest)), rest.len() / 2)
 }
 
 /// The bucket of a hash among `buckets`.

@@ -2,118 +2,216 @@
 //!
 //! `Plain` allocates nothing and looks each text up in its bucket. `Marked`
 //! keeps a mark for every character of the values region, made while the
-//! entries are checked, and then needs a single read for each attribute.
+//! entries are checked, and then needs a single read for each attribute. It is
+//! never careful: the careful ways are compared with it.
 //!
 //! An answer is had in steps, so that many can be under way at once: `expect`
 //! asks for the memory, `begin` reads the text, `refine` comes closer to its
 //! entry, `finish` answers.
 
+use crate::answer::{refuse, Refusal};
 use crate::bytes::Address;
+use crate::careful::CarefulIndex;
+use crate::effort::{Effort, ORDINARY};
 use crate::find::{seek, Sought};
 use crate::hash::value_hash;
 use crate::prefetch::{prefetch, prefetch_text};
 use crate::reading::{Mutant, Reading};
+use crate::region::Near;
 use crate::scan::scan;
-use crate::table::{used_chars, Entry, Table, VALUE_BUCKETS};
+use crate::table::{Entry, Table, ENTRY, VALUE_BUCKETS};
 
 pub type Values = Table<VALUE_BUCKETS>;
 
+/// The file and its values, for whoever reads texts there.
+#[derive(Clone, Copy)]
+pub struct Texts<'a, R> {
+    pub reading: R,
+    pub file: &'a [u8],
+    pub values: &'a Values,
+}
+
+/// A text attribute: where it stands, and what it says.
+#[derive(Clone, Copy)]
+pub struct TextAttribute {
+    pub at: u32,
+    pub address: Address,
+    pub extended: u16,
+}
+
+impl TextAttribute {
+    /// 19: the address is a values entry's, and the extended code its value hash,
+    /// which is told if the address is.
+    #[inline]
+    pub fn check<R: Reading>(&self, reading: R, found: Option<u16>) -> Result<(), Refusal> {
+        match found {
+            Some(hash) if hash == self.extended => Ok(()),
+            Some(_) if reading.wrong(Mutant::ValueHashAs18) => refuse(18, self.at as usize),
+            _ => refuse(19, self.at as usize),
+        }
+    }
+}
+
 pub trait Index: Sized {
+    /// Bytes that may be looked at for each byte of the file, before the rest is
+    /// done carefully.
+    const ALLOWANCE: usize;
+
+    /// What goes on where the effort has become too much.
+    type Careful: Index;
+
+    /// Where a text stands.
+    type Spot: Copy + Default;
+
     /// What is known between `begin` and `finish`.
     type Work: Copy + Default;
 
-    fn new(values: &Values) -> Self;
+    fn new(file: &[u8], values: &Values) -> Self;
+
+    fn careful(self) -> Self::Careful;
+
+    /// A values entry of this address will be taken soon, if it passes its checks.
+    fn expect_entry(&self, _: Address) {}
 
     /// Takes a values entry that has passed its checks.
-    fn add<R: Reading>(
-        &mut self,
-        reading: R,
-        file: &[u8],
-        values: &Values,
-        entry: Entry,
-        text: &[u8],
-    );
+    fn add<R: Reading>(&mut self, texts: &Texts<R>, entry: Entry, text: &[u8]);
 
-    fn expect(&self, file: &[u8], values: &Values, address: Address);
+    fn expect<R: Reading>(&self, texts: &Texts<R>, address: Address, near: &mut Near)
+        -> Self::Spot;
 
     fn begin<R: Reading>(
-        &self,
-        reading: R,
-        file: &[u8],
-        values: &Values,
-        address: Address,
+        &mut self,
+        texts: &Texts<R>,
+        attribute: TextAttribute,
+        spot: Self::Spot,
+        effort: &mut Effort,
     ) -> Self::Work;
 
     fn refine(&self, file: &[u8], work: &mut Self::Work);
 
-    /// The value hash of the text at an address, if that is the address of
-    /// some values entry.
+    /// The attribute's check. It may be put off; a refusal is then told by a later
+    /// call.
     fn finish<R: Reading>(
-        &self,
-        reading: R,
-        file: &[u8],
-        address: Address,
+        &mut self,
+        texts: &Texts<R>,
+        attribute: TextAttribute,
         work: Self::Work,
-    ) -> Option<u16>;
+        effort: &mut Effort,
+    ) -> Result<(), Refusal>;
+
+    /// The checks that were put off.
+    fn settle<R: Reading>(&mut self, _: &Texts<R>) -> Result<(), Refusal> {
+        Ok(())
+    }
 }
 
-pub struct Plain;
+/// The used characters from an address on: their offset, and where they end. There
+/// are none where the address does not resolve, so no text either.
+#[derive(Clone, Copy, Default)]
+pub struct Spot {
+    pub start: u32,
+    pub limit: u32,
+}
 
-impl Index for Plain {
-    /// The text's bucket and value hash; none where no text is there.
-    type Work = Option<(Sought, u16)>;
-
-    fn new(_: &Values) -> Plain {
-        Plain
+impl Spot {
+    /// Where an address stands; asks for the text there.
+    #[inline]
+    pub fn of(file: &[u8], values: &Values, address: Address, near: &mut Near) -> Spot {
+        match values.chars.segment_near(file, address.segment, near) {
+            Some(segment) if segment.holds(address.element, 1) => {
+                let start = values.chars.element_at(segment, address.element);
+                let limit = segment.first + 2 * segment.used as usize;
+                prefetch_text(file, start);
+                Spot { start: start as u32, limit: limit as u32 }
+            }
+            _ => Spot::default(),
+        }
     }
 
     #[inline]
-    fn add<R: Reading>(&mut self, _: R, _: &[u8], _: &Values, _: Entry, _: &[u8]) {}
+    pub fn chars(self, file: &[u8]) -> &[u8] {
+        &file[self.start as usize..self.limit as usize]
+    }
+}
+
+/// `TIMES` is the allowance: 0 is careful from the start.
+pub struct Plain<const TIMES: usize = ORDINARY>;
+
+impl<const TIMES: usize> Index for Plain<TIMES> {
+    const ALLOWANCE: usize = TIMES;
+
+    type Careful = CarefulIndex;
+    type Spot = Spot;
+
+    /// The text's bucket and value hash. Where there is no text, the bucket is an
+    /// empty one.
+    type Work = (Sought, u16);
+
+    fn new(_: &[u8], _: &Values) -> Self {
+        Plain
+    }
+
+    fn careful(self) -> CarefulIndex {
+        CarefulIndex::default()
+    }
 
     #[inline]
-    fn expect(&self, file: &[u8], values: &Values, address: Address) {
-        if let Some(segment) = values.chars.resolve(file, address) {
-            prefetch_text(file, values.chars.element_at(segment, address.element));
-        }
+    fn add<R: Reading>(&mut self, _: &Texts<R>, _: Entry, _: &[u8]) {}
+
+    #[inline]
+    fn expect<R: Reading>(
+        &self,
+        texts: &Texts<R>,
+        address: Address,
+        near: &mut Near,
+    ) -> Self::Spot {
+        Spot::of(texts.file, texts.values, address, near)
     }
 
     #[inline]
     fn begin<R: Reading>(
-        &self,
-        reading: R,
-        file: &[u8],
-        values: &Values,
-        address: Address,
+        &mut self,
+        texts: &Texts<R>,
+        _: TextAttribute,
+        spot: Self::Spot,
+        effort: &mut Effort,
     ) -> Self::Work {
-        let segment = values.chars.resolve(file, address)?;
-        let text = scan(reading, used_chars(file, segment, address.element), true)?;
-        Some((seek(reading, file, values, text.hash), text.value_hash))
+        let Texts { reading, file, values } = *texts;
+        match scan(reading, spot.chars(file), true) {
+            Some(text) => {
+                effort.spend(text.bytes);
+                (seek(reading, file, values, text.hash), text.value_hash)
+            }
+            None => Self::Work::default(),
+        }
     }
 
     #[inline]
     fn refine(&self, file: &[u8], work: &mut Self::Work) {
-        if let Some((sought, _)) = work {
-            sought.refine(file);
-        }
+        work.0.refine(file);
     }
 
     /// Texts are told apart by 12, so only an entry of this text can have this
     /// address.
     #[inline]
     fn finish<R: Reading>(
-        &self,
-        reading: R,
-        file: &[u8],
-        address: Address,
-        work: Self::Work,
-    ) -> Option<u16> {
-        let (sought, hash) = work?;
+        &mut self,
+        texts: &Texts<R>,
+        attribute: TextAttribute,
+        (sought, hash): Self::Work,
+        effort: &mut Effort,
+    ) -> Result<(), Refusal> {
+        let Texts { reading, file, .. } = *texts;
         if reading.wrong(Mutant::AnyTextAddress) {
-            return Some(hash);
+            return attribute.check(reading, Some(hash));
         }
         let number = sought.first_entry(file);
-        let entry = sought.entry(reading, file, number, |entry| entry.address == address)?;
-        (entry.address == address).then_some(hash)
+        let same = |entry: Entry| entry.address == attribute.address;
+        let found = sought.entry(reading, file, number, |entry| {
+            effort.spend(if same(entry) { 0 } else { ENTRY });
+            same(entry)
+        });
+        attribute.check(reading, found.filter(|&entry| same(entry)).map(|_| hash))
     }
 }
 
@@ -122,61 +220,99 @@ const ENTRY_STARTS: u16 = 0x8000;
 
 pub struct Marked {
     marks: Vec<u16>,
+    /// Characters before each segment.
+    before: Vec<u32>,
 }
 
 impl Marked {
     #[inline]
-    fn place(file: &[u8], values: &Values, address: Address) -> Option<usize> {
-        let segment = values.chars.resolve(file, address)?;
-        Some(segment.before as usize + address.element as usize)
+    fn place(
+        &self,
+        file: &[u8],
+        values: &Values,
+        address: Address,
+        near: &mut Near,
+    ) -> Option<usize> {
+        let segment = values.chars.segment_near(file, address.segment, near)?;
+        let before = self.before[address.segment as usize];
+        segment.holds(address.element, 1).then_some(before as usize + address.element as usize)
     }
 }
 
 impl Index for Marked {
-    /// The mark at the address, 0 where there is none.
+    const ALLOWANCE: usize = usize::MAX;
+
+    type Careful = Marked;
+
+    /// The place of the mark.
+    type Spot = Option<usize>;
+
+    /// The mark, 0 where there is none.
     type Work = u16;
 
-    fn new(values: &Values) -> Marked {
-        Marked { marks: vec![0; values.chars.used as usize] }
+    fn new(file: &[u8], values: &Values) -> Marked {
+        let mut sum = 0;
+        let before = values.chars.in_order(file).map(|segment| {
+            sum += segment.used;
+            sum - segment.used
+        });
+        Marked { before: before.collect(), marks: vec![0; values.chars.used as usize] }
+    }
+
+    fn careful(self) -> Marked {
+        self
     }
 
     #[inline]
-    fn add<R: Reading>(
-        &mut self,
-        reading: R,
-        file: &[u8],
-        values: &Values,
-        entry: Entry,
-        text: &[u8],
-    ) {
-        if let Some(place) = Marked::place(file, values, entry.address) {
+    fn expect_entry(&self, address: Address) {
+        if let Some(&before) = self.before.get(address.segment as usize) {
+            prefetch(&self.marks, before as usize + address.element as usize);
+        }
+    }
+
+    #[inline]
+    fn add<R: Reading>(&mut self, texts: &Texts<R>, entry: Entry, text: &[u8]) {
+        let Texts { reading, file, values } = *texts;
+        if let Some(place) = self.place(file, values, entry.address, &mut Near::default()) {
             self.marks[place] = value_hash(reading, text) | ENTRY_STARTS;
         }
     }
 
     #[inline]
-    fn expect(&self, file: &[u8], values: &Values, address: Address) {
-        if let Some(place) = Marked::place(file, values, address) {
-            prefetch(&self.marks, place);
-        }
+    fn expect<R: Reading>(
+        &self,
+        texts: &Texts<R>,
+        address: Address,
+        near: &mut Near,
+    ) -> Self::Spot {
+        let place = self.place(texts.file, texts.values, address, near)?;
+        prefetch(&self.marks, place);
+        Some(place)
     }
 
     #[inline]
     fn begin<R: Reading>(
-        &self,
-        _: R,
-        file: &[u8],
-        values: &Values,
-        address: Address,
+        &mut self,
+        _: &Texts<R>,
+        _: TextAttribute,
+        spot: Self::Spot,
+        _: &mut Effort,
     ) -> Self::Work {
-        Marked::place(file, values, address).map_or(0, |place| self.marks[place])
+        spot.map_or(0, |place| self.marks[place])
     }
 
     #[inline]
     fn refine(&self, _: &[u8], _: &mut Self::Work) {}
 
     #[inline]
-    fn finish<R: Reading>(&self, _: R, _: &[u8], _: Address, mark: Self::Work) -> Option<u16> {
-        (mark & ENTRY_STARTS != 0).then_some(mark & !ENTRY_STARTS)
+    fn finish<R: Reading>(
+        &mut self,
+        texts: &Texts<R>,
+        attribute: TextAttribute,
+        mark: Self::Work,
+        _: &mut Effort,
+    ) -> Result<(), Refusal> {
+        let found = (mark & ENTRY_STARTS != 0).then_some(mark & !ENTRY_STARTS);
+        attribute.check(texts.reading, found)
     }
 }

@@ -2,11 +2,16 @@
 
 use crate::answer::{refuse, Refusal};
 use crate::cursor::Cursor;
+use crate::node::{ATTRIBUTE, NODE};
 use crate::reading::{Mutant, Reading};
 use crate::region::Region;
 use crate::table::{Table, NAME_BUCKETS, VALUE_BUCKETS};
 
 pub const FILE_LIMIT: usize = 1_073_741_824;
+
+/// Segments of attributes and of nodes that are marked: most stand in the order in
+/// which they are read.
+const MARKS: usize = 1024;
 
 #[derive(Clone, Copy, Debug, PartialEq, Eq)]
 pub struct Header {
@@ -21,25 +26,23 @@ pub struct Layout {
     /// Offset of the first key.
     pub keys_at: usize,
     pub keys: u32,
-    pub attributes: Region,
-    pub nodes: Region,
+    pub attributes: Region<ATTRIBUTE, MARKS>,
+    pub nodes: Region<NODE, MARKS, MARKS>,
     pub values: Table<VALUE_BUCKETS>,
     pub names: Table<NAME_BUCKETS>,
 }
 
 impl Layout {
     /// A layout still to be read.
-    pub fn unread() -> Layout {
-        Layout {
-            header: Header { version: 0, timestamp_bits: 0, revision: 0 },
-            keys_at: 0,
-            keys: 0,
-            attributes: Region::unread(12),
-            nodes: Region::unread(24),
-            values: Table::unread(),
-            names: Table::unread(),
-        }
-    }
+    pub const UNREAD: Layout = Layout {
+        header: Header { version: 0, timestamp_bits: 0, revision: 0 },
+        keys_at: 0,
+        keys: 0,
+        attributes: Region::UNREAD,
+        nodes: Region::UNREAD,
+        values: Table::UNREAD,
+        names: Table::UNREAD,
+    };
 
     /// Reads in place: a layout is too large to be handed about.
     pub fn read<R: Reading>(&mut self, reading: R, file: &[u8]) -> Result<(), Refusal> {

@@ -9,17 +9,23 @@
 
 mod answer;
 mod bytes;
+mod careful;
+mod carry;
 mod crc_table;
+mod crowd;
 mod cursor;
 mod definition;
+mod effort;
 mod escape;
 mod find;
 mod fold;
 mod hash;
 mod index;
 mod keys;
+mod known;
 mod layout;
 mod lookup;
+mod mix;
 mod node;
 mod nodes;
 mod outline;
@@ -31,10 +37,14 @@ mod questions;
 mod reading;
 mod region;
 mod scan;
+mod spans;
 mod strings;
 mod table;
+mod tails;
+mod tally;
 mod tree;
 mod view;
+mod waiting;
 mod wrong_tree;
 
 pub use answer::{Answer, HeaderReport, Refusal};
@@ -44,6 +54,9 @@ pub use lookup::Which;
 pub use questions::Loader;
 pub use reading::{Mutant, Reading, Right, Wrong};
 pub use view::View;
+
+/// The plain form, careful with every file.
+pub type Careful = Plain<0>;
 
 /// The hashes, for whoever makes files or checks hashes.
 pub mod hashes {

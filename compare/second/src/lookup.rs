@@ -1,12 +1,15 @@
 //! Lookups by text on a held view, one at a time and in batches.
 
 use crate::answer::{Answer, Refusal, ABSENT};
+use crate::effort::Effort;
 use crate::find::{bears, find, lookup_hash, seek, Sought};
 use crate::index::Index;
+use crate::mix::Mixer;
 use crate::reading::{Mutant, Reading};
 use crate::scan::scan;
-use crate::table::{Entry, Table};
+use crate::table::{Entry, Table, ENTRY};
 use crate::view::View;
+use crate::waiting::{Filter, Waiting};
 
 /// Which string table a lookup asks.
 #[derive(Clone, Copy, Debug, PartialEq, Eq)]
@@ -44,6 +47,13 @@ pub fn texts(list: &[u8]) -> impl Iterator<Item = &[u8]> {
 
 /// How many lookups of a batch are under way at once.
 const GROUP: usize = 16;
+
+/// What lookups that are put off are told from others by.
+struct Crowded {
+    mixer: Mixer,
+    /// The lengths that they ask for.
+    lengths: Filter,
+}
 
 impl<R: Reading, I: Index> View<'_, R, I> {
     /// A name's index, if the text is a name.
@@ -115,11 +125,15 @@ impl<R: Reading, I: Index> View<'_, R, I> {
         &self,
         table: &Table<BUCKETS>,
         list: &[u8],
-        answers: &mut [u8],
+        mut answers: &mut [u8],
     ) {
+        let mut effort = Effort::new(I::ALLOWANCE, self.file.len() + list.len());
         let mut left = list;
         let mut group: [(&[u8], Sought, u32); GROUP] = [(&[], Sought::default(), 0); GROUP];
-        for places in answers.chunks_mut(8 * GROUP) {
+        while !left.is_empty() {
+            if effort.check().is_err() {
+                return self.batch_carefully(table, left, answers);
+            }
             let mut filled = 0;
             while filled < GROUP && !left.is_empty() {
                 let (text, hash) = self.next_text::<BUCKETS>(&mut left);
@@ -133,17 +147,75 @@ impl<R: Reading, I: Index> View<'_, R, I> {
                 *number = sought.first_entry(self.file);
                 sought.expect(self.file, table, *number);
             }
+            let (places, later) = answers.split_at_mut(answers.len().min(8 * filled));
             for (&(text, sought, number), place) in group[..filled].iter().zip(places.chunks_mut(8))
             {
                 let found = sought.entry(self.reading, self.file, number, |entry| {
-                    bears(self.file, table, entry, text)
+                    let same = bears(self.file, table, entry, text);
+                    effort.spend(if same { 0 } else { ENTRY });
+                    same
                 });
                 self.put(found.map(|entry| self.number::<BUCKETS>(entry)), place);
             }
+            answers = later;
+        }
+    }
+
+    /// The same for files with crowds: lookups there are put off, and many of them
+    /// are settled by going over a crowd once.
+    #[inline(never)]
+    fn batch_carefully<const BUCKETS: usize>(
+        &self,
+        table: &Table<BUCKETS>,
+        mut left: &[u8],
+        answers: &mut [u8],
+    ) {
+        let mut crowded = Crowded { mixer: Mixer::new(), lengths: Filter::new() };
+        let mut waiting: Waiting<(&[u8], usize)> = Waiting::new((&[], 0));
+        for number in 0.. {
             if left.is_empty() {
                 break;
             }
+            let (text, hash) = self.next_text::<BUCKETS>(&mut left);
+            let mut sought = seek(self.reading, self.file, table, hash);
+            sought.refine(self.file);
+            let first = sought.first_entry(self.file);
+            if sought.is_crowded(self.file, first) {
+                if waiting.is_full() {
+                    self.answer_crowded(table, &mut waiting, &mut crowded, answers);
+                }
+                crowded.lengths.add(text.len() as u32 / 2 + 1);
+                waiting.add(hash, crowded.mixer.text(text), (text, number));
+            } else {
+                let same = |entry| bears(self.file, table, entry, text);
+                let found = sought.entry(self.reading, self.file, first, same);
+                self.put_at(number, found.map(|entry| self.number::<BUCKETS>(entry)), answers);
+            }
         }
+        self.answer_crowded(table, &mut waiting, &mut crowded, answers);
+    }
+
+    fn answer_crowded<const BUCKETS: usize>(
+        &self,
+        table: &Table<BUCKETS>,
+        waiting: &mut Waiting<(&[u8], usize)>,
+        crowded: &mut Crowded,
+        answers: &mut [u8],
+    ) {
+        let Crowded { mixer, lengths } = crowded;
+        // Most entries have a length that nobody asks for: their texts are not read.
+        let key = |entry: Entry| {
+            let text = || mixer.text(table.entry_text(self.file, entry));
+            lengths.may_hold(entry.length).then(text)
+        };
+        waiting.settle(self.reading, self.file, table, key, |(text, number), entry| {
+            let takes = entry.is_none_or(|entry| bears(self.file, table, entry, text));
+            if takes {
+                self.put_at(number, entry.map(|entry| self.number::<BUCKETS>(entry)), answers);
+            }
+            takes
+        });
+        *lengths = Filter::new();
     }
 
     /// Takes the first text of a list, with the hash it is looked up by.
@@ -164,6 +236,10 @@ impl<R: Reading, I: Index> View<'_, R, I> {
                 (list, lookup_hash::<R, BUCKETS>(self.reading, list))
             }
         }
+    }
+
+    fn put_at(&self, number: usize, found: Option<u32>, answers: &mut [u8]) {
+        self.put(found, &mut answers[8 * number..8 * number + 8]);
     }
 
     #[inline]

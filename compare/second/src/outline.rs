@@ -1,15 +1,20 @@
 //! The outline on a held view.
 
+use std::ops::Range;
+
 use crate::answer::{Answer, Refusal};
 use crate::bytes::Address;
+use crate::effort::Effort;
 use crate::escape::{put_hex, put_text, Sink};
 use crate::index::Index;
 use crate::node::{Attribute, Node, ATTRIBUTE, NODE};
 use crate::reading::{Mutant, Reading};
+use crate::tally::Tally;
 use crate::view::View;
 
 /// What an attribute holds.
-enum Value {
+#[derive(Clone, Copy)]
+pub enum Value {
     Whole(i32),
     Truth(bool),
     /// The float's bits: a NaN keeps its own only so.
@@ -18,22 +23,13 @@ enum Value {
 }
 
 impl Value {
-    fn of(attribute: Attribute) -> Value {
+    pub fn of(attribute: Attribute) -> Value {
         match (attribute.kind(), attribute.extended()) {
             (1, 1) => Value::Truth(attribute.word != 0),
             (2, _) => Value::Float(attribute.word),
             (3, _) => Value::Text(Address::from_word(attribute.word)),
             _ => Value::Whole(attribute.word as i32),
         }
-    }
-}
-
-/// Counts the bytes of an outline.
-struct Count(u64);
-
-impl Sink for Count {
-    fn put(&mut self, bytes: &[u8]) {
-        self.0 += bytes.len() as u64;
     }
 }
 
@@ -52,13 +48,60 @@ impl Sink for Fill<'_> {
     }
 }
 
+impl Lines for Fill<'_> {
+    fn name<R: Reading, I: Index>(&mut self, view: &View<R, I>, name: u16) {
+        view.put_name(name, self);
+    }
+
+    fn attributes<R: Reading, I: Index>(&mut self, view: &View<R, I>, range: Range<usize>) {
+        range.step_by(ATTRIBUTE).for_each(|at| view.put_attribute(at, self));
+    }
+}
+
+/// Counts the bytes of an outline, and no longer where that takes too much effort.
+struct Count {
+    length: u64,
+    effort: Effort,
+}
+
+impl Sink for Count {
+    fn put(&mut self, bytes: &[u8]) {
+        self.length += bytes.len() as u64;
+        self.effort.spend(bytes.len());
+    }
+}
+
+impl Lines for Count {
+    fn name<R: Reading, I: Index>(&mut self, view: &View<R, I>, name: u16) {
+        if self.effort.check().is_ok() {
+            view.put_name(name, self);
+        }
+    }
+
+    fn attributes<R: Reading, I: Index>(&mut self, view: &View<R, I>, range: Range<usize>) {
+        for at in range.step_by(ATTRIBUTE) {
+            if self.effort.check().is_err() {
+                break;
+            }
+            view.put_attribute(at, self);
+        }
+    }
+}
+
+/// Takes an outline line by line. Whoever only counts need not see every byte.
+pub trait Lines: Sink {
+    /// A node's name.
+    fn name<R: Reading, I: Index>(&mut self, view: &View<R, I>, name: u16);
+
+    /// A node's attributes, which stand at these offsets.
+    fn attributes<R: Reading, I: Index>(&mut self, view: &View<R, I>, range: Range<usize>);
+}
+
 impl<R: Reading, I: Index> View<'_, R, I> {
     /// The length is counted first: a refusal may not touch the buffer.
     pub fn outline(&self, out: &mut [u8]) -> Answer {
         let root = Node::at(self.file, self.layout.nodes.count_at + 12);
-        let mut count = Count(0);
-        self.block(root, 0, &mut count);
-        let mut needed = count.0;
+        let mut needed = self.outline_length(root);
         if self.reading.wrong(Mutant::NoLastNewline) {
             needed -= 1;
         }
@@ -76,9 +119,27 @@ impl<R: Reading, I: Index> View<'_, R, I> {
         Answer::of(needed)
     }
 
+    fn outline_length(&self, root: Node) -> u64 {
+        let effort = Effort::new(I::ALLOWANCE, self.file.len());
+        let mut count = Count { length: 0, effort };
+        self.block(root, 0, &mut count);
+        match count.effort.check() {
+            Ok(()) => count.length,
+            Err(_) => self.outline_length_carefully(root),
+        }
+    }
+
+    /// The tables for that are on the stack, and only here.
+    #[inline(never)]
+    fn outline_length_carefully(&self, root: Node) -> u64 {
+        let mut tally = Tally::new(self);
+        self.block(root, 0, &mut tally);
+        tally.length
+    }
+
     /// A node's line and then its children's blocks. Goes down by level.
-    fn block(&self, node: Node, level: usize, sink: &mut impl Sink) {
-        self.line(node, level, sink);
+    fn block(&self, node: Node, level: usize, lines: &mut impl Lines) {
+        self.line(node, level, lines);
         let nodes = &self.layout.nodes;
         let address = node.child_address;
         let Some(segment) = nodes.segment(self.file, address.segment) else {
@@ -88,34 +149,39 @@ impl<R: Reading, I: Index> View<'_, R, I> {
         for at in (0..node.children as usize).map(|i| first + i * NODE) {
             let child = Node::at(self.file, at);
             if child.name != 0 {
-                self.block(child, level + 1, sink);
+                self.block(child, level + 1, lines);
             } else if self.reading.wrong(Mutant::StopAtNameless) {
                 break;
             }
         }
     }
 
-    fn line(&self, node: Node, level: usize, sink: &mut impl Sink) {
+    fn line(&self, node: Node, level: usize, lines: &mut impl Lines) {
         for _ in 0..level {
-            sink.put(b"  ");
+            lines.put(b"  ");
         }
-        self.put_name(node.name, sink);
+        lines.name(self, node.name);
         let region = &self.layout.attributes;
         let address = node.attribute_address;
-        if let Some(segment) = region.segment(self.file, address.segment) {
-            let first = region.element_at(segment, address.element);
-            for at in (0..node.attributes as usize).map(|i| first + i * ATTRIBUTE) {
-                let attribute = Attribute::at(self.file, at);
-                sink.put(b" ");
-                self.put_name(attribute.name, sink);
-                sink.put(b"=");
-                self.put_value(Value::of(attribute), sink);
+        if node.attributes > 0 {
+            if let Some(segment) = region.segment(self.file, address.segment) {
+                let first = region.element_at(segment, address.element);
+                lines.attributes(self, first..first + ATTRIBUTE * node.attributes as usize);
             }
         }
-        sink.put(b"\n");
+        lines.put(b"\n");
     }
 
-    fn put_name(&self, name: u16, sink: &mut impl Sink) {
+    /// A space and then the attribute at an offset.
+    fn put_attribute(&self, at: usize, sink: &mut impl Sink) {
+        let attribute = Attribute::at(self.file, at);
+        sink.put(b" ");
+        self.put_name(attribute.name, sink);
+        sink.put(b"=");
+        self.put_value(Value::of(attribute), sink);
+    }
+
+    pub(crate) fn put_name(&self, name: u16, sink: &mut impl Sink) {
         let text = self.layout.names.listed_text(self.file, name as u32);
         if self.reading.wrong(Mutant::NamesNotEscaped) {
             text.chunks_exact(2).for_each(|pair| sink.put(&pair[..1]));
@@ -124,7 +190,7 @@ impl<R: Reading, I: Index> View<'_, R, I> {
         }
     }
 
-    fn put_value(&self, value: Value, sink: &mut impl Sink) {
+    pub(crate) fn put_value(&self, value: Value, sink: &mut impl Sink) {
         match value {
             Value::Whole(number) => {
                 sink.put(b"i:");

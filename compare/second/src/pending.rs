@@ -4,11 +4,13 @@
 //! They are finished in the order they came. Whoever meets another fault
 //! finishes these first: they stand before it.
 
-use crate::answer::{refuse, Refusal};
+use crate::answer::Refusal;
 use crate::bytes::Address;
-use crate::index::{Index, Values};
+use crate::effort::{Effort, Stop};
+use crate::index::{Index, TextAttribute, Texts};
 use crate::node::Attribute;
-use crate::reading::{Mutant, Reading};
+use crate::reading::Reading;
+use crate::region::Near;
 
 const SLOTS: usize = 32;
 /// How many are only expected before the oldest of them is begun.
@@ -17,21 +19,20 @@ const EXPECTED: usize = 12;
 const BEGUN: usize = 8;
 
 #[derive(Clone, Copy)]
-struct Slot<W> {
-    at: usize,
-    address: Address,
-    extended: u16,
+struct Slot<S, W> {
+    attribute: TextAttribute,
+    spot: S,
     work: W,
 }
 
 /// Numbers count the attributes from the first: finished, then refined, begun
 /// and expected ones.
 pub struct Pending<'a, R, I: Index> {
-    reading: R,
-    file: &'a [u8],
-    values: &'a Values,
-    index: &'a I,
-    slots: [Slot<I::Work>; SLOTS],
+    texts: Texts<'a, R>,
+    index: &'a mut I,
+    pub effort: Effort,
+    near: Near,
+    slots: [Slot<I::Spot, I::Work>; SLOTS],
     finished: usize,
     refined: usize,
     begun: usize,
@@ -39,14 +40,14 @@ pub struct Pending<'a, R, I: Index> {
 }
 
 impl<'a, R: Reading, I: Index> Pending<'a, R, I> {
-    pub fn new(reading: R, file: &'a [u8], values: &'a Values, index: &'a I) -> Self {
-        let empty =
-            Slot { at: 0, address: Address::from_word(0), extended: 0, work: I::Work::default() };
+    pub fn new(texts: Texts<'a, R>, index: &'a mut I, effort: Effort) -> Self {
+        let attribute = TextAttribute { at: 0, address: Address::from_word(0), extended: 0 };
+        let empty = Slot { attribute, spot: I::Spot::default(), work: I::Work::default() };
         Pending {
-            reading,
-            file,
-            values,
+            texts,
             index,
+            effort,
+            near: Near::default(),
             slots: [empty; SLOTS],
             finished: 0,
             refined: 0,
@@ -57,7 +58,7 @@ impl<'a, R: Reading, I: Index> Pending<'a, R, I> {
 
     /// Takes the next text attribute; a refusal is an earlier one's.
     #[inline]
-    pub fn take(&mut self, attribute: Attribute, at: usize) -> Result<(), Refusal> {
+    pub fn take(&mut self, attribute: Attribute, at: usize) -> Result<(), Stop> {
         if self.taken - self.finished == SLOTS {
             self.finish_one()?;
         }
@@ -66,13 +67,12 @@ impl<'a, R: Reading, I: Index> Pending<'a, R, I> {
         }
         if self.taken - self.begun == EXPECTED {
             self.begin_one();
+            self.effort.check()?;
         }
         let address = Address::from_word(attribute.word);
-        self.index.expect(self.file, self.values, address);
         let slot = &mut self.slots[self.taken % SLOTS];
-        slot.at = at;
-        slot.address = address;
-        slot.extended = attribute.extended();
+        slot.attribute = TextAttribute { at: at as u32, address, extended: attribute.extended() };
+        slot.spot = self.index.expect(&self.texts, address, &mut self.near);
         self.taken += 1;
         Ok(())
     }
@@ -88,36 +88,34 @@ impl<'a, R: Reading, I: Index> Pending<'a, R, I> {
             }
             self.finish_one()?;
         }
-        Ok(())
+        self.index.settle(&self.texts)
     }
 
     #[inline]
     fn begin_one(&mut self) {
         let slot = &mut self.slots[self.begun % SLOTS];
-        slot.work = self.index.begin(self.reading, self.file, self.values, slot.address);
+        slot.work = self.index.begin(&self.texts, slot.attribute, slot.spot, &mut self.effort);
         self.begun += 1;
     }
 
     #[inline]
     fn refine_one(&mut self) {
         let slot = &mut self.slots[self.refined % SLOTS];
-        self.index.refine(self.file, &mut slot.work);
+        self.index.refine(self.texts.file, &mut slot.work);
         self.refined += 1;
     }
 
-    /// 19: the address is a values entry's, and the extended code its value
-    /// hash.
-    #[inline]
+    #[inline(always)]
     fn finish_one(&mut self) -> Result<(), Refusal> {
-        let slot = self.slots[self.finished % SLOTS];
+        let slot = &self.slots[self.finished % SLOTS];
         self.finished += 1;
-        let number = match self.index.finish(self.reading, self.file, slot.address, slot.work) {
-            Some(hash) if hash == slot.extended => return Ok(()),
-            Some(_) if self.reading.wrong(Mutant::ValueHashAs18) => 18,
-            _ => 19,
-        };
-        // The first fault is the answer: those that came later are dropped.
-        self.finished = self.taken;
-        refuse(number, slot.at)
+        let checked = self.index.finish(&self.texts, slot.attribute, slot.work, &mut self.effort);
+        if checked.is_err() {
+            // The first fault is the answer: those that came later are dropped, and
+            // checks that were put off stand before it.
+            self.finished = self.taken;
+            self.index.settle(&self.texts)?;
+        }
+        checked
     }
 }

@@ -21,18 +21,23 @@ impl<R: Reading, I: Index> Loader<R, I> {
 
     /// The held form: lookups and paths need no second check.
     pub fn hold<'a>(&self, file: &'a [u8], ws: &mut [u8]) -> Result<View<'a, R, I>, Refusal> {
-        View::accept(self.reading, file, ws)
+        let mut view = View::unread(self.reading, file);
+        view.accept(ws)?;
+        Ok(view)
     }
 
-    /// Accepts, then answers from the view.
+    /// Accepts, then answers from the view, which takes much of a small stack: only
+    /// while it is needed.
+    #[inline(never)]
     fn ask(
         &self,
         file: &[u8],
         ws: &mut [u8],
         question: impl FnOnce(&View<R, I>) -> Answer,
     ) -> Answer {
-        match self.hold(file, ws) {
-            Ok(view) => question(&view),
+        let mut view = View::unread(self.reading, file);
+        match view.accept(ws) {
+            Ok(()) => question(&view),
             Err(refusal) => refusal.into(),
         }
     }
@@ -78,9 +83,11 @@ impl<R: Reading, I: Index> Loader<R, I> {
         self.ask(file, ws, |view| view.outline(out))
     }
 
+    #[inline(never)]
     pub fn header(&self, file: &[u8], ws: &mut [u8]) -> HeaderReport {
-        match self.hold(file, ws) {
-            Ok(view) => view.header(),
+        let mut view: View<R, I> = View::unread(self.reading, file);
+        match view.accept(ws) {
+            Ok(()) => view.header(),
             Err(refusal) => HeaderReport {
                 refusal: refusal.number,
                 place: refusal.place,

@@ -7,44 +7,49 @@ use crate::cursor::Cursor;
 use crate::reading::{Mutant, Reading};
 
 /// Ordinary files have at most a few hundred segments in a region, and then
-/// every one is marked. With more, every 2nd, 4th … is, and the few between are
-/// walked, so that a file of 65,535 segments costs no table and no long walk.
-const MARKS: usize = 1024;
-
-/// Where a marked segment stands, and how many used elements lie before it.
-#[derive(Clone, Copy)]
-struct Mark {
-    at: u32,
-    before: u32,
-}
-
-pub struct Region {
+/// every one is marked. With more than `MARKS`, every 2nd, 4th … is, and the few
+/// between are walked, so that a file of 65,535 segments costs no table and no
+/// long walk.
+///
+/// Where it is asked for, `COUNTED` is as large, and the used elements before each
+/// marked segment are counted. An element has `SIZE` bytes.
+pub struct Region<const SIZE: usize, const MARKS: usize, const COUNTED: usize = 0> {
     /// Offset of the segment count.
     pub count_at: usize,
     pub segments: u32,
     /// Used elements of all segments.
     pub used: u32,
-    size: u32,
     shift: u32,
-    marks: [Mark; MARKS],
+    /// Offsets of the marked segments.
+    marks: [u32; MARKS],
+    before: [u32; COUNTED],
 }
 
 /// One segment: its elements start at `first`.
-#[derive(Clone, Copy)]
+#[derive(Clone, Copy, Default)]
 pub struct Segment {
     pub first: usize,
     pub full: u32,
     pub used: u32,
-    /// Used elements of the segments before it.
-    pub before: u32,
 }
 
-impl Region {
-    /// A region still to be read, of elements of `size` bytes.
-    pub fn unread(size: u32) -> Region {
-        let marks = [Mark { at: 0, before: 0 }; MARKS];
-        Region { count_at: 0, segments: 0, used: 0, size, shift: 0, marks }
-    }
+/// The segment that was asked for last. The next one is often the same or stands
+/// a little further on, and then the walk from a mark is saved.
+#[derive(Clone, Copy, Default)]
+pub struct Near {
+    last: Option<(u32, Segment)>,
+}
+
+impl<const SIZE: usize, const MARKS: usize, const COUNTED: usize> Region<SIZE, MARKS, COUNTED> {
+    /// A region still to be read.
+    pub const UNREAD: Self = Region {
+        count_at: 0,
+        segments: 0,
+        used: 0,
+        shift: 0,
+        marks: [0; MARKS],
+        before: [0; COUNTED],
+    };
 
     /// Reads in place: a region is too large to be handed about.
     pub fn read<R: Reading>(&mut self, reading: R, cursor: &mut Cursor) -> Result<(), Refusal> {
@@ -58,13 +63,27 @@ impl Region {
             self.shift += 1;
         }
         for number in 0..self.segments {
-            if number & ((1 << self.shift) - 1) == 0 {
-                let mark = Mark { at: cursor.at as u32, before: self.used };
-                self.marks[(number >> self.shift) as usize] = mark;
+            if self.behind_mark(number) == 0 {
+                let mark = (number >> self.shift) as usize;
+                self.marks[mark] = cursor.at as u32;
+                if COUNTED > 0 {
+                    self.before[mark] = self.used;
+                }
             }
-            self.used += read_segment(reading, cursor, self.size)?;
+            self.used += read_segment(reading, cursor, SIZE as u32)?;
         }
         Ok(())
+    }
+
+    /// How many segments behind a marked one this stands.
+    #[inline]
+    fn behind_mark(&self, number: u32) -> u32 {
+        number & ((1 << self.shift) - 1)
+    }
+
+    #[inline]
+    fn marked(&self, file: &[u8], number: u32) -> Segment {
+        segment_at(file, self.marks[(number >> self.shift) as usize] as usize)
     }
 
     #[inline]
@@ -73,17 +92,40 @@ impl Region {
         if number >= self.segments {
             return None;
         }
-        let mark = self.marks[(number >> self.shift) as usize];
-        let mut segment = segment_at(file, mark.at as usize, mark.before);
-        for _ in 0..number & ((1 << self.shift) - 1) {
-            segment = self.after(file, segment);
+        Some(self.walk(file, self.marked(file, number), self.behind_mark(number)))
+    }
+
+    /// The same for whoever asks for one segment after the other.
+    #[inline]
+    pub fn segment_near(&self, file: &[u8], number: u16, near: &mut Near) -> Option<Segment> {
+        if self.shift == 0 {
+            return self.segment(file, number);
         }
+        let number = number as u32;
+        if number >= self.segments {
+            return None;
+        }
+        let from_mark = self.behind_mark(number);
+        let segment = match near.last {
+            Some((last, segment)) if last <= number && number - last <= from_mark => {
+                self.walk(file, segment, number - last)
+            }
+            _ => self.walk(file, self.marked(file, number), from_mark),
+        };
+        near.last = Some((number, segment));
         Some(segment)
     }
 
+    #[inline]
+    fn walk(&self, file: &[u8], mut segment: Segment, steps: u32) -> Segment {
+        for _ in 0..steps {
+            segment = self.after(file, segment);
+        }
+        segment
+    }
+
     fn after(&self, file: &[u8], segment: Segment) -> Segment {
-        let end = segment.first + segment.full as usize * self.size as usize;
-        segment_at(file, end, segment.before + segment.used)
+        segment_at(file, segment.first + segment.full as usize * SIZE)
     }
 
     /// The segments in file order.
@@ -91,7 +133,7 @@ impl Region {
         let mut next = None;
         (0..self.segments).map(move |_| {
             let segment = match next {
-                None => segment_at(file, self.count_at + 4, 0),
+                None => segment_at(file, self.count_at + 4),
                 Some(before) => self.after(file, before),
             };
             next = Some(segment);
@@ -106,23 +148,44 @@ impl Region {
             .filter(|segment| (address.element as u32) < segment.used)
     }
 
-    /// The segment of a range that resolves: all of it in one used part.
-    #[inline]
-    pub fn resolve_range(&self, file: &[u8], address: Address, count: u16) -> Option<Segment> {
-        self.segment(file, address.segment)
-            .filter(|segment| address.element as u32 + count as u32 <= segment.used)
-    }
-
     /// Offset of an element.
     #[inline]
     pub fn element_at(&self, segment: Segment, element: u16) -> usize {
-        segment.first + element as usize * self.size as usize
+        segment.first + element as usize * SIZE
+    }
+}
+
+impl<const SIZE: usize, const MARKS: usize> Region<SIZE, MARKS, MARKS> {
+    /// Used elements of the segments before this one.
+    #[inline]
+    pub fn before(&self, file: &[u8], number: u16) -> usize {
+        let number = number as u32;
+        let (mut segment, mut between) = (self.marked(file, number), 0);
+        for _ in 0..self.behind_mark(number) {
+            between += segment.used;
+            segment = self.after(file, segment);
+        }
+        (self.before[(number >> self.shift) as usize] + between) as usize
+    }
+}
+
+impl Segment {
+    /// Whether a range lies within the used part.
+    #[inline]
+    pub fn holds(&self, element: u16, count: u16) -> bool {
+        self.holds_up_to(self.used, element, count)
+    }
+
+    /// Whether a range ends at that element or before.
+    #[inline]
+    pub fn holds_up_to(&self, end: u32, element: u16, count: u16) -> bool {
+        element as u32 + count as u32 <= end
     }
 }
 
 #[inline]
-fn segment_at(file: &[u8], at: usize, before: u32) -> Segment {
-    Segment { first: at + 8, full: u32_at(file, at), used: u32_at(file, at + 4), before }
+fn segment_at(file: &[u8], at: usize) -> Segment {
+    Segment { first: at + 8, full: u32_at(file, at), used: u32_at(file, at + 4) }
 }
 
 /// Checks one segment along the file; its used count.

@@ -1,7 +1,7 @@
 //! Reading a text up to its 0, four characters at a time, with its hashes.
 
 use crate::fold::fold_four;
-use crate::hash::{few, four, one, otherwise, string_hash, value_hash};
+use crate::hash::{few, four, kept, one, otherwise, string_hash, value_hash};
 use crate::reading::Reading;
 
 /// A text that ends in a 0: its length in bytes, without the 0, and hashes.
@@ -67,7 +67,21 @@ fn scanned<R: Reading>(reading: R, text: &[u8], hash: u32, folded: u32) -> Scann
             value_hash: value_hash(reading, text),
         };
     }
-    Scanned { bytes: text.len(), hash, value_hash: folded as u16 & 0x3fff }
+    Scanned { bytes: text.len(), hash, value_hash: kept(folded) }
+}
+
+/// Offset of the first 0 character.
+#[inline]
+pub fn first_zero(chars: &[u8]) -> Option<usize> {
+    let (fours, rest) = chars.as_chunks();
+    for (i, &eight) in fours.iter().enumerate() {
+        let zeros = zero_lanes(u64::from_le_bytes(eight));
+        if zeros != 0 {
+            return Some(8 * i + 2 * (zeros.trailing_zeros() as usize / 16));
+        }
+    }
+    let place = rest.chunks_exact(2).position(|pair| pair == [0, 0])?;
+    Some(8 * fours.len() + 2 * place)
 }
 
 /// Whether a text has a 0 character.

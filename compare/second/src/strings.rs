@@ -1,17 +1,21 @@
 //! Checks of a string table: refusals 7 to 13.
 
 use crate::answer::{refuse, Refusal};
-use crate::find::find;
-use crate::hash::{bucket, string_hash};
-use crate::index::Index;
+use crate::crowd::{Crowd, FEW};
+use crate::effort::{Effort, Stop};
+use crate::hash::{bucket, otherwise, string_hash};
+use crate::index::{Index, Plain, Texts};
 use crate::layout::Layout;
 use crate::reading::{Mutant, Reading};
 use crate::region::Segment;
 use crate::scan::holds_zero;
 use crate::table::{Entry, Table, ENTRY};
+use crate::tails::{Tails, LONG};
 
 /// How many entries ahead memory is asked for.
 const AHEAD: usize = 8;
+/// Ends of long texts that are remembered.
+const ENDS: usize = 96;
 
 /// Values first, then names.
 pub fn check_tables<R: Reading, I: Index>(
@@ -20,182 +24,318 @@ pub fn check_tables<R: Reading, I: Index>(
     layout: &Layout,
     index: &mut I,
 ) -> Result<(), Refusal> {
-    let values = &layout.values;
+    let texts = Texts { reading, file, values: &layout.values };
+    let values = TableChecks { reading, file, table: texts.values, allowance: I::ALLOWANCE };
+    let names = TableChecks { reading, file, table: &layout.names, allowance: I::ALLOWANCE };
+    // Nobody asks for names by their addresses.
+    let mut nobody: Plain = Plain;
     if reading.wrong(Mutant::NamesBeforeValues) {
-        check_table(reading, file, &layout.names, |_, _| {})?;
+        names.run(&texts, &mut nobody)?;
     }
-    check_table(reading, file, values, |entry, text| {
-        index.add(reading, file, values, entry, text)
-    })?;
-    check_table(reading, file, &layout.names, |_, _| {})
+    values.run(&texts, index)?;
+    names.run(&texts, &mut nobody)
 }
 
-fn check_table<R: Reading, const BUCKETS: usize>(
-    reading: R,
-    file: &[u8],
-    table: &Table<BUCKETS>,
-    mut passed: impl FnMut(Entry, &[u8]),
-) -> Result<(), Refusal> {
-    for number in 0..BUCKETS {
-        let (count, first) = table.bucket(file, number);
-        let end = first + count as usize * ENTRY;
-        let mut before = 0;
-        for at in (0..count as usize).map(|i| first + i * ENTRY) {
-            let entry = Entry::at(file, at);
-            let later = at + AHEAD * ENTRY;
-            if later < end {
-                table.expect(file, Entry::at(file, later));
-            }
-            let text = entry_text(reading, file, table, entry, at)?;
-            if string_hash(reading, text) != entry.hash {
-                return refuse(9, at);
-            }
-            check_order(reading, entry, number, BUCKETS, before, at, first)?;
-            check_index(reading, file, table, entry, at)?;
-            check_repeat(reading, file, table, entry, text, first, at)?;
-            passed(entry, text);
-            before = entry.hash;
-        }
-    }
-    check_carried(reading, file, table)
-}
-
-/// 7 and 8: the entry's text, without its 0.
-#[inline]
-fn entry_text<'a, R: Reading, const BUCKETS: usize>(
+struct TableChecks<'a, R, const BUCKETS: usize> {
     reading: R,
     file: &'a [u8],
-    table: &Table<BUCKETS>,
+    table: &'a Table<BUCKETS>,
+    allowance: usize,
+}
+
+/// An entry and where it stands: in which bucket, after which hash.
+#[derive(Clone, Copy)]
+struct Standing {
     entry: Entry,
     at: usize,
-) -> Result<&'a [u8], Refusal> {
-    let Some(segment) = table.chars.segment(file, entry.address.segment) else {
-        return refuse(7, at);
-    };
-    let below = if reading.wrong(Mutant::AddressUpToFull) { segment.full } else { segment.used };
-    if entry.address.element as u32 >= below {
-        return refuse(7, at);
-    }
-    // The length says where the 0 stands: there has to be one, and none before.
-    let ends = text_end(reading, segment);
-    let length = entry.length as u64 + reading.wrong(Mutant::LengthWithoutZero) as u64;
-    if length == 0 || entry.address.element as u64 + length > ends as u64 {
-        return refuse(8, at);
-    }
-    let start = table.chars.element_at(segment, entry.address.element);
-    let end = start + 2 * (length as usize - 1);
-    let text = &file[start..end];
-    if file[end..end + 2] != [0, 0] || holds_zero(text) {
-        return refuse(8, at);
-    }
-    Ok(text)
-}
-
-fn text_end<R: Reading>(reading: R, segment: Segment) -> u32 {
-    if reading.wrong(Mutant::TextPastUsed) {
-        segment.full
-    } else {
-        segment.used
-    }
-}
-
-/// 10: the right bucket, and hashes that do not fall.
-#[inline]
-fn check_order<R: Reading>(
-    reading: R,
-    entry: Entry,
-    number: usize,
-    buckets: usize,
+    bucket: usize,
+    /// Offset of the bucket's first entry.
+    first: usize,
+    /// The hash of the entry before, or 0.
     before: u32,
-    at: usize,
-    first: usize,
-) -> Result<(), Refusal> {
-    let wrong_bucket = bucket(reading, entry.hash, buckets) != number;
-    let repeated = reading.wrong(Mutant::EqualHashRefused) && at > first && entry.hash == before;
-    if (wrong_bucket && !reading.wrong(Mutant::BucketNotChecked))
-        || (entry.hash < before && !reading.wrong(Mutant::OrderNotChecked))
-        || repeated
-    {
-        return refuse(10, at);
-    }
-    Ok(())
 }
 
-/// 11: the index is in the list and the address there is the entry's.
-#[inline]
-fn check_index<R: Reading, const BUCKETS: usize>(
-    reading: R,
-    file: &[u8],
-    table: &Table<BUCKETS>,
-    entry: Entry,
-    at: usize,
-) -> Result<(), Refusal> {
-    if entry.index == 0 && reading.wrong(Mutant::IndexZeroAllowed) {
-        return Ok(());
+impl<'a, R: Reading, const BUCKETS: usize> TableChecks<'a, R, BUCKETS> {
+    /// Bucket by bucket, and carefully from the bucket on where the effort has
+    /// become too much.
+    fn run<I: Index>(&self, texts: &Texts<R>, index: &mut I) -> Result<(), Refusal> {
+        let mut effort = Effort::new(self.allowance, self.file.len());
+        for number in 0..BUCKETS {
+            match self.bucket(number, &mut effort, texts, index) {
+                Ok(()) => {}
+                Err(Stop::Refused(refusal)) => return Err(refusal),
+                Err(Stop::Dear) => {
+                    self.carefully(number, texts, index)?;
+                    break;
+                }
+            }
+        }
+        self.check_carried()
     }
-    let inside = entry.index >= 1 && entry.index <= table.listed;
-    if !inside {
-        return refuse(11, at);
-    }
-    let same = table.listed_address(file, entry.index) == entry.address;
-    if !same && !reading.wrong(Mutant::IndexAddressNotChecked) {
-        return refuse(11, at);
-    }
-    Ok(())
-}
 
-/// 12: no earlier entry of the bucket has this text. Hashes do not fall, so
-/// only the earlier entries with the same hash can.
-#[inline]
-fn check_repeat<R: Reading, const BUCKETS: usize>(
-    reading: R,
-    file: &[u8],
-    table: &Table<BUCKETS>,
-    entry: Entry,
-    text: &[u8],
-    first: usize,
-    at: usize,
-) -> Result<(), Refusal> {
-    let mut earlier = at;
-    while earlier > first {
-        earlier -= ENTRY;
-        let other = Entry::at(file, earlier);
-        if other.hash != entry.hash {
-            break;
+    fn bucket<I: Index>(
+        &self,
+        bucket: usize,
+        effort: &mut Effort,
+        texts: &Texts<R>,
+        index: &mut I,
+    ) -> Result<(), Stop> {
+        let (count, first) = self.table.bucket(self.file, bucket);
+        if count == 0 {
+            return Ok(());
         }
-        let same = other.length == entry.length
-            && (table.entry_text(file, other) == text || reading.wrong(Mutant::RepeatsByHash));
-        if same && !reading.wrong(Mutant::RepeatsAllowed) {
-            return refuse(12, at);
+        let mut before = 0;
+        // The segments of texts that were asked for ahead.
+        let mut ahead = [None; AHEAD];
+        for number in 0..count as usize {
+            effort.check()?;
+            let at = first + number * ENTRY;
+            let entry = Entry::at(self.file, at);
+            let segment = if number < AHEAD { self.segment(entry) } else { ahead[number % AHEAD] };
+            if number + AHEAD < count as usize {
+                let later = Entry::at(self.file, at + AHEAD * ENTRY);
+                ahead[number % AHEAD] = self.table.expect(self.file, later);
+                index.expect_entry(later.address);
+            }
+            let standing = Standing { entry, at, bucket, first, before };
+            let text = self.told_text(standing, segment)?;
+            effort.spend(text.len());
+            self.check_text(standing, text)?;
+            self.check_order(standing)?;
+            self.check_index(standing)?;
+            self.check_repeat(standing, text, effort)?;
+            index.add(texts, entry, text);
+            before = entry.hash;
         }
-        if reading.wrong(Mutant::RepeatsNeighbourOnly) {
-            break;
-        }
+        Ok(())
     }
-    Ok(())
-}
 
-/// 13: every list position is carried. Two entries with one index would have
-/// one address, so one text, so one bucket, and 12 would have refused them:
-/// indices are all different, and as many entries as positions carry them all.
-/// With fewer, the first gap is the first position whose text has no entry
-/// with that index.
-fn check_carried<R: Reading, const BUCKETS: usize>(
-    reading: R,
-    file: &[u8],
-    table: &Table<BUCKETS>,
-) -> Result<(), Refusal> {
-    if table.entries == table.listed as u64 || reading.wrong(Mutant::UncarriedAllowed) {
-        return Ok(());
-    }
-    for index in 1..=table.listed {
-        let carried = table
-            .text_at(file, table.listed_address(file, index))
-            .and_then(|text| find(reading, file, table, text))
-            .is_some_and(|entry| entry.index == index);
-        if !carried {
-            return refuse(13, table.count_at + 4 * index as usize);
+    /// The buckets from one on, with long texts that are ends of others read in
+    /// part, and crowds checked for repeats in one go.
+    #[inline(never)]
+    fn carefully<I: Index>(
+        &self,
+        from: usize,
+        texts: &Texts<R>,
+        index: &mut I,
+    ) -> Result<(), Refusal> {
+        let mut tails: Tails<ENDS, 0> = Tails::EMPTY;
+        for bucket in from..BUCKETS {
+            let (count, first) = self.table.bucket(self.file, bucket);
+            let end = first + count as usize * ENTRY;
+            let mut before = 0;
+            let mut crowd = first;
+            for at in (first..end).step_by(ENTRY) {
+                let entry = Entry::at(self.file, at);
+                let standing = Standing { entry, at, bucket, first, before };
+                let text = match self.entry_carefully(standing, &mut tails) {
+                    Ok(text) => text,
+                    Err(refusal) => {
+                        // A repeat among those before it comes first.
+                        self.check_crowd(crowd, at)?;
+                        return Err(refusal);
+                    }
+                };
+                if entry.hash != before {
+                    self.check_crowd(crowd, at)?;
+                    crowd = at;
+                }
+                index.add(texts, entry, text);
+                before = entry.hash;
+            }
+            self.check_crowd(crowd, end)?;
         }
+        Ok(())
     }
-    Ok(())
+
+    /// 7 to 11.
+    fn entry_carefully(
+        &self,
+        standing: Standing,
+        tails: &mut Tails<ENDS, 0>,
+    ) -> Result<&'a [u8], Refusal> {
+        let text = self.told_text(standing, self.segment(standing.entry))?;
+        if text.len() < LONG || otherwise(self.reading) {
+            self.check_text(standing, text)?;
+        } else {
+            let start = self.table.entry_start(self.file, standing.entry);
+            match tails.hash(self.file, start, start + text.len()) {
+                None => return refuse(8, standing.at),
+                Some(hash) if hash != standing.entry.hash => return refuse(9, standing.at),
+                Some(_) => {}
+            }
+        }
+        self.check_order(standing)?;
+        self.check_index(standing)?;
+        Ok(text)
+    }
+
+    #[inline]
+    fn segment(&self, entry: Entry) -> Option<Segment> {
+        self.table.chars.segment(self.file, entry.address.segment)
+    }
+
+    /// 7, and of 8 that a 0 stands where the length says: the text before it.
+    #[inline]
+    fn told_text(
+        &self,
+        Standing { entry, at, .. }: Standing,
+        segment: Option<Segment>,
+    ) -> Result<&'a [u8], Refusal> {
+        let Some(segment) = segment else {
+            return refuse(7, at);
+        };
+        let full = self.reading.wrong(Mutant::AddressUpToFull);
+        if entry.address.element as u32 >= if full { segment.full } else { segment.used } {
+            return refuse(7, at);
+        }
+        let past_used = self.reading.wrong(Mutant::TextPastUsed);
+        let ends = if past_used { segment.full } else { segment.used };
+        let length = entry.length as u64 + self.reading.wrong(Mutant::LengthWithoutZero) as u64;
+        if length == 0 || entry.address.element as u64 + length > ends as u64 {
+            return refuse(8, at);
+        }
+        let start = self.table.chars.element_at(segment, entry.address.element);
+        let end = start + 2 * (length as usize - 1);
+        if self.file[end..end + 2] != [0, 0] {
+            return refuse(8, at);
+        }
+        Ok(&self.file[start..end])
+    }
+
+    /// 8: no 0 stands before that; and 9.
+    #[inline]
+    fn check_text(&self, Standing { entry, at, .. }: Standing, text: &[u8]) -> Result<(), Refusal> {
+        if holds_zero(text) {
+            return refuse(8, at);
+        }
+        if string_hash(self.reading, text) != entry.hash {
+            return refuse(9, at);
+        }
+        Ok(())
+    }
+
+    /// 10: the right bucket, and hashes that do not fall.
+    #[inline]
+    fn check_order(&self, standing: Standing) -> Result<(), Refusal> {
+        let Standing { entry, at, before, first, .. } = standing;
+        let wrong_bucket = bucket(self.reading, entry.hash, BUCKETS) != standing.bucket;
+        let equal = at > first && entry.hash == before;
+        if (wrong_bucket && !self.reading.wrong(Mutant::BucketNotChecked))
+            || (entry.hash < before && !self.reading.wrong(Mutant::OrderNotChecked))
+            || (equal && self.reading.wrong(Mutant::EqualHashRefused))
+        {
+            return refuse(10, at);
+        }
+        Ok(())
+    }
+
+    /// 11: the index is in the list and the address there is the entry's.
+    #[inline]
+    fn check_index(&self, Standing { entry, at, .. }: Standing) -> Result<(), Refusal> {
+        if entry.index == 0 && self.reading.wrong(Mutant::IndexZeroAllowed) {
+            return Ok(());
+        }
+        let inside = entry.index >= 1 && entry.index <= self.table.listed;
+        if !inside {
+            return refuse(11, at);
+        }
+        let same = self.table.listed_address(self.file, entry.index) == entry.address;
+        if !same && !self.reading.wrong(Mutant::IndexAddressNotChecked) {
+            return refuse(11, at);
+        }
+        Ok(())
+    }
+
+    /// 12: no earlier entry of the bucket has this text. Hashes do not fall, so
+    /// only the earlier entries with the same hash can.
+    #[inline]
+    fn check_repeat(
+        &self,
+        Standing { entry, at, first, .. }: Standing,
+        text: &[u8],
+        effort: &mut Effort,
+    ) -> Result<(), Refusal> {
+        let mut earlier = at;
+        while earlier > first {
+            earlier -= ENTRY;
+            let other = Entry::at(self.file, earlier);
+            if other.hash != entry.hash {
+                break;
+            }
+            effort.spend(ENTRY);
+            let same = other.length == entry.length
+                && (self.table.entry_text(self.file, other) == text
+                    || self.reading.wrong(Mutant::RepeatsByHash));
+            if same && !self.reading.wrong(Mutant::RepeatsAllowed) {
+                return refuse(12, at);
+            }
+            if self.reading.wrong(Mutant::RepeatsNeighbourOnly) {
+                break;
+            }
+        }
+        Ok(())
+    }
+
+    /// 12 for the entries of one hash, from one offset to another.
+    fn check_crowd(&self, first: usize, end: usize) -> Result<(), Refusal> {
+        let Self { reading, file, table, .. } = *self;
+        let count = (end - first) / ENTRY;
+        let mutants = [Mutant::RepeatsByHash, Mutant::RepeatsAllowed, Mutant::RepeatsNeighbourOnly];
+        if count > FEW && !mutants.iter().any(|&mutant| reading.wrong(mutant)) {
+            return match (Crowd { file, table, first, count }).first_repeat() {
+                Some(number) => refuse(12, first + number * ENTRY),
+                None => Ok(()),
+            };
+        }
+        for at in (first..end).step_by(ENTRY) {
+            let entry = Entry::at(file, at);
+            let standing = Standing { entry, at, first, bucket: 0, before: 0 };
+            let text = table.entry_text(file, entry);
+            self.check_repeat(standing, text, &mut Effort::endless())?;
+        }
+        Ok(())
+    }
+
+    /// 13: every list position is carried. Two entries with one index would have
+    /// one address, so one text, so one bucket, and 12 would have refused them:
+    /// indices are all different, and as many entries as positions carry them all.
+    /// With fewer, the first gap is among the first positions that fewer entries
+    /// carry than there are.
+    fn check_carried(&self) -> Result<(), Refusal> {
+        let Self { reading, file, table, .. } = *self;
+        if table.entries == table.listed as u64 || reading.wrong(Mutant::UncarriedAllowed) {
+            return Ok(());
+        }
+        let (mut first, mut count) = (1, table.listed);
+        while count > 1 {
+            let Some((start, length)) = self.first_short_part(first, count) else {
+                return Ok(());
+            };
+            (first, count) = (start, length);
+        }
+        let carried = table.entries(file).any(|entry| entry.index == first);
+        if carried {
+            return Ok(());
+        }
+        refuse(13, table.count_at + 4 * first as usize)
+    }
+
+    /// Of `count` indices from `first` on, cut into parts: the first part that has
+    /// fewer entries than indices.
+    #[inline(never)]
+    fn first_short_part(&self, first: u32, count: u32) -> Option<(u32, u32)> {
+        const PARTS: u32 = 1024;
+        let part = count.div_ceil(PARTS);
+        let mut carried = [0; PARTS as usize];
+        for entry in self.table.entries(self.file) {
+            let number = entry.index.wrapping_sub(first);
+            if number < count {
+                carried[(number / part) as usize] += 1;
+            }
+        }
+        let parts = (0..count).step_by(part as usize).map(|start| (start, part.min(count - start)));
+        let short = parts.zip(carried).find(|&((_, length), carried)| carried < length);
+        short.map(|((start, length), _)| (first + start, length))
+    }
 }

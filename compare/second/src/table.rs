@@ -6,13 +6,17 @@ use crate::cursor::Cursor;
 use crate::prefetch::{prefetch, prefetch_text};
 use crate::reading::{Mutant, Reading};
 use crate::region::{Region, Segment};
+use crate::scan::first_zero;
 
 pub const VALUE_BUCKETS: usize = 1024;
 pub const NAME_BUCKETS: usize = 512;
 pub const ENTRY: usize = 16;
 
+/// Segments of characters that are marked: texts are read in any order.
+const MARKS: usize = 4096;
+
 pub struct Table<const BUCKETS: usize> {
-    pub chars: Region,
+    pub chars: Region<2, MARKS>,
     /// Offset of each bucket's count; its entries follow.
     pub buckets: [u32; BUCKETS],
     /// Entries of all buckets.
@@ -49,10 +53,8 @@ impl<const BUCKETS: usize> Table<BUCKETS> {
     pub const NAMES: bool = BUCKETS == NAME_BUCKETS;
 
     /// A table still to be read.
-    pub fn unread() -> Self {
-        let chars = Region::unread(2);
-        Table { chars, buckets: [0; BUCKETS], entries: 0, count_at: 0, listed: 0 }
-    }
+    pub const UNREAD: Self =
+        Table { chars: Region::UNREAD, buckets: [0; BUCKETS], entries: 0, count_at: 0, listed: 0 };
 
     /// Reads in place: a table is too large to be handed about.
     pub fn read<R: Reading>(&mut self, reading: R, cursor: &mut Cursor) -> Result<(), Refusal> {
@@ -85,6 +87,14 @@ impl<const BUCKETS: usize> Table<BUCKETS> {
         (u32_at(file, at), at + 4)
     }
 
+    /// The entries of all buckets.
+    pub fn entries<'a>(&'a self, file: &'a [u8]) -> impl Iterator<Item = Entry> + 'a {
+        (0..BUCKETS).flat_map(move |bucket| {
+            let (count, first) = self.bucket(file, bucket);
+            (0..count as usize).map(move |number| Entry::at(file, first + number * ENTRY))
+        })
+    }
+
     /// The list's address for an index from 1 to `listed`.
     #[inline]
     pub fn listed_address(&self, file: &[u8], index: u32) -> Address {
@@ -94,27 +104,32 @@ impl<const BUCKETS: usize> Table<BUCKETS> {
     /// The text of an entry that has passed its checks, without its 0.
     #[inline]
     pub fn entry_text<'a>(&self, file: &'a [u8], entry: Entry) -> &'a [u8] {
-        let first = self
-            .chars
-            .segment(file, entry.address.segment)
-            .map_or(0, |segment| self.chars.element_at(segment, entry.address.element));
+        let first = self.entry_start(file, entry);
         let bytes = 2 * (entry.length as usize - 1);
         &file[first..first + bytes]
     }
 
-    /// Asks for the text of an entry that will be read soon.
+    /// Offset of the text of an entry whose address has passed its check.
     #[inline]
-    pub fn expect_text(&self, file: &[u8], entry: Entry) {
-        if let Some(segment) = self.chars.segment(file, entry.address.segment) {
-            prefetch_text(file, self.chars.element_at(segment, entry.address.element));
-        }
+    pub fn entry_start(&self, file: &[u8], entry: Entry) -> usize {
+        self.chars
+            .segment(file, entry.address.segment)
+            .map_or(0, |segment| self.chars.element_at(segment, entry.address.element))
     }
 
-    /// Asks for all that the checks of an entry will read.
+    /// Asks for the text of an entry that will be read soon; its segment.
     #[inline]
-    pub fn expect(&self, file: &[u8], entry: Entry) {
-        self.expect_text(file, entry);
+    pub fn expect_text(&self, file: &[u8], entry: Entry) -> Option<Segment> {
+        let segment = self.chars.segment(file, entry.address.segment)?;
+        prefetch_text(file, self.chars.element_at(segment, entry.address.element));
+        Some(segment)
+    }
+
+    /// Asks for all that the checks of an entry will read; its text's segment.
+    #[inline]
+    pub fn expect(&self, file: &[u8], entry: Entry) -> Option<Segment> {
         prefetch(file, self.count_at.wrapping_add((entry.index as usize).wrapping_mul(4)));
+        self.expect_text(file, entry)
     }
 
     /// The text at any address, without its 0; none where the address does not
@@ -122,12 +137,14 @@ impl<const BUCKETS: usize> Table<BUCKETS> {
     pub fn text_at<'a>(&self, file: &'a [u8], address: Address) -> Option<&'a [u8]> {
         let segment = self.chars.resolve(file, address)?;
         let chars = used_chars(file, segment, address.element);
-        let length = chars.chunks_exact(2).position(|pair| pair == [0, 0])?;
-        Some(&chars[..2 * length])
+        Some(&chars[..first_zero(chars)?])
     }
 
-    /// The text of a name index that has passed its checks.
+    /// The text of an index, empty where the list has no such index.
     pub fn listed_text<'a>(&self, file: &'a [u8], index: u32) -> &'a [u8] {
+        if index == 0 || index > self.listed {
+            return &[];
+        }
         let address = self.listed_address(file, index);
         self.text_at(file, address).unwrap_or(&[])
     }
@@ -135,7 +152,7 @@ impl<const BUCKETS: usize> Table<BUCKETS> {
 
 /// The used characters of a segment from an element on, as bytes.
 #[inline]
-pub fn used_chars(file: &[u8], segment: Segment, element: u16) -> &[u8] {
+fn used_chars(file: &[u8], segment: Segment, element: u16) -> &[u8] {
     let end = segment.first + 2 * segment.used as usize;
     &file[segment.first + 2 * element as usize..end]
 }

@@ -67,6 +67,7 @@ impl<R: Reading> TreeChecks<'_, R> {
         } else {
             Vec::new()
         };
+        let mut before = 0;
         for segment in nodes.in_order(self.file) {
             for element in 0..segment.used as usize {
                 let at = segment.first + NODE * element;
@@ -74,12 +75,13 @@ impl<R: Reading> TreeChecks<'_, R> {
                 if node.name == 0 || node.children == 0 {
                     continue;
                 }
-                let own = segment.before as usize + element;
+                let own = before + element;
                 if own > 0 && held.get(own) == Some(&false) {
                     continue;
                 }
                 self.mark_range(marks, node, at, own)?;
             }
+            before += segment.used as usize;
         }
         Ok(())
     }
@@ -94,12 +96,8 @@ impl<R: Reading> TreeChecks<'_, R> {
     ) -> Result<(), Refusal> {
         // 23 has found the range in the used nodes.
         let address = node.child_address;
-        let before = self
-            .layout
-            .nodes
-            .segment(self.file, address.segment)
-            .map_or(0, |segment| segment.before);
-        let first = before as usize + address.element as usize;
+        let before = self.layout.nodes.before(self.file, address.segment);
+        let first = before + address.element as usize;
         let range = first..first + node.children as usize;
         let holds_root = first == 0 && !self.reading.wrong(Mutant::RootInRangeAllowed);
         let holds_itself = self.reading.wrong(Mutant::OwnRangeRefused) && range.contains(&own);

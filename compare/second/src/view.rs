@@ -21,27 +21,28 @@ pub struct View<'a, R, I> {
 }
 
 impl<'a, R: Reading, I: Index> View<'a, R, I> {
+    /// A file that is not accepted yet. A view is too large to be handed about, so
+    /// it is accepted in place.
+    pub(crate) fn unread(reading: R, file: &'a [u8]) -> View<'a, R, I> {
+        View { reading, file, layout: Layout::UNREAD, index: PhantomData }
+    }
+
     /// All of acceptance, in the order of document 01.
-    pub fn accept(
-        reading: R,
-        file: &'a [u8],
-        workspace: &mut [u8],
-    ) -> Result<View<'a, R, I>, Refusal> {
-        let mut layout = Layout::unread();
-        layout.read(reading, file)?;
-        let mut index = I::new(&layout.values);
-        check_tables(reading, file, &layout, &mut index)?;
-        let special = special_names(reading, file, &layout)?;
-        check_keys(reading, file, &layout, special)?;
-        let tree = TreeChecks { reading, file, layout: &layout };
+    pub(crate) fn accept(&mut self, workspace: &mut [u8]) -> Result<(), Refusal> {
+        let View { reading, file, .. } = *self;
+        self.layout.read(reading, file)?;
+        let layout = &self.layout;
+        let mut index = I::new(file, &layout.values);
+        check_tables(reading, file, layout, &mut index)?;
+        let special = special_names(reading, file, layout)?;
+        check_keys(reading, file, layout, special)?;
+        let tree = TreeChecks { reading, file, layout };
         if reading.wrong(Mutant::WorkspaceBeforeNodes) {
             tree.check_room(workspace)?;
         }
-        let nodes = NodeChecks { reading, file, layout: &layout, index: &index, special };
-        nodes.run()?;
+        NodeChecks { reading, file, layout, special }.run(index)?;
         tree.check_room(workspace)?;
-        tree.check(workspace)?;
-        Ok(View { reading, file, layout, index: PhantomData })
+        tree.check(workspace)
     }
 
     /// The number of used nodes.

@@ -18,14 +18,12 @@ fn node_offsets(file: &[u8], layout: &Layout) -> Vec<usize> {
 /// Positions of a live node's child range among the used nodes.
 fn child_positions(file: &[u8], layout: &Layout, at: usize) -> Range<usize> {
     let node = Node::at(file, at);
-    let segment = layout.nodes.segment(file, node.child_address.segment);
-    match segment {
-        Some(segment) if node.name != 0 && node.children != 0 => {
-            let first = segment.before as usize + node.child_address.element as usize;
-            first..first + node.children as usize
-        }
-        _ => 0..0,
+    if node.name == 0 || node.children == 0 {
+        return 0..0;
     }
+    let before = layout.nodes.before(file, node.child_address.segment);
+    let first = before + node.child_address.element as usize;
+    first..first + node.children as usize
 }
 
 pub fn live_nodes(file: &[u8], layout: &Layout) -> usize {
