@@ -71,7 +71,7 @@ enum taplinen_refusal {
 
     /* The file: string tables. */
     TAPLINEN_REFUSED_ENTRY_ADDRESS = 7,   /* an entry's address does not resolve (the entry) */
-    TAPLINEN_REFUSED_ENTRY_LENGTH = 8,    /* an entry's text has no end in its segment, or the entry's length field is wrong (the entry) */
+    TAPLINEN_REFUSED_ENTRY_LENGTH = 8,    /* the length field of an entry is not the length of its text (the entry) */
     TAPLINEN_REFUSED_ENTRY_HASH = 9,      /* an entry's hash is not that of its text (the entry) */
     TAPLINEN_REFUSED_ENTRY_ORDER = 10,    /* an entry is in the wrong bucket, or its hash is below the previous one (the entry) */
     TAPLINEN_REFUSED_ENTRY_INDEX = 11,    /* an entry's index is out of range, or the address listed there differs (the entry) */
@@ -148,8 +148,7 @@ static inline const char *taplinen_reason(uint32_t refusal)
     case TAPLINEN_REFUSED_COUNT: return "a count is outside its limits";
     case TAPLINEN_REFUSED_FOOTER: return "the footer is not 0, or bytes follow it";
     case TAPLINEN_REFUSED_ENTRY_ADDRESS: return "the address of a string entry does not resolve";
-    case TAPLINEN_REFUSED_ENTRY_LENGTH:
-        return "the text of a string entry has no end in its segment, or the length field of the entry is wrong";
+    case TAPLINEN_REFUSED_ENTRY_LENGTH: return "the length field of a string entry is not the length of its text";
     case TAPLINEN_REFUSED_ENTRY_HASH: return "the hash of a string entry is not that of its text";
     case TAPLINEN_REFUSED_ENTRY_ORDER: return "a string entry is in the wrong bucket, or its hash is below the previous one";
     case TAPLINEN_REFUSED_ENTRY_INDEX: return "the index of a string entry is out of range, or the address listed there differs";

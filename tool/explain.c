@@ -21,7 +21,7 @@ static const struct explanation explanations[] = {
      "address count is at least 1, that of the names at most 65,536"},
     {6, "the offset of the footer, or of the first byte after it", "padding after the footer, or a table with a wrong count"},
     {7, "the offset of the entry", "the address, or the used count of its segment"},
-    {8, "the offset of the entry", "a text cut off at the end of its segment; the length counts the final 0"},
+    {8, "the offset of the entry", "the length counts the final 0, also where the file does not store it"},
     {9, "the offset of the entry", "the hash function: low byte first, shift right"},
     {10, "the offset of the entry", "how the bucket is chosen; entries of a bucket ascend by hash"},
     {11, "the offset of the entry", "the address list"},

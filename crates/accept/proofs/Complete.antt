@@ -85,7 +85,7 @@ module _ (b : List ℕ) (f : FileRules b) where
   none-broken h (Broken.footer-not-0 x) = x (f .laid .footer)
   none-broken h (Broken.bytes-after x) = x (omega (arith, f .laid .ends))
   none-broken h (Broken.unresolved e x) = x (good e .resolved)
-  none-broken h (Broken.length-wrong e x) = x (good e .delimited)
+  none-broken h (Broken.length-wrong e x) = x (good e .sized)
   none-broken h (Broken.hash-wrong e x) = x (good e .hashed)
   none-broken h (Broken.misplaced e x) = x (good e .placed)
   none-broken h (Broken.index-wrong e x) = x (good e .indexed)

@@ -17,36 +17,36 @@ use Rattle.tree.proofs.Depths.{no-longer}
 use Rattle.tree.proofs.Unique.{one-chain, one-parent}
 use Rattle.accept.specs.Verdict.{verdictOf}
 use Rattle.accept.specs.Rules.{FileRules}
-use Rattle.accept.specs.Given.{Ends, ListedEnds, TableGiven, NodeGiven, TreeGiven, Given}
+use Rattle.accept.specs.Given.{HasText, HasListed, TableGiven, NodeGiven, TreeGiven, Given}
 use Rattle.accept.proofs.Accepted.{accepted-iff}
 
 module _ (t : Table) (r : TableRules t) where
   table-given : TableGiven t
   table-given = record {
-    entry = λ k j h l. let e = r .entry k j h l in record { resolves = e .resolved; ended = e .delimited .ended };
-    position = λ i l h. let p = position-resolves t (strings-iff t .1 r) i l h in record { resolves = p .0; ended = p .1 };
+    entry = λ k j h l. r .entry k j h l .resolved;
+    position = λ i l h. position-resolves t (strings-iff t .1 r) i l h;
   }
 
   -- an address that an entry has
-  address-ends : (seg el : ℕ) → EntryAddress t seg el → Ends t seg el
-  address-ends seg el a =
+  address-text : (seg el : ℕ) → EntryAddress t seg el → HasText t seg el
+  address-text seg el a =
       rw (a .2 .2 .0, a .2 .2 .1) at (table-given .entry (a .0) (a .2 .0) (a .1) (a .2 .1))
 
 module _ (b : List ℕ) (r : FileRules b) where
   -- a name index
-  name-ends : (i : ℕ) → 1 ≤ i → i ≤ nameCount b → ListedEnds (names b) i
+  name-text : (i : ℕ) → 1 ≤ i → i ≤ nameCount b → HasListed (names b) i
   unfolding nameCount
-  name-ends i l h = table-given (names b) (r .name-table) .position i l (omega arith)
+  name-text i l h = table-given (names b) (r .name-table) .position i l (omega arith)
 
   node-given : (a : ℕ) → Used b a → NodeGiven b a
   unfolding nodeOf
   node-given a u =
       let n = r .nodes .each (a / 65536) (a % 65536) u in
       record {
-        name = λ l. name-ends _ (omega (arith, l)) (n .node .name);
+        name = λ l. name-text _ (omega (arith, l)) (n .node .name);
         attribute = λ i l. ⊎-elim (λ z. absurd (omega arith)) (λ h. range-each attributeSize b (attributesAt b) _ _ _ i h l) (n .attributes);
-        attribute-name = λ i l. let x = n .attribute i l in name-ends _ (x .low) (x .high);
-        text = λ i l z. address-ends (values b) (r .value-table) _ _ (n .text i l z .entry);
+        attribute-name = λ i l. let x = n .attribute i l in name-text _ (x .low) (x .high);
+        text = λ i l z. address-text (values b) (r .value-table) _ _ (n .text i l z .entry);
       }
 
   tree-given : TreeGiven b

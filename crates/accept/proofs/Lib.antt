@@ -7,3 +7,4 @@ pub mod Rows
 pub mod Late
 pub mod Complete
 pub mod Agree
+pub mod Before

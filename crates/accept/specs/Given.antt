@@ -1,12 +1,11 @@
--- What acceptance gives to whoever holds the file: each address that an entry, a list, a node or an attribute names resolves, each text ends,
--- and the nodes that chains from the root reach form a tree. Nodes that no chain reaches may form loops.
+-- What acceptance gives to whoever holds the file: each address that an entry, a list, a node or an attribute names resolves, and the nodes
+-- that chains from the root reach form a tree. Nodes that no chain reaches may form loops.
 use Prim.Native.Nat.{ℕ, _+_, _≤_, _<_}
 use mathlib.Core.Path.{_≡_}
 use mathlib.Core.List.{List}
 use lib.ListN.{length}
 use Rattle.words.specs.Words.{typeOf}
 use Rattle.region.specs.Region.{Resolves}
-use Rattle.text.specs.Text.{EndedAt}
 use Rattle.layout.specs.Table.{Table, entries, segmentOf, elementOf, count, listedSegment, listedElement}
 use Rattle.layout.specs.Layout.{attributeSize, attributesAt, values, names}
 use Rattle.nodes.specs.Node.{nodeName, attributeSegment, attributeElement, attributeCount, attributeAt, Live}
@@ -14,28 +13,27 @@ use Rattle.nodes.specs.Attribute.{attributeName, typeWord, textSegment, textEle
 use Rattle.tree.specs.Chain.{child, Chain}
 use Rattle.tree.specs.File.{Used, nodeOf, treeOf}
 
--- An address of a string table resolves, and its text ends.
-pub record Ends (t : Table) (seg el : ℕ) : Type 0 where
-  pub resolves : Resolves 2 (t .bytes) (t .at) seg el
-  pub ended : EndedAt (t .bytes) (t .at) seg el
+-- An address of a string table resolves, so there is a text at it.
+abbrev pub HasText : Table → ℕ → ℕ → Type 0
+HasText t seg el = Resolves 2 (t .bytes) (t .at) seg el
 
 -- So does that of list position i.
-abbrev pub ListedEnds : Table → ℕ → Type 0
-ListedEnds t i = Ends t (listedSegment t i) (listedElement t i)
+abbrev pub HasListed : Table → ℕ → Type 0
+HasListed t i = HasText t (listedSegment t i) (listedElement t i)
 
 -- Of a string table: those of every entry and of every list position do.
 pub record TableGiven (t : Table) : Type 0 where
-  pub entry : (k j : ℕ) → k < t .buckets → j < entries t k → Ends t (segmentOf t k j) (elementOf t k j)
-  pub position : (i : ℕ) → 1 ≤ i → i < count t → ListedEnds t i
+  pub entry : (k j : ℕ) → k < t .buckets → j < entries t k → HasText t (segmentOf t k j) (elementOf t k j)
+  pub position : (i : ℕ) → 1 ≤ i → i < count t → HasListed t i
 
--- Of node a: its attributes are used ones; where it is live, its own name ends; so do the names of its attributes, and their texts.
+-- Of node a: its attributes are used ones; where it is live, its name has a text; so have the names of its attributes, and their values of type 3.
 pub record NodeGiven (b : List ℕ) (a : ℕ) : Type 0 where
-  pub name : Live b (nodeOf b a) → ListedEnds (names b) (nodeName b (nodeOf b a))
+  pub name : Live b (nodeOf b a) → HasListed (names b) (nodeName b (nodeOf b a))
   pub attribute : (i : ℕ) → i < attributeCount b (nodeOf b a)
       → Resolves attributeSize b (attributesAt b) (attributeSegment b (nodeOf b a)) (attributeElement b (nodeOf b a) + i)
-  pub attribute-name : (i : ℕ) → i < attributeCount b (nodeOf b a) → ListedEnds (names b) (attributeName b (attributeAt b (nodeOf b a) i))
+  pub attribute-name : (i : ℕ) → i < attributeCount b (nodeOf b a) → HasListed (names b) (attributeName b (attributeAt b (nodeOf b a) i))
   pub text : (i : ℕ) → i < attributeCount b (nodeOf b a) → typeOf (typeWord b (attributeAt b (nodeOf b a) i)) ≡ 3
-      → Ends (values b) (textSegment b (attributeAt b (nodeOf b a) i)) (textElement b (attributeAt b (nodeOf b a) i))
+      → HasText (values b) (textSegment b (attributeAt b (nodeOf b a) i)) (textElement b (attributeAt b (nodeOf b a) i))
 
 -- Of the tree: the root is a used node and in no child range; each element of a child range is a used node, and at one place of one range
 -- only; no node has two chains; and a chain has at most 64 nodes, so 63 places.

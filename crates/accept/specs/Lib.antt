@@ -4,3 +4,4 @@ pub mod Given
 pub mod Accepted
 pub mod Held
 pub mod Refusals
+pub mod Before

@@ -9,7 +9,7 @@ use Rattle.region.specs.Region.{countOf, startOf, fullOf, usedOf, Resolves}
 use Rattle.layout.specs.Header.{keysAt, keyCount, keyAt}
 use Rattle.layout.specs.Table.{Table, bucketAt, entries, entryAt, listAt, count, positionAt}
 use Rattle.layout.specs.Layout.{attributeSize, nodeSize, attributesAt, nodesAt, valuesAt, namesAt, values, names, footerAt, valuesMost, namesMost}
-use Rattle.strings.specs.Rules.{Resolved, Delimited, Hashed, Placed, Indexed, Twin, Carried}
+use Rattle.strings.specs.Rules.{Resolved, Sized, Hashed, Placed, Indexed, Twin, Carried}
 use Rattle.keys.specs.Names.{Special}
 use Rattle.keys.specs.Keys.{KeyRule}
 use Rattle.nodes.specs.Node.{attributeCount, nodeAt, attributeAt}
@@ -88,7 +88,7 @@ pub data Broken (b : List ℕ) (room : ℕ) : ℕ → ℕ → Type 0 where
   bytes-after : (length b ≤ footerAt b + 4 → ⊥) → Broken b room 6 (footerAt b + 4)
   -- 7 to 12, of an entry; the entry.
   unresolved : {t : Table} {k j : ℕ} → EntryOf b t k j → (Resolved t k j → ⊥) → Broken b room 7 (entryAt t k j)
-  length-wrong : {t : Table} {k j : ℕ} → EntryOf b t k j → (Delimited t k j → ⊥) → Broken b room 8 (entryAt t k j)
+  length-wrong : {t : Table} {k j : ℕ} → EntryOf b t k j → (Sized t k j → ⊥) → Broken b room 8 (entryAt t k j)
   hash-wrong : {t : Table} {k j : ℕ} → EntryOf b t k j → (Hashed t k j → ⊥) → Broken b room 9 (entryAt t k j)
   misplaced : {t : Table} {k j : ℕ} → EntryOf b t k j → (Placed t k j → ⊥) → Broken b room 10 (entryAt t k j)
   index-wrong : {t : Table} {k j : ℕ} → EntryOf b t k j → (Indexed t k j → ⊥) → Broken b room 11 (entryAt t k j)

@@ -4,26 +4,21 @@ use Prim.Native.Nat.{ℕ, _≤_, _<_}
 use mathlib.Core.Path.{_≡_, sym, _∙_}
 use Rattle.verdict.proofs.Laws.{Clean}
 use Rattle.region.specs.Region.{Resolves}
-use Rattle.text.specs.Text.{EndedAt}
 use Rattle.layout.specs.Table.{Table, count, listedSegment, listedElement}
 use Rattle.strings.specs.Texts.{listedText}
 use Rattle.strings.specs.Rules.{Carried}
 use Rattle.strings.specs.Order.{stringChecks}
-use Rattle.strings.proofs.Accepted.{strings-parts, all-good, all-carried}
+use Rattle.strings.proofs.Accepted.{strings-parts, all-carried}
 use Rattle.strings.proofs.Only.{text-of-index, one-index}
-use Rattle.positions.proofs.Laws.{carried-at, carried-in}
+use Rattle.positions.proofs.Laws.{carried-in}
 
 module _ (t : Table) (ok : Clean (stringChecks t)) where
   carried : (i : ℕ) → 1 ≤ i → i < count t → Carried t i
   carried i l h = all-carried t (strings-parts t ok .1) i l h
 
   pub position-resolves : (i : ℕ) → 1 ≤ i → i < count t
-      → Resolves 2 (t .bytes) (t .at) (listedSegment t i) (listedElement t i) × EndedAt (t .bytes) (t .at) (listedSegment t i) (listedElement t i)
-  position-resolves i l h =
-      let good = strings-parts t ok .0 in (
-        carried-in t i good (carried i l h),
-        carried-at t i good (EndedAt (t .bytes) (t .at)) (λ k j g m. all-good t good k j g m .delimited .ended) (carried i l h),
-      )
+      → Resolves 2 (t .bytes) (t .at) (listedSegment t i) (listedElement t i)
+  position-resolves i l h = carried-in t i (strings-parts t ok .0) (carried i l h)
 
   pub one-position : (i j : ℕ) → 1 ≤ i → i < count t → 1 ≤ j → j < count t → listedText t i ≡ listedText t j → i ≡ j
   one-position i j l h m g e =

@@ -11,10 +11,11 @@ use Rattle.laws.proofs.Order.{le-or-lt}
 use Rattle.verdict.specs.Checks.{Tells}
 use Rattle.verdict.proofs.Laws.{Clean}
 use Rattle.hash.specs.Hash.{hashText, bucketOf}
-use Rattle.region.specs.Region.{placeOf, Laid}
+use Rattle.region.specs.Region.{placeOf}
 use Rattle.text.specs.Text.{chars, textIn, roomAt}
-use Rattle.text.proofs.Laws.{text-chars, ended-iff}
-use Rattle.layout.specs.Table.{Table, entries, entryAt, hashOf, lengthOf, segmentOf, elementOf}
+use Rattle.text.proofs.Laws.{text-chars, text-length-le}
+use Rattle.layout.proofs.Laws.{bucket-first, bucket-fits}
+use Rattle.layout.specs.Table.{Table, TableLaid, entries, entryAt, hashOf, lengthOf, segmentOf, elementOf}
 use Rattle.strings.specs.Texts.{textOf}
 use Rattle.strings.specs.Rules.{Resolved}
 use Rattle.strings.specs.Held.{Here}
@@ -37,37 +38,37 @@ entry-resolved t k j ok h = all-good t (strings-parts t ok .0) k j (h .bucket) (
 -- an entry of another length bears another text
 pub other-length : (t : Table) (x : List ℕ) (k j w n : ℕ) → Clean (stringChecks t) → Here t k j → w ≡ lengthOf t k j → length x ≡ n → (w ≡ n + 1 → ⊥) → textOf t k j ≡ x → ⊥
 other-length t x k j w n ok h e l f q =
-    f (omega (arith, e, all-good t (strings-parts t ok .0) k j (h .bucket) (h .entry) .delimited .long, ap length q))
+    f (omega (arith, e, all-good t (strings-parts t ok .0) k j (h .bucket) (h .entry) .sized, ap length q))
 
--- of n characters: they stand at its spot, with a 0 behind them
+-- of n characters: they stand at its spot, and a 0 or the first bucket's count is behind them
 pub record Standing (t : Table) (k j p n : ℕ) : Type 0 where
   pub ends : p + 2 * n + 2 ≤ length (t .bytes)
   pub text : textOf t k j ≡ chars (t .bytes) p n
 
-pub standing : (t : Table) (k j p m w n : ℕ) → Clean (stringChecks t) → Here t k j → Spotted t (segmentOf t k j) (elementOf t k j) p m → w ≡ lengthOf t k j → w ≡ n + 1
+pub standing : (t : Table) (k j p m w n : ℕ) {most : ℕ} → TableLaid t most → Clean (stringChecks t) → Here t k j → Spotted t (segmentOf t k j) (elementOf t k j) p m → w ≡ lengthOf t k j → w ≡ n + 1
     → Standing t k j p n
 unfolding textOf
-standing t k j p m w n ok h s e f =
-    let g = all-good t (strings-parts t ok .0) k j (h .bucket) (h .entry) .delimited in
-    let d : length (textIn (t .bytes) p m) ≡ n = omega (arith, e, ap length (s .text), g .long) in
+standing t k j p m w n laid ok h s e f =
+    let g = all-good t (strings-parts t ok .0) k j (h .bucket) (h .entry) .sized in
+    let d : length (textIn (t .bytes) p m) ≡ n = omega (arith, e, ap length (s .text), g) in
     record {
-      ends = omega (arith, d, s .fits, ended-iff (t .bytes) p m .0 (s .ended .1 (g .ended)));
+      ends = omega (arith, d, s .within, text-length-le (t .bytes) p m, bucket-first t, bucket-fits t laid 0 (omega (arith, h .bucket)));
       text = sym (s .text) ∙ text-chars (t .bytes) p m ∙ ap (chars (t .bytes) p) d;
     }
 
 -- found by its address
-pub addressed : (t : Table) (k j p w n : ℕ) → Clean (stringChecks t) → Laid 2 (t .bytes) (t .at) → Here t k j → p ≡ placeOf 2 (t .bytes) (t .at) (segmentOf t k j) (elementOf t k j)
+pub addressed : (t : Table) (k j p w n : ℕ) {most : ℕ} → Clean (stringChecks t) → TableLaid t most → Here t k j → p ≡ placeOf 2 (t .bytes) (t .at) (segmentOf t k j) (elementOf t k j)
     → w ≡ lengthOf t k j → w ≡ n + 1 → Standing t k j p n
 addressed t k j p w n ok laid h q e f =
     let a = entry-resolved t k j ok h in
-    standing t k j p _ w n ok h
-    (spot-text t (segmentOf t k j) (elementOf t k j) laid
+    standing t k j p _ w n laid ok h
+    (spot-text t (segmentOf t k j) (elementOf t k j) (laid .characters)
     (spot-yes (t .bytes) (t .at) _ _ (a .seg-in) (a .el-in) ∙ ap (λ (x : ℕ). At x (roomAt (t .bytes) (t .at) (segmentOf t k j) (elementOf t k j))) (sym q)))
     e f
 
 -- its length counts the 0
 pub long-some : (t : Table) (k j w : ℕ) → Clean (stringChecks t) → Here t k j → w ≡ lengthOf t k j → 1 ≤ w
-long-some t k j w ok h e = omega (arith, e, all-good t (strings-parts t ok .0) k j (h .bucket) (h .entry) .delimited .long)
+long-some t k j w ok h e = omega (arith, e, all-good t (strings-parts t ok .0) k j (h .bucket) (h .entry) .sized)
 
 -- compared there
 pub text-there : (t : Table) (x : List ℕ) (k j p n : ℕ) {r : Bool} → Standing t k j p n → Tells (chars (t .bytes) p n ≡ x) r → Tells (textOf t k j ≡ x) r

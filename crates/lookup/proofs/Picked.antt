@@ -43,7 +43,7 @@ module _ (t : Table) (k j e : ℕ) (ok : Clean (stringChecks t)) (here : Here t 
     pub long-read : 1 ≤ w
     long-read = long-some t k j w ok here (length-at t k j e w q d)
 
-    module _ (laid : Laid 2 (t .bytes) (t .at)) (x n : ℕ) (p : x ≡ placeOf 2 (t .bytes) (t .at) (u16At (t .bytes) (e + 12)) (u16At (t .bytes) (e + 14))) (f : w - 1 ≡ n) where
+    module _ {most : ℕ} (laid : TableLaid t most) (x n : ℕ) (p : x ≡ placeOf 2 (t .bytes) (t .at) (u16At (t .bytes) (e + 12)) (u16At (t .bytes) (e + 14))) (f : w - 1 ≡ n) where
       pub stands : Standing t k j x n
       stands =
           let a = segment-at t k j e _ q refl in

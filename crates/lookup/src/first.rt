@@ -21,8 +21,8 @@ use region::Region;
 use strings::Strings;
 use strings::entry;
 
-// An entry that may bear the text: where its own text starts and where the 0 behind it stands, and what is told of it. Where there is none,
-// its text starts at 0.
+// An entry that may bear the text: where its own text starts, where it ends, and what is told of it. Where there is none, its text starts
+// at 0.
 pub struct Candidate {
     pub text: usize,
     pub end: usize,

@@ -108,7 +108,7 @@ module _ {b : List ℕ} (g : FileRules b) {p : Places} (w : Placed b p) where
 
       resolves : Resolves 2 b (names b .at) seg el
       unfolding names
-      resolves = rw (segment-is, element-is) (position-resolves (names b) (strings-iff (names b) .1 (g .name-table)) i low below .0)
+      resolves = rw (segment-is, element-is) (position-resolves (names b) (strings-iff (names b) .1 (g .name-table)) i low below)
 
       pub name-held : {xs : List ℕ} → NameStarts b p xs → TextHeld b (p .«name_chars») xs seg el
       name-held h = own (w .«name_chars») h resolves

@@ -81,7 +81,7 @@ module _ (b : List ℕ) (r : FileRules b) where
   unfolding nameCount nameText listedText
   name-short i l h =
       text-short (names b) (listedSegment (names b) i) (listedElement (names b) i) (r .laid .names .characters)
-      (position-resolves (names b) (strings-iff (names b) .1 (r .name-table)) i l (omega arith) .0)
+      (position-resolves (names b) (strings-iff (names b) .1 (r .name-table)) i l (omega arith))
 
   -- and so has the text of a value
   value-text-short : (seg el : ℕ) → EntryAddress (values b) seg el → length (textTo (values b) seg el) ≤ 65535

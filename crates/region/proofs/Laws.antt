@@ -34,6 +34,17 @@ module _ (size : ℕ) (b : List ℕ) (r : ℕ) where
   pub before-order : (i j : ℕ) → i < j → beforeOf size b r i + usedOf size b r i ≤ beforeOf size b r j
   before-order i j h = let e : j ≡ i + 1 + (j - (i + 1)) = omega arith in rw e (before-apart i (j - (i + 1)))
 
+  start-apart : (i k : ℕ) → startOf size b r i + 8 + fullOf size b r i * size ≤ startOf size b r (i + 1 + k)
+  start-apart i zero = rw (add-zero (i + 1)) (omega (arith, start-next i))
+  start-apart i (suc k) =
+      let e : i + 1 + suc k ≡ i + 1 + k + 1 = omega arith in
+      rw e (omega (arith, start-next (i + 1 + k), start-apart i k))
+
+  -- a segment ends where the region does, or before
+  pub segment-end : (s : ℕ) → s < countOf b r → startOf size b r s + 8 + fullOf size b r s * size ≤ endOf size b r
+  unfolding endOf
+  segment-end s h = let e : countOf b r ≡ s + 1 + (countOf b r - (s + 1)) = omega arith in rw e (start-apart s (countOf b r - (s + 1)))
+
   -- an element and a range lie in the file
   pub range-fits : Laid size b r → (seg el n : ℕ) → Ranges size b r seg el n → placeOf size b r seg el + n * size ≤ length b
   unfolding placeOf

@@ -8,14 +8,14 @@ use Rattle.verdict.specs.Checks.{firstFault}
 use Rattle.verdict.specs.declared.Verdict.the-variants.{Accepted}
 use Rattle.verdict.proofs.Laws.{Clean, pass, clean-inv, fault-none, fault-append, append-inv, each-inv, each-clean}
 use Rattle.layout.specs.Table.{Table, entries, hashOf, count}
-use Rattle.strings.specs.Rules.{Resolved, Delimited, Hashed, Placed, Indexed, Twin, Carried, TableRules}
+use Rattle.strings.specs.Rules.{Resolved, Sized, Hashed, Placed, Indexed, Twin, Carried, TableRules}
 use Rattle.strings.specs.Held.{TextRight}
 use Rattle.strings.specs.Order.{entryChecks, bucketEntryChecks, allEntryChecks, positionChecks, allPositionChecks, stringChecks}
 
 -- an entry's six checks hold
 pub record Good (t : Table) (k j : ℕ) : Type 0 where
   pub resolved : Resolved t k j
-  pub delimited : Delimited t k j
+  pub sized : Sized t k j
   pub hashed : Hashed t k j
   pub placed : Placed t k j
   pub indexed : Indexed t k j
@@ -23,7 +23,7 @@ pub record Good (t : Table) (k j : ℕ) : Type 0 where
 
 -- among them those of its text
 pub good-text : (t : Table) (k j : ℕ) → Good t k j → TextRight t k j
-good-text t k j g = record { resolved = g .resolved; delimited = g .delimited; hashed = g .hashed }
+good-text t k j g = record { resolved = g .resolved; sized = g .sized; hashed = g .hashed }
 
 module _ (t : Table) where
   pub entry-good : (k j : ℕ) → Clean (entryChecks t k j) → Good t k j
@@ -35,12 +35,12 @@ module _ (t : Table) where
       let d = clean-inv _ _ _ _ _ (c .1) in
       let f = clean-inv _ _ _ _ _ (d .1) in
       let g = clean-inv _ _ _ _ _ (f .1) in
-      record { resolved = a .0; delimited = b .0; hashed = c .0; placed = d .0; indexed = f .0; alone = g .0 }
+      record { resolved = a .0; sized = b .0; hashed = c .0; placed = d .0; indexed = f .0; alone = g .0 }
 
   pub entry-clean : (k j : ℕ) → Good t k j → Clean (entryChecks t k j)
   unfolding entryChecks
   entry-clean k j g =
-      pass _ _ _ _ _ (g .resolved) ∙ pass _ _ _ _ _ (g .delimited) ∙ pass _ _ _ _ _ (g .hashed) ∙ pass _ _ _ _ _ (g .placed)
+      pass _ _ _ _ _ (g .resolved) ∙ pass _ _ _ _ _ (g .sized) ∙ pass _ _ _ _ _ (g .hashed) ∙ pass _ _ _ _ _ (g .placed)
       ∙ pass _ _ _ _ _ (g .indexed) ∙ pass _ _ _ _ _ (g .alone) ∙ fault-none
 
   -- where all entries pass, each one's rules hold
@@ -72,7 +72,7 @@ module _ (t : Table) where
       let good = all-good (p .0) in record {
         entry = λ k j h l. let g = good k j h l in record {
           resolved = g .resolved;
-          delimited = g .delimited;
+          sized = g .sized;
           hashed = g .hashed;
           bucket = g .placed .bucket;
           indexed = g .indexed;
@@ -94,7 +94,7 @@ module _ (t : Table) where
       good k j h l =
           let e = r .entry k j h l in record {
             resolved = e .resolved;
-            delimited = e .delimited;
+            sized = e .sized;
             hashed = e .hashed;
             placed = record { bucket = e .bucket; ascends = before-first r k j h l };
             indexed = e .indexed;

@@ -5,7 +5,7 @@ use mathlib.Core.Path.{_≡_, sym, _∙_}
 use mathlib.Core.List.{List}
 use Rattle.le.proofs.Agree.{Agree}
 use Rattle.region.proofs.Agree.{resolves-same}
-use Rattle.text.proofs.Agree.{text-same, ended-at-same}
+use Rattle.text.proofs.Agree.{text-same}
 use Rattle.layout.specs.Table.{table, segmentOf, elementOf}
 use Rattle.layout.proofs.Agree.{AlikeTable, alike-table}
 use Rattle.strings.specs.Texts.{textTo, textOf, listedText}
@@ -38,10 +38,7 @@ module _ {b c : List ℕ} {x : ℕ} (a : Agree b c x) (at n : ℕ) (h : x + 4 �
   entry-rules k j g =
       record {
         resolved = rw (same .segment k j, same .element k j) (resolves-same (same .chars) _ _ (g .resolved));
-        delimited = record {
-          ended = rw (same .segment k j, same .element k j) (ended-at-same a at h _ _ (g .delimited .ended));
-          long = rw (same .long k j, text-of-same k j) (g .delimited .long);
-        };
+        sized = rw (same .long k j, text-of-same k j) (g .sized);
         hashed = rw (same .hash k j, text-of-same k j) (g .hashed);
         bucket = rw (same .hash k j) (g .bucket);
         indexed = record {

@@ -16,7 +16,7 @@ use Rattle.text.specs.declared.Extent.{Extent}
 use Rattle.text.proofs.Laws.{text-length-le}
 use Rattle.layout.specs.Table.{Table, entryAt, hashOf, lengthOf, indexOf, segmentOf, elementOf, count, listedSegment, listedElement}
 use Rattle.strings.specs.Texts.{textOf}
-use Rattle.strings.specs.Rules.{Resolved, Delimited, Hashed, Placed, Indexed, Twin}
+use Rattle.strings.specs.Rules.{Resolved, Sized, Hashed, Placed, Indexed, Twin}
 use Rattle.strings.specs.Held.{TextRight}
 use Rattle.strings.specs.Order.{entryChecks}
 use Rattle.strings.proofs.Accepted.{entry-clean}
@@ -28,25 +28,22 @@ module _ (t : Table) (k j p n : ℕ) (m : Extent) (f : Measured (t .bytes) p n m
   pub measured-few : m .length ≤ n
   measured-few = omega (arith, f .long, text-length-le (t .bytes) p n)
 
-  pub not-ended : m .ended ≡ false → Delimited t k j → ⊥
-  not-ended e r = f .ended .not e (w .ended .1 (r .ended))
-
-  pub not-long : (l : ℕ) → l ≡ lengthOf t k j → (l ≡ m .length + 1 → ⊥) → Delimited t k j → ⊥
+  pub not-long : (l : ℕ) → l ≡ lengthOf t k j → (l ≡ m .length + 1 → ⊥) → Sized t k j → ⊥
   unfolding textOf
-  not-long l q d r = d (omega (arith, q, r .long, f .long, ap length (w .text)))
+  not-long l q d r = d (omega (arith, q, r, f .long, ap length (w .text)))
 
   pub not-hashed : (h : ℕ) → h ≡ hashOf t k j → (h ≡ m .hash → ⊥) → Hashed t k j → ⊥
   unfolding textOf
   not-hashed h q d r = d (q ∙ r ∙ ap hashText (sym (w .text)) ∙ sym (f .hashed))
 
-  module _ (e : m .ended ≡ true) (l : ℕ) (q : l ≡ lengthOf t k j) (d : l ≡ m .length + 1) where
-    pub delimited : Delimited t k j
+  module _ (l : ℕ) (q : l ≡ lengthOf t k j) (d : l ≡ m .length + 1) where
+    pub sized : Sized t k j
     unfolding textOf
-    delimited = record { ended = w .ended .0 (f .ended .so e); long = omega (arith, q, d, f .long, ap length (w .text)) }
+    sized = omega (arith, q, d, f .long, ap length (w .text))
 
     pub text-right : (h : ℕ) → h ≡ hashOf t k j → h ≡ m .hash → TextRight t k j
     unfolding textOf
-    text-right h p g = record { resolved = w .resolved; delimited = delimited; hashed = sym p ∙ g ∙ f .hashed ∙ ap hashText (w .text) }
+    text-right h p g = record { resolved = w .resolved; sized = sized; hashed = sym p ∙ g ∙ f .hashed ∙ ap hashText (w .text) }
 
 module _ (t : Table) (k j : ℕ) where
   -- ---- 10
@@ -102,36 +99,36 @@ module _ (t : Table) (k j : ℕ) where
     unfolding entryChecks
     refused-7 f = at-entry (stop _ _ _ _ _ f)
 
-    pub refused-8 : Resolved t k j → (Delimited t k j → ⊥) → Refused 8 e ≡ firstFault (entryChecks t k j)
+    pub refused-8 : Resolved t k j → (Sized t k j → ⊥) → Refused 8 e ≡ firstFault (entryChecks t k j)
     unfolding entryChecks
     refused-8 a f = at-entry (pass _ _ _ _ _ a ∙ stop _ _ _ _ _ f)
 
-    pub refused-9 : Resolved t k j → Delimited t k j → (Hashed t k j → ⊥) → Refused 9 e ≡ firstFault (entryChecks t k j)
+    pub refused-9 : Resolved t k j → Sized t k j → (Hashed t k j → ⊥) → Refused 9 e ≡ firstFault (entryChecks t k j)
     unfolding entryChecks
     refused-9 a b f = at-entry (pass _ _ _ _ _ a ∙ pass _ _ _ _ _ b ∙ stop _ _ _ _ _ f)
 
     module _ (r : TextRight t k j) where
       pub refused-10 : (Placed t k j → ⊥) → Refused 10 e ≡ firstFault (entryChecks t k j)
       unfolding entryChecks
-      refused-10 f = at-entry (pass _ _ _ _ _ (r .resolved) ∙ pass _ _ _ _ _ (r .delimited) ∙ pass _ _ _ _ _ (r .hashed) ∙ stop _ _ _ _ _ f)
+      refused-10 f = at-entry (pass _ _ _ _ _ (r .resolved) ∙ pass _ _ _ _ _ (r .sized) ∙ pass _ _ _ _ _ (r .hashed) ∙ stop _ _ _ _ _ f)
 
       pub refused-11 : Placed t k j → (Indexed t k j → ⊥) → Refused 11 e ≡ firstFault (entryChecks t k j)
       unfolding entryChecks
       refused-11 a f =
           at-entry
-          (pass _ _ _ _ _ (r .resolved) ∙ pass _ _ _ _ _ (r .delimited) ∙ pass _ _ _ _ _ (r .hashed) ∙ pass _ _ _ _ _ a ∙ stop _ _ _ _ _ f)
+          (pass _ _ _ _ _ (r .resolved) ∙ pass _ _ _ _ _ (r .sized) ∙ pass _ _ _ _ _ (r .hashed) ∙ pass _ _ _ _ _ a ∙ stop _ _ _ _ _ f)
 
       pub refused-12 : Placed t k j → Indexed t k j → Twin t k j → Refused 12 e ≡ firstFault (entryChecks t k j)
       unfolding entryChecks
       refused-12 a b w =
           at-entry
-          (pass _ _ _ _ _ (r .resolved) ∙ pass _ _ _ _ _ (r .delimited) ∙ pass _ _ _ _ _ (r .hashed) ∙ pass _ _ _ _ _ a ∙ pass _ _ _ _ _ b
+          (pass _ _ _ _ _ (r .resolved) ∙ pass _ _ _ _ _ (r .sized) ∙ pass _ _ _ _ _ (r .hashed) ∙ pass _ _ _ _ _ a ∙ pass _ _ _ _ _ b
           ∙ stop _ _ _ _ _ (λ f. f w))
 
   pub entry-passes : TextRight t k j → Placed t k j → Indexed t k j → ¬ Twin t k j → Accepted ≡ firstFault (entryChecks t k j)
   entry-passes r a b f = sym (entry-clean t k j (record {
     resolved = r .resolved;
-    delimited = r .delimited;
+    sized = r .sized;
     hashed = r .hashed;
     placed = a;
     indexed = b;

@@ -9,3 +9,4 @@ pub mod Runs
 pub mod Left
 pub mod Only
 pub mod Agree
+pub mod Before

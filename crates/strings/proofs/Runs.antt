@@ -24,7 +24,7 @@ pub parted : (t : Table) (k i j x y : ℕ) → TextRight t k i → TextRight t k
     → textOf t k i ≡ textOf t k j → ⊥
 parted t k i j x y r s p q d e =
     let n : length (textOf t k i) ≡ length (textOf t k j) = ap length e in
-    d (omega (arith, p, q, r .delimited .long, s .delimited .long))
+    d (omega (arith, p, q, r .sized, s .sized))
 
 module _ (t : Table) (k j : ℕ) where
   pub alone-start : Alone t k j j

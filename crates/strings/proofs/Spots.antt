@@ -1,8 +1,8 @@
 -- Laws of spotAt: it answers exactly where an address resolves. Assumes nothing.
 use Prim.Native.Nat.{ℕ, _+_, _-_, _*_, _≤_, _<_}
 use native.Mathlib.Omega.{arith}
-use mathlib.Core.Path.{_≡_, refl, ap, sym, subst, _∙_}
-use mathlib.Core.Logic.{_↔_, ⊎-elim}
+use mathlib.Core.Path.{_≡_, refl, ap, sym, _∙_}
+use mathlib.Core.Logic.{⊎-elim}
 use mathlib.Core.Bool.{Bool}
 use mathlib.Core.List.{List}
 use lib.ListN.{length}
@@ -10,12 +10,12 @@ use borrow.Author.Tests.{lt-ltb, le-ltb}
 use Rattle.laws.proofs.Order.{le-or-lt}
 use Rattle.verdict.specs.Checks.{Tells}
 use Rattle.le.specs.Le.{u16At, u32At}
-use Rattle.region.specs.Region.{countOf, startOf, usedOf, placeOf, Resolves, Laid}
+use Rattle.region.specs.Region.{countOf, startOf, usedOf, placeOf, endOf, Resolves, Laid}
 use Rattle.region.specs.Samples.{Mapped}
 use Rattle.region.specs.Decisions.{resolves?}
 use Rattle.region.specs.declared.Region.{Region}
-use Rattle.text.specs.Text.{roomAt, textIn, textAt, EndedIn, EndedAt}
-use Rattle.text.proofs.Laws.{room-some, room-fits}
+use Rattle.text.specs.Text.{roomAt, textIn, textAt}
+use Rattle.text.proofs.Laws.{room-some, room-fits, room-within}
 use Rattle.layout.specs.Table.{Table, entryAt, segmentOf, elementOf}
 use Rattle.strings.specs.Texts.{spotAt, textTo}
 use Rattle.strings.specs.Rules.{Resolved}
@@ -84,26 +84,23 @@ module _ (b : List ℕ) (r : Region) (g : Mapped 2 b (r .at) r) (seg p : ℕ) (h
 pub record Spotted (t : Table) (seg el p n : ℕ) : Type 0 where
   pub resolved : Resolves 2 (t .bytes) (t .at) seg el
   pub text : textIn (t .bytes) p n ≡ textTo t seg el
-  pub ended : EndedIn (t .bytes) p n ↔ EndedAt (t .bytes) (t .at) seg el
   pub some : 0 < n
   pub past : 8 ≤ p
   pub fits : p + 2 * n ≤ length (t .bytes)
+  pub within : p + 2 * n ≤ endOf 2 (t .bytes) (t .at)
 
 pub spot-text : (t : Table) (seg el : ℕ) {p n : ℕ} → Laid 2 (t .bytes) (t .at) → spotAt (t .bytes) (t .at) seg el ≡ At p n → Spotted t seg el p n
-unfolding textTo textAt EndedAt placeOf
+unfolding textTo textAt placeOf
 spot-text t seg el {p} {n} laid e =
     let w = spot-in _ _ _ _ e in
     let l = room-fits (t .bytes) (t .at) _ _ laid (w .0) in
     record {
       resolved = w .0;
       text = ap (λ (x : ℕ). textIn (t .bytes) x n) (w .1) ∙ ap (textIn (t .bytes) _) (w .2);
-      ended = (
-        λ h. subst (EndedIn (t .bytes) _) (w .2) (subst (λ (x : ℕ). EndedIn (t .bytes) x n) (w .1) h),
-        λ h. subst (λ (x : ℕ). EndedIn (t .bytes) x n) (sym (w .1)) (subst (EndedIn (t .bytes) _) (sym (w .2)) h),
-      );
       some = omega (arith, room-some (t .bytes) (t .at) _ _ (w .0), w .2);
       past = omega (arith, w .1);
       fits = omega (arith, w .1, w .2);
+      within = omega (arith, w .1, w .2, room-within (t .bytes) (t .at) _ _ laid (w .0));
     }
 
 -- two texts, compared at their spots

@@ -6,18 +6,15 @@ use lib.ListN.{length}
 use Rattle.verdict.specs.Decide.{someBelow?, decBy, texts?}
 use Rattle.hash.specs.Hash.{hashText, bucketOf}
 use Rattle.region.specs.Decisions.{resolves?}
-use Rattle.text.specs.Decisions.{endedAt?}
 use Rattle.layout.specs.Table.{Table, entries, hashOf, lengthOf, indexOf, segmentOf, elementOf, count, listedSegment, listedElement}
 use Rattle.strings.specs.Texts.{textOf}
-use Rattle.strings.specs.Rules.{Resolved, Delimited, Hashed, Placed, Indexed, Twin, Carried}
+use Rattle.strings.specs.Rules.{Resolved, Sized, Hashed, Placed, Indexed, Twin, Carried}
 
 unfoldable pub resolved? : (t : Table) (k j : ℕ) → Dec (Resolved t k j)
 resolved? t k j = resolves? 2 (t .bytes) (t .at) (segmentOf t k j) (elementOf t k j)
 
-unfoldable pub delimited? : (t : Table) (k j : ℕ) → Dec (Delimited t k j)
-delimited? t k j =
-    decBy (λ p. record { ended = p .0; long = p .1 }) (λ r. (r .ended, r .long))
-    (Dec·and (endedAt? (t .bytes) (t .at) (segmentOf t k j) (elementOf t k j)) (ℕ-discrete (lengthOf t k j) (length (textOf t k j) + 1)))
+unfoldable pub sized? : (t : Table) (k j : ℕ) → Dec (Sized t k j)
+sized? t k j = ℕ-discrete (lengthOf t k j) (length (textOf t k j) + 1)
 
 unfoldable pub hashed? : (t : Table) (k j : ℕ) → Dec (Hashed t k j)
 hashed? t k j = ℕ-discrete (hashOf t k j) (hashText (textOf t k j))

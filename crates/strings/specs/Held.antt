@@ -6,7 +6,7 @@ use lib.ListN.{length}
 use Rattle.region.specs.Samples.{Mapped, Starts}
 use Rattle.layout.specs.Table.{Table, table, entries, hashOf, listAt, TableLaid, BucketStarts}
 use Rattle.layout.specs.Layout.{valuesMost}
-use Rattle.strings.specs.Rules.{Resolved, Delimited, Hashed}
+use Rattle.strings.specs.Rules.{Resolved, Sized, Hashed}
 use Rattle.strings.specs.declared.Strings.{Strings}
 
 -- The table that the code holds: it starts with its characters, and has as many buckets as there are starts.
@@ -31,7 +31,7 @@ pub record Here (t : Table) (k j : ℕ) : Type 0 where
 -- Refusals 7 to 9 are not due.
 pub record TextRight (t : Table) (k j : ℕ) : Type 0 where
   pub resolved : Resolved t k j
-  pub delimited : Delimited t k j
+  pub sized : Sized t k j
   pub hashed : Hashed t k j
 
 -- The texts of the entries of a bucket up to j are right, and their hashes in order: what the test for a twin asks.

@@ -5,3 +5,4 @@ pub mod Order
 pub mod Held
 pub mod Begins
 pub mod Ahead
+pub mod Before

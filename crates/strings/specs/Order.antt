@@ -3,14 +3,14 @@ use Prim.Native.Nat.{ℕ, _+_, _-_}
 use mathlib.Core.List.{List, [], _∷_, _++_}
 use Rattle.verdict.specs.Checks.{Check, check, each}
 use Rattle.layout.specs.Table.{Table, entries, entryAt, count, positionAt}
-use Rattle.strings.specs.Rules.{Resolved, Delimited, Hashed, Placed, Indexed, Twin, Carried}
-use Rattle.strings.specs.Decisions.{resolved?, delimited?, hashed?, placed?, indexed?, alone?, carried?}
+use Rattle.strings.specs.Rules.{Resolved, Sized, Hashed, Placed, Indexed, Twin, Carried}
+use Rattle.strings.specs.Decisions.{resolved?, sized?, hashed?, placed?, indexed?, alone?, carried?}
 
 -- All of an entry's checks come before the next entry's; the place is the entry.
 unfoldable pub entryChecks : Table → ℕ → ℕ → List Check
 entryChecks t k j =
     check 7 (entryAt t k j) (Resolved t k j) (resolved? t k j)
-    ∷ check 8 (entryAt t k j) (Delimited t k j) (delimited? t k j)
+    ∷ check 8 (entryAt t k j) (Sized t k j) (sized? t k j)
     ∷ check 9 (entryAt t k j) (Hashed t k j) (hashed? t k j)
     ∷ check 10 (entryAt t k j) (Placed t k j) (placed? t k j)
     ∷ check 11 (entryAt t k j) (Indexed t k j) (indexed? t k j)

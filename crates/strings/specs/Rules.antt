@@ -5,7 +5,6 @@ use lib.ListN.{length}
 use Rattle.verdict.specs.Checks.{SomeBelow}
 use Rattle.hash.specs.Hash.{hashText, bucketOf}
 use Rattle.region.specs.Region.{Resolves}
-use Rattle.text.specs.Text.{EndedAt}
 use Rattle.layout.specs.Table.{Table, entries, hashOf, lengthOf, indexOf, segmentOf, elementOf, count, listedSegment, listedElement}
 use Rattle.strings.specs.Texts.{textOf}
 
@@ -13,10 +12,9 @@ use Rattle.strings.specs.Texts.{textOf}
 abbrev pub Resolved : Table → ℕ → ℕ → Type 0
 Resolved t k j = Resolves 2 (t .bytes) (t .at) (segmentOf t k j) (elementOf t k j)
 
--- 8: a 0 is found, and the length is right; it counts the 0.
-pub record Delimited (t : Table) (k j : ℕ) : Type 0 where
-  pub ended : EndedAt (t .bytes) (t .at) (segmentOf t k j) (elementOf t k j)
-  pub long : lengthOf t k j ≡ length (textOf t k j) + 1
+-- 8: the length is right. It counts the 0, also where that is not stored.
+abbrev pub Sized : Table → ℕ → ℕ → Type 0
+Sized t k j = lengthOf t k j ≡ length (textOf t k j) + 1
 
 -- 9: the hash is the text's.
 abbrev pub Hashed : Table → ℕ → ℕ → Type 0
@@ -49,7 +47,7 @@ EntryAddress t seg el = SomeBelow (t .buckets) (λ k. SomeBelow (entries t k) (�
 -- The rules of an entry by itself.
 pub record EntryRules (t : Table) (k j : ℕ) : Type 0 where
   pub resolved : Resolved t k j
-  pub delimited : Delimited t k j
+  pub sized : Sized t k j
   pub hashed : Hashed t k j
   pub bucket : bucketOf (t .buckets) (hashOf t k j) ≡ k
   pub indexed : Indexed t k j

@@ -215,9 +215,6 @@ pub(crate) fn check_entry(
         return Verdict::Refused(7, e);
     }
     let m = text::measure(b, t, g.at, g.left);
-    if !m.ended {
-        return Verdict::Refused(8, e);
-    }
     if le::u32_at(b, e + 4) != m.length + 1 {
         return Verdict::Refused(8, e);
     }

@@ -6,14 +6,14 @@ use native.Mathlib.Decide.{ℕ-discrete}
 use native.Mathlib.Omega.{arith}
 use mathlib.Core.Path.{_≡_, refl, ap, sym, _∙_}
 use mathlib.Core.Bool.{Bool, cond}
-use mathlib.Core.Logic.{_↔_, _⊎_, inl, inr, ⊎-elim, by-cases}
+use mathlib.Core.Logic.{_⊎_, inl, inr, ⊎-elim, by-cases}
 use mathlib.Core.List.{List, [], _∷_}
 use borrow.Author.Tests.{eq-eqb, ne-eqb}
 use lib.ListN.{length, getD}
-use Rattle.laws.proofs.Order.{le-or-lt}
 use Rattle.le.specs.Le.{u16At}
-use Rattle.region.specs.Region.{Laid, Resolves, placeOf}
-use Rattle.text.specs.Text.{chars, upToZero, textIn, EndedIn, roomAt}
+use Rattle.region.specs.Region.{Laid, Resolves, placeOf, endOf}
+use Rattle.region.proofs.Laws.{segment-end}
+use Rattle.text.specs.Text.{chars, upToZero, textIn, roomAt}
 
 -- ---- characters
 
@@ -104,14 +104,6 @@ text-end b p (suc n) h =
     ap (u16At b) d ∙ text-end b (p + 2) n (omega arith))
     (text-step b p n)
 
--- a 0 ends it just where it is shorter than what is left of the used part
-pub ended-iff : (b : List ℕ) (p n : ℕ) → EndedIn b p n ↔ (length (textIn b p n) < n)
-unfolding EndedIn
-ended-iff b p n = (
-  λ w. ⊎-elim (λ l. omega (arith, w .1)) (λ l. absurd (text-live b p n (w .0) l (w .2))) (le-or-lt (length (textIn b p n)) (w .0)),
-  λ h. (length (textIn b p n), h, text-end b p n h),
-)
-
 -- ---- at an address
 
 module _ (b : List ℕ) (r seg el : ℕ) where
@@ -119,6 +111,10 @@ module _ (b : List ℕ) (r seg el : ℕ) where
   pub room-some : Resolves 2 b r seg el → 0 < roomAt b r seg el
   unfolding roomAt
   room-some h = omega arith
+
+  pub room-within : Laid 2 b r → Resolves 2 b r seg el → placeOf 2 b r seg el + 2 * roomAt b r seg el ≤ endOf 2 b r
+  unfolding placeOf roomAt
+  room-within l h = omega (arith, l .used seg (h .seg-in), segment-end 2 b r seg (h .seg-in))
 
   pub room-fits : Laid 2 b r → Resolves 2 b r seg el → placeOf 2 b r seg el + 2 * roomAt b r seg el ≤ length b
   unfolding placeOf roomAt

@@ -1,4 +1,5 @@
 pub mod Laws
+pub mod Rule
 pub mod Walk
 pub mod Passed
 pub mod Words

@@ -3,16 +3,12 @@ use Prim.Native.Nat.{ℕ, suc, _+_, _-_, _*_, _%_, _^_, _≤_, _<_}
 use native.Mathlib.Omega.{arith}
 use mathlib.Core.Path.{_≡_, ap, sym, _∙_}
 use mathlib.Core.List.{List, [], _∷_}
-use borrow.Author.Tests.{ltb-true, ltb-false}
-use lib.Dec.{ltb}
 use lib.ListN.{length}
-use Rattle.verdict.specs.Checks.{Tells}
 use Rattle.hash.specs.Hash.{hashChar, hashOn}
 use Rattle.hash.specs.Fold.{folded, foldText, valueHashOf}
 use Rattle.text.specs.declared.Extent.{Extent}
 use Rattle.text.specs.Text.{textIn}
 use Rattle.text.specs.Measure.{MeasuredOn, ValueRun}
-use Rattle.text.proofs.Laws.{ended-iff}
 use Rattle.text.proofs.Walk.{textFrom, text-start, text-rest, text-over, hash-end, hash-next}
 
 pub fold-end : (xs : List ℕ) → xs ≡ [] → foldText xs ≡ []
@@ -73,12 +69,11 @@ module _ (b : List ℕ) (p n s : ℕ) where
         hashed = k .hashed ∙ hash-next _ _ _ _ _ (fold-next _ _ _ _ t f) (e .0);
       }
 
-  -- no text is left: it is measured, and a 0 ends it where characters are left
-  pub measured : (i h : ℕ) (r : Extent) → Passed b p n s i h → textFrom b p n i ≡ [] → Tells (i < n) (r .ended) → (r .length ≡ i) × (r .hash ≡ h)
+  -- no text is left: it is measured
+  pub measured : (i h : ℕ) (r : Extent) → Passed b p n s i h → textFrom b p n i ≡ [] → (r .length ≡ i) × (r .hash ≡ h)
       → MeasuredOn b p n s r
-  measured i h r k t w e =
+  measured i h r k t e =
       let m : length (textFrom b p n i) ≡ 0 = ap length t in record {
-        ended = record { so = λ q. let l = w .so q in ended-iff b p n .1 (omega arith); not = λ q f. w .not q (omega (arith, ended-iff b p n .0 f)) };
         long = omega arith;
         hashed = e .1 ∙ sym (k .hashed ∙ hash-end _ _ t);
       }
@@ -104,18 +99,14 @@ module _ (b : List ℕ) (p n s : ℕ) where
 
   -- what is left is measured from there on
   pub measured-rest : (i h : ℕ) (r q : Extent) → Passed b p n s i h → MeasuredOn b (p + 2 * i) (n - i) h r
-      → q ≡ record { ended = r .ended; length = i + r .length; hash = r .hash } → MeasuredOn b p n s q
+      → (q .length ≡ i + r .length) × (q .hash ≡ r .hash) → MeasuredOn b p n s q
   measured-rest i h r q k m e =
       let x : length (textIn b (p + 2 * i) (n - i)) ≡ length (textFrom b p n i) = ap length (text-rest b p n i) in
       let u = k .inside in
-      rw e (record {
-        ended = record {
-          so = λ q. let l = ended-iff b (p + 2 * i) (n - i) .0 (m .ended .so q) in ended-iff b p n .1 (omega (arith, k .long));
-          not = λ q f. let l = ended-iff b p n .0 f in m .ended .not q (ended-iff b (p + 2 * i) (n - i) .1 (omega (arith, k .long)));
-        };
-        long = omega (arith, k .long, m .long);
-        hashed = m .hashed ∙ ap (hashOn h) (text-rest b p n i) ∙ sym (k .hashed);
-      })
+      record {
+        long = omega (arith, e .0, k .long, m .long);
+        hashed = e .1 ∙ m .hashed ∙ ap (hashOn h) (text-rest b p n i) ∙ sym (k .hashed);
+      }
 
   pub value-rest : (i h r : ℕ) → PassedFolded b p n s i h → ValueRun b (p + 2 * i) (n - i) h r → ValueRun b p n s r
   value-rest i h r k v =
@@ -136,7 +127,3 @@ pub value-ended : (b : List ℕ) (p n s r h : ℕ) → ValueRun b p n s r → 16
 value-ended b p n s r h v l e =
     let z : r - 16384 ≡ hashOn s (foldText (textIn b p n)) = omega (arith, v .passed l .0) in
     e ∙ ap valueHashOf z
-
--- a test tells what it asks
-pub tells-lt : (i n : ℕ) → Tells (i < n) (ltb i n)
-tells-lt i n = record { so = ltb-true i n; not = λ q l. let m = ltb-false i n q in omega arith }

@@ -2,18 +2,16 @@
 use Prim.Native.Nat.{ℕ, _+_, _-_, _*_, _/_, _%_, _^_, _≤_, _<_}
 use native.Mathlib.Omega.{arith}
 use mathlib.Core.Path.{_≡_, refl, ap, sym, _∙_}
-use mathlib.Core.Bool.{true}
 use mathlib.Core.List.{List, [], _∷_}
 use lib.Bits.{bitAnd, and-mask}
 use lib.ListN.{getD}
-use Rattle.verdict.proofs.Laws.{tells-yes}
 use Rattle.le.specs.Le.{u16At, u32At}
 use Rattle.hash.specs.Hash.{hashChar, hashOn}
 use Rattle.hash.specs.Fold.{folded, FoldedPair, valueHashOf}
 use Rattle.hash.proofs.Laws.{char-lt}
 use Rattle.hash.proofs.Halves.{fold-one}
 use Rattle.text.specs.declared.Extent.{Extent}
-use Rattle.text.specs.Text.{chars, textIn}
+use Rattle.text.specs.Text.{chars}
 use Rattle.text.specs.Measure.{MeasuredOn, ValueRun}
 use Rattle.text.proofs.Laws.{chars-none, chars-more}
 use Rattle.text.proofs.Walk.{charsFrom, textFrom, chars-start, chars-rest, chars-next, text-shut, text-next, hash-end, hash-next}
@@ -60,20 +58,20 @@ module _ {b : List ℕ} {p n i c w : ℕ} (q : Two b p n i c w) where
       text-next b p n (i + 1) (w / 65536) (q .left) (q .high) (λ y. omega arith) ∙ ap (λ (m : ℕ). w / 65536 ∷ textFrom b p n m) d
 
   -- the text ends at the first of the two
-  pub measured-none : {s h : ℕ} {r : Extent} → Passed b p n s i h → c ≡ 0 → (r .ended ≡ true) × (r .length ≡ i) × (r .hash ≡ h) → MeasuredOn b p n s r
-  measured-none k z e = measured b p n _ i _ _ k (two-shut z) (rw (e .0) (tells-yes (omega (arith, q .left)))) (e .1, e .2)
+  pub measured-none : {s h : ℕ} {r : Extent} → Passed b p n s i h → c ≡ 0 → (r .length ≡ i) × (r .hash ≡ h) → MeasuredOn b p n s r
+  measured-none k z e = measured b p n _ i _ _ k (two-shut z) e
 
   pub value-none : {s h r : ℕ} → PassedFolded b p n s i h → c ≡ 0 → r ≡ valueHashOf h → ValueRun b p n s r
   value-none k z e = value-met b p n _ i _ _ k (two-shut z) (omega (arith, q .left)) e
 
   -- or at the second
   pub measured-one : {s h g : ℕ} {r : Extent} → Passed b p n s i h → (c ≡ 0 → ⊥) → w < 65536 → (g ≡ hashChar h w) × (g < 2 ^ 32)
-      → (r .ended ≡ true) × (r .length ≡ i + 1) × (r .hash ≡ g) → MeasuredOn b p n s r
+      → (r .length ≡ i + 1) × (r .hash ≡ g) → MeasuredOn b p n s r
   measured-one k y z e f =
       let d : w ≡ w % 65536 = omega arith in
       measured b p n _ (i + 1) _ _
       (passed-next b p n _ i (i + 1) _ _ _ k refl (omega (arith, q .left)) (two-first y) (e .0 ∙ ap (hashChar _) d, e .1))
-      (two-last z) (rw (f .0) (tells-yes (q .left))) (f .1, f .2)
+      (two-last z) f
 
   pub value-one : {s h x g r : ℕ} → PassedFolded b p n s i h → (c ≡ 0 → ⊥) → w < 65536 → FoldedPair w x → (g ≡ hashChar h x) × (g < 2 ^ 32)
       → r ≡ valueHashOf g → ValueRun b p n s r

@@ -1,4 +1,3 @@
 pub mod Text
 pub mod Zeros
 pub mod Measure
-pub mod Decisions

@@ -3,16 +3,14 @@ use Prim.Native.Nat.{ℕ, _+_, _*_, _^_, _≤_, _<_}
 use mathlib.Core.Path.{_≡_}
 use mathlib.Core.List.{List}
 use lib.ListN.{length}
-use Rattle.verdict.specs.Checks.{Tells}
 use Rattle.le.specs.Le.{u16At}
 use Rattle.hash.specs.Hash.{hashOn}
 use Rattle.hash.specs.Fold.{foldText, valueHashOf}
-use Rattle.text.specs.Text.{textIn, EndedIn}
+use Rattle.text.specs.Text.{textIn}
 use Rattle.text.specs.declared.Extent.{Extent}
 
--- Whether a 0 ends it, how many characters it has (the 0 not counted), and its hash, on from the hash h of what stands before it.
+-- How many characters it has (the 0 not counted), and its hash, on from the hash h of what stands before it.
 pub record MeasuredOn (b : List ℕ) (p n h : ℕ) (r : Extent) : Type 0 where
-  pub ended : Tells (EndedIn b p n) (r .ended)
   pub long : r .length ≡ length (textIn b p n)
   pub hashed : r .hash ≡ hashOn h (textIn b p n)
 

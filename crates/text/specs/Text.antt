@@ -1,10 +1,10 @@
--- Texts (FORMAT, "Texts"): the characters from an address up to the first 0 in the used part.
-use Prim.Native.Nat.{ℕ, zero, suc, _+_, _-_, _*_}
+-- Texts (FORMAT, "Texts"): the characters from an address up to the first 0 or the end of the used part, whichever is first.
+use Prim.Native.Nat.{ℕ, zero, suc, _+_, _-_, _*_, _≤_, _<_}
 use mathlib.Core.Path.{_≡_}
+use mathlib.Core.Logic.{_⊎_}
 use mathlib.Core.Bool.{cond}
 use mathlib.Core.List.{List, [], _∷_}
 use lib.Dec.{eqb}
-use Rattle.verdict.specs.Checks.{SomeBelow}
 use Rattle.le.specs.Le.{u16At}
 use Rattle.region.specs.Region.{placeOf, usedOf}
 
@@ -18,12 +18,16 @@ unfoldable pub upToZero : List ℕ → List ℕ
 upToZero [] = []
 upToZero (c ∷ cs) = cond (eqb c 0) [] (c ∷ upToZero cs)
 
--- Where a text ends: the text that starts at an offset with n characters of its used part left, and whether a 0 ends it.
+-- The text that starts at an offset with n characters of its used part left.
 unfoldable pub textIn : List ℕ → ℕ → ℕ → List ℕ
 textIn b p n = upToZero (chars b p n)
 
-unfoldable pub EndedIn : List ℕ → ℕ → ℕ → Type 0
-EndedIn b p n = SomeBelow n (λ i. u16At b (p + 2 * i) ≡ 0)
+-- The rule, of which textIn is the computation (proofs/Rule): the text at p has m characters. None of them is 0, and behind them is the end
+-- of the used part or a 0.
+pub record TextEnds (b : List ℕ) (p n m : ℕ) : Type 0 where
+  pub inside : m ≤ n
+  pub live : (i : ℕ) → i < m → u16At b (p + 2 * i) ≡ 0 → ⊥
+  pub ends : (m ≡ n) ⊎ (u16At b (p + 2 * m) ≡ 0)
 
 -- How many characters of its segment's used part are left at an address.
 unfoldable pub roomAt : List ℕ → ℕ → ℕ → ℕ → ℕ
@@ -32,7 +36,3 @@ roomAt b r seg el = usedOf 2 b r seg - el
 -- The text at an address of the character region r.
 unfoldable pub textAt : List ℕ → ℕ → ℕ → ℕ → List ℕ
 textAt b r seg el = textIn b (placeOf 2 b r seg el) (roomAt b r seg el)
-
--- There must be a 0.
-unfoldable pub EndedAt : List ℕ → ℕ → ℕ → ℕ → Type 0
-EndedAt b r seg el = EndedIn b (placeOf 2 b r seg el) (roomAt b r seg el)

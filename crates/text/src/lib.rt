@@ -1,6 +1,5 @@
 // Texts among the characters of a string table, and the texts that a caller asks with.
 ghost use mathlib.Core.Path.{_≡_};
-ghost use mathlib.Core.Bool.{true};
 ghost use Prim.Native.Nat.{_+_, _*_, _≤_, _<_, _^_};
 ghost use lib.ListN.{length};
 ghost use Rattle.verdict.specs.Checks.{Tells};
@@ -13,22 +12,16 @@ ghost use Rattle.text.specs.Measure.{MeasuredOn, Measured, ValueRun, Cha
 
 pub mod parts;
 
-// What is measured of a text: whether a 0 ends it, its characters, its hash.
+// What is measured of a text: its characters, its hash.
 pub struct Extent {
-    pub ended: bool,
     pub length: usize,
     pub hash: usize,
 }
 
-// A text that a 0 ends.
-fn ended(length: usize, hash: usize) -> Extent
-    ensures { λ r. ⌜ (r .ended ≡ true) × (r .length ≡ length) × (r .hash ≡ hash) ⌝ }
+fn measured(length: usize, hash: usize) -> Extent
+    ensures { λ r. ⌜ (r .length ≡ length) × (r .hash ≡ hash) ⌝ }
 {
-    Extent {
-        ended: true,
-        length,
-        hash,
-    }
+    Extent { length, hash }
 }
 
 // The text at offset p, of at most n characters: four in a step, while four are left.
@@ -41,27 +34,23 @@ pub fn measure(b: &[u8], t: &[u32; 2048], p: usize, n: usize) -> Extent
     while i + 3 < n {
         let v = le::u32_at(b, p + 2 * i);
         if v & 65535 == 0 {
-            return ended(i, h);
+            return measured(i, h);
         }
         if v < 65536 {
-            return ended(i + 1, hash::char_on(t, h, v));
+            return measured(i + 1, hash::char_on(t, h, v));
         }
         let w = le::u32_at(b, p + 2 * (i + 2));
         if w & 65535 == 0 {
-            return ended(i + 2, hash::pair_on(t, h, v));
+            return measured(i + 2, hash::pair_on(t, h, v));
         }
         if w < 65536 {
-            return ended(i + 3, hash::char_on(t, hash::pair_on(t, h, v), w));
+            return measured(i + 3, hash::char_on(t, hash::pair_on(t, h, v), w));
         }
         h = hash::quad_on(t, h, v, w);
         i += 4;
     }
     let few = measure_few(b, t, p + 2 * i, n - i, h);
-    Extent {
-        ended: few.ended,
-        length: i + few.length,
-        hash: few.hash,
-    }
+    measured(i + few.length, few.hash)
 }
 
 // The same by single characters, on from the hash h: where a segment ends, fewer than four are left.
@@ -74,11 +63,7 @@ fn measure_few(b: &[u8], t: &[u32; 2048], p: usize, n: usize, h: usize) -> Exten
     loop {
         let c = char_or_end(b, p, n, i);
         if c == 0 {
-            return Extent {
-                ended: i < n,
-                length: i,
-                hash: g,
-            };
+            return measured(i, g);
         }
         g = hash::char_on(t, g, c);
         i += 1;

@@ -23,7 +23,7 @@ alike-requires c κs =
     let p = c .before .before .before .before .before .before .before .before .before .before .pre in
     let e = c .before .before .before .before .before .before .entry-at .ensures .0 in
     let w = spotted _ _ _ _ e (c .before .before .before .spot-to .ensures) (p .0 .laid .characters) (c .before .a .given .1) in
-    let x = standing _ _ _ _ _ _ _ (p .2) (p .1) w (length-at _ _ _ _ _ e (c .before .before .before .before .before .u32-at .ensures .0)) (c .before .before .before .before .if1 .left) in
+    let x = standing _ _ _ _ _ _ _ (p .0 .laid) (p .2) (p .1) w (length-at _ _ _ _ _ e (c .before .before .before .before .before .u32-at .ensures .0)) (c .before .before .before .before .if1 .left) in
     (omega (arith, x .ends), p .3)
 
 returns-3 : tie.Need-returns-3
@@ -31,7 +31,7 @@ returns-3 c =
     let p = c .before .before .before .before .before .before .before .before .before .before .before .pre in
     let e = c .before .before .before .before .before .before .before .entry-at .ensures .0 in
     let w = spotted _ _ _ _ e (c .before .before .before .before .spot-to .ensures) (p .0 .laid .characters) (c .before .before .a .given .1) in
-    let x = standing _ _ _ _ _ _ _ (p .2) (p .1) w (length-at _ _ _ _ _ e (c .before .before .before .before .before .before .u32-at .ensures .0)) (c .before .before .before .before .before .if1 .left) in
+    let x = standing _ _ _ _ _ _ _ (p .0 .laid) (p .2) (p .1) w (length-at _ _ _ _ _ e (c .before .before .before .before .before .before .u32-at .ensures .0)) (c .before .before .before .before .before .if1 .left) in
     text-there _ _ _ _ _ _ x (c .alike .ensures)
 
 pub entry-bears-spec : {M : Type 1} → statement M

@@ -36,13 +36,13 @@ loop-holds c = passed-start _ _ _ _ (omega arith)
 returns : tie.Need-returns Inv-loop μ-loop
 returns c =
     let v = c .before .before in
-    measured-none (first v) (v .before .before .loop .inv) (c .before .if1 .taken) (c .ended .ensures)
+    measured-none (first v) (v .before .before .loop .inv) (c .before .if1 .taken) (c .measured .ensures)
 
 returns-2 : tie.Need-returns-2 Inv-loop μ-loop
 returns-2 c =
     let d = c .before .before in
     let v = d .before .before in
-    measured-one (first v) (v .before .before .loop .inv) (d .before .if1 .left) (d .if2 .taken) (c .before .char-on .ensures) (c .ended2 .ensures)
+    measured-one (first v) (v .before .before .loop .inv) (d .before .if1 .left) (d .if2 .taken) (c .before .char-on .ensures) (c .measured2 .ensures)
 
 returns-3 : tie.Need-returns-3 Inv-loop μ-loop
 returns-3 c =
@@ -50,7 +50,7 @@ returns-3 c =
     let w = d .before in
     let v = w .before .before .before in
     let k = passed-pair (first v) _ (v .before .before .loop .inv) (w .before .before .if1 .left) (w .before .if2 .left) refl (c .before .pair-on .ensures) in
-    measured-none (next w) k (d .if3 .taken) (c .ended3 .ensures)
+    measured-none (next w) k (d .if3 .taken) (c .measured3 .ensures)
 
 returns-4 : tie.Need-returns-4 Inv-loop μ-loop
 returns-4 c =
@@ -58,8 +58,8 @@ returns-4 c =
     let w = d .before .before in
     let v = w .before .before .before in
     let k = passed-pair (first v) _ (v .before .before .loop .inv) (w .before .before .if1 .left) (w .before .if2 .left) refl (c .before .before .pair-on2 .ensures) in
-    let e = c .ended4 .ensures in
-    measured-one (next w) k (d .before .if3 .left) (d .if4 .taken) (c .before .char-on2 .ensures) (e .0, omega arith, e .2)
+    let e = c .measured4 .ensures in
+    measured-one (next w) k (d .before .if3 .left) (d .if4 .taken) (c .before .char-on2 .ensures) (omega arith, e .1)
 
 loop-again : tie.Need-loop-again Inv-loop μ-loop
 loop-again c =
@@ -70,14 +70,14 @@ loop-again c =
     let k = passed-pair (first v) _ i (w .before .before .if1 .left) (w .before .if2 .left) refl (refl, char-lt _ _ (char-lt _ _ (i .small))) in
     passed-pair (next w) _ k (d .before .if3 .left) (d .if4 .left) (omega arith) (c .quad-on .ensures)
 
-add-t21 : tie.Need-add-t21 Inv-loop μ-loop
-add-t21 c =
+add-measured-4 : tie.Need-add-measured-4 Inv-loop μ-loop
+add-measured-4 c =
     let s = c .before .before .before .before .before .args in
     let i = c .before .before .before .loop .i in
-    record { fits = omega (arith, c .before .measure-few .ensures .long, text-length-le (s .b .now) (s .p + 2 * i) (s .n - i)) }
+    omega (arith, c .before .measure-few .ensures .long, text-length-le (s .b .now) (s .p + 2 * i) (s .n - i))
 
 returns-5 : tie.Need-returns-5 Inv-loop μ-loop
-returns-5 c = measured-rest _ _ _ _ _ _ _ _ (c .before .before .before .loop .inv) (c .before .measure-few .ensures) refl
+returns-5 c = measured-rest _ _ _ _ _ _ _ _ (c .before .before .before .before .loop .inv) (c .before .before .measure-few .ensures) (c .measured5 .ensures)
 
 pub measure-spec : {M : Type 1} → statement M
 measure-spec =
@@ -87,4 +87,4 @@ measure-spec =
     (λ c. search needs) (λ c. search needs) (λ c κs. search needs) (λ c. search needs) (λ c κs. search needs) (λ c κs. search needs)
     returns-3 (λ c. search needs) (λ c κs. search needs) (λ c κs. search needs) (λ c κs. search needs) returns-4
     (λ c κs. search needs) (λ c. search needs) (λ c. search needs) loop-again (λ c. search needs) (λ c. search needs)
-    (λ c. search needs) (λ c κs. search needs) add-t21 returns-5)
+    (λ c. search needs) (λ c κs. search needs) add-measured-4 (λ c κs. search needs) returns-5)

@@ -1,7 +1,7 @@
 use Prim.Native.Nat.{_-_}
 use mathlib.Core.Path.{refl}
 use Rattle.text.proofs.Walk.{char-end, char-in, char-next}
-use Rattle.text.proofs.Passed.{Passed, passed-start, passed-next, measured, tells-lt}
+use Rattle.text.proofs.Passed.{Passed, passed-start, passed-next, measured}
 use native.Mathlib.Omega.{arith}
 use borrow.Author.Needs.{needs}
 use Rattle.text.proofs.measure_few.Statement.{statement}
@@ -18,7 +18,7 @@ loop-holds c = passed-start _ _ _ _ (c .before .pre .2)
 
 returns : tie.Need-returns Inv-loop μ-loop
 returns c =
-    measured _ _ _ _ _ _ _ (c .before .before .loop .inv) (char-end _ _ _ _ _ (c .before .char-or-end .ensures) (c .if1 .taken)) (tells-lt _ _) (refl, refl)
+    measured _ _ _ _ _ _ _ (c .before .before .before .loop .inv) (char-end _ _ _ _ _ (c .before .before .char-or-end .ensures) (c .before .if1 .taken)) (c .measured .ensures)
 
 char-on-requires : tie.Need-char-on-requires Inv-loop μ-loop
 char-on-requires c κs = (c .before .before .before .before .pre .0, c .before .before .loop .inv .small, c .before .char-or-end .ensures .small)
@@ -38,4 +38,4 @@ loop-again c =
 pub measure-few-spec : {M : Type 1} → statement M
 measure-few-spec =
     tie.close
-    (tie.spec Inv-loop μ-loop loop-holds (λ c κs. search needs) returns char-on-requires add-i loop-less loop-again)
+    (tie.spec Inv-loop μ-loop loop-holds (λ c κs. search needs) (λ c κs. search needs) returns char-on-requires add-i loop-less loop-again)

@@ -18,7 +18,7 @@ spot-to-requires c κs = let p = c .before .before .before .before .pre in (p .0
 
 returns : tie.Need-returns
 returns c = let p = c .before .before .before .before .before .before .before .pre in
-    tells-no (λ e. unspotted _ _ _ _ (p .0 .0) _ (c .before .before .spot-to .ensures) (c .enum-told .given .1) (position-resolves _ (p .0 .1) _ (p .1 .0) (p .1 .1) .0))
+    tells-no (λ e. unspotted _ _ _ _ (p .0 .0) _ (c .before .before .spot-to .ensures) (c .enum-told .given .1) (position-resolves _ (p .0 .1) _ (p .1 .0) (p .1 .1)))
 
 bears-requires : tie.Need-bears-requires
 bears-requires c κs = let p = c .before .before .before .before .before .before .before .before .pre in

@@ -13,7 +13,7 @@ here c = here-in _ _ _ _ (c .before .before .before .bucket .ensures .1) (c .bef
 
 -- its text stands where it was located
 found : (c : tie.After-text-at) → let a = c .before .before .before .before .before .before .before .before .before .before .before .args in Standing (heldTable (a .b .now) (a .s) (a .starts .now)) (c .before .before .before .before .before .before .before .before .bucket .result) (a .low) (c .text-at .result) (a .n)
-found c = let p = c .before .before .before .before .before .before .before .before .before .before .before .pre in stands _ _ _ _ (p .1) (here (c .before .before .before .before .before)) (c .before .before .before .before .before .entry-at .ensures .0) _ (c .before .before .u32-at2 .ensures .0) (p .0 .laid .characters) _ _ (c .text-at .ensures) (c .before .if3 .left)
+found c = let p = c .before .before .before .before .before .before .before .before .before .before .before .pre in stands _ _ _ _ (p .1) (here (c .before .before .before .before .before)) (c .before .before .before .before .before .entry-at .ensures .0) _ (c .before .before .u32-at2 .ensures .0) (p .0 .laid) _ _ (c .text-at .ensures) (c .before .if3 .left)
 
 returns : tie.Need-returns
 returns c = let z = c .no-candidate .ensures in not-picked _ _ _ _ _ (c .before .before .before .before .before .before .pre .0 .laid) (z .0) (z .1)
@@ -38,7 +38,7 @@ returns-4 c =
     let p = c .before .before .before .before .before .before .before .before .before .before .before .before .pre in
     let z = found (c .before) .ends in (
       (omega arith, omega arith),
-      λ f. picked _ _ _ _ (p .1) (here (c .before .before .before .before .before .before)) (c .before .before .before .before .before .before .entry-at .ensures .0) _ (c .before .before .before .u32-at2 .ensures .0) (p .0 .laid .characters) _ _ (c .before .text-at .ensures) (c .before .before .if3 .left) _ _ (c .told-at .ensures),
+      λ f. picked _ _ _ _ (p .1) (here (c .before .before .before .before .before .before)) (c .before .before .before .before .before .before .entry-at .ensures .0) _ (c .before .before .before .u32-at2 .ensures .0) (p .0 .laid) _ _ (c .before .text-at .ensures) (c .before .before .if3 .left) _ _ (c .told-at .ensures),
     )
 
 pub pick-spec : {M : Type 1} → statement M

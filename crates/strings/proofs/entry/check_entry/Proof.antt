@@ -1,7 +1,6 @@
 use native.Mathlib.Omega.{arith}
 use borrow.Author.Needs.{needs}
-use borrow.Author.Tests.{not-true, not-false}
-use Rattle.strings.proofs.Checks.{measured-few, not-ended, not-long, not-hashed, delimited, text-right, refused-7, refused-8, refused-9}
+use Rattle.strings.proofs.Checks.{measured-few, not-long, not-hashed, sized, text-right, refused-7, refused-8, refused-9}
 use Rattle.strings.proofs.Glances.{stands-spot}
 use Rattle.strings.proofs.Places.{length-at, hash-at}
 use Rattle.strings.proofs.entry.check_entry.Statement.{statement}
@@ -15,50 +14,44 @@ measure-requires c κs =
     let w = stands-spot _ _ _ _ _ (c .before .before .before .before .before .pre .1 .laid .characters) (c .before .before .before .before .before .pre .4 .standing) (omega (arith, c .if1 .left)) in
     (c .before .before .before .before .before .pre .0, w .fits)
 
+add-if2 : tie.Need-add-if2
+add-if2 c =
+    let w = stands-spot _ _ _ _ _ (c .before .before .before .before .before .before .before .before .pre .1 .laid .characters) (c .before .before .before .before .before .before .before .before .pre .4 .standing) (omega (arith, c .before .before .before .if1 .left)) in
+    omega (arith, measured-few _ _ _ _ _ _ (c .before .before .measure .ensures) w)
+
 returns-2 : tie.Need-returns-2
 returns-2 c =
-    let w = stands-spot _ _ _ _ _ (c .before .before .before .before .before .before .before .before .pre .1 .laid .characters) (c .before .before .before .before .before .before .before .before .pre .4 .standing) (omega (arith, c .before .before .before .if1 .left)) in
-    refused-8 _ _ _ _ (c .before .before .before .before .before .entry-at .ensures .0) (w .resolved)
-    (not-ended _ _ _ _ _ _ (c .before .before .measure .ensures) w (not-true _ (c .if2 .taken)))
-
-add-if3 : tie.Need-add-if3
-add-if3 c =
-    let w = stands-spot _ _ _ _ _ (c .before .before .before .before .before .before .before .before .before .before .pre .1 .laid .characters) (c .before .before .before .before .before .before .before .before .before .before .pre .4 .standing) (omega (arith, c .before .before .before .before .before .if1 .left)) in
-    omega (arith, measured-few _ _ _ _ _ _ (c .before .before .before .before .measure .ensures) w)
+    let w = stands-spot _ _ _ _ _ (c .before .before .before .before .before .before .before .before .before .pre .1 .laid .characters) (c .before .before .before .before .before .before .before .before .before .pre .4 .standing) (omega (arith, c .before .before .before .before .if1 .left)) in
+    let q = c .before .before .before .before .before .before .entry-at .ensures .0 in
+    refused-8 _ _ _ _ q (w .resolved)
+    (not-long _ _ _ _ _ _ (c .before .before .before .measure .ensures) w _ (length-at _ _ _ _ _ q (c .before .before .u32-at .ensures .0)) (c .if2 .taken))
 
 returns-3 : tie.Need-returns-3
 returns-3 c =
-    let w = stands-spot _ _ _ _ _ (c .before .before .before .before .before .before .before .before .before .before .before .pre .1 .laid .characters) (c .before .before .before .before .before .before .before .before .before .before .before .pre .4 .standing) (omega (arith, c .before .before .before .before .before .before .if1 .left)) in
-    let q = c .before .before .before .before .before .before .before .before .entry-at .ensures .0 in
-    refused-8 _ _ _ _ q (w .resolved)
-    (not-long _ _ _ _ _ _ (c .before .before .before .before .before .measure .ensures) w _ (length-at _ _ _ _ _ q (c .before .before .u32-at .ensures .0)) (c .if3 .taken))
-
-returns-4 : tie.Need-returns-4
-returns-4 c =
-    let w = stands-spot _ _ _ _ _ (c .before .before .before .before .before .before .before .before .before .before .before .before .before .before .pre .1 .laid .characters) (c .before .before .before .before .before .before .before .before .before .before .before .before .before .before .pre .4 .standing) (omega (arith, c .before .before .before .before .before .before .before .before .before .if1 .left)) in
-    let q = c .before .before .before .before .before .before .before .before .before .before .before .entry-at .ensures .0 in
-    let m = c .before .before .before .before .before .before .before .before .measure .ensures in
+    let w = stands-spot _ _ _ _ _ (c .before .before .before .before .before .before .before .before .before .before .before .before .pre .1 .laid .characters) (c .before .before .before .before .before .before .before .before .before .before .before .before .pre .4 .standing) (omega (arith, c .before .before .before .before .before .before .before .if1 .left)) in
+    let q = c .before .before .before .before .before .before .before .before .before .entry-at .ensures .0 in
+    let m = c .before .before .before .before .before .before .measure .ensures in
     refused-9 _ _ _ _ q (w .resolved)
-    (delimited _ _ _ _ _ _ m w (not-false _ (c .before .before .before .before .before .before .if2 .left)) _ (length-at _ _ _ _ _ q (c .before .before .before .before .before .u32-at .ensures .0)) (c .before .before .before .if3 .left))
-    (not-hashed _ _ _ _ _ _ m w _ (hash-at _ _ _ _ _ q (c .before .before .u32-at2 .ensures .0)) (c .if4 .taken))
+    (sized _ _ _ _ _ _ m w _ (length-at _ _ _ _ _ q (c .before .before .before .before .before .u32-at .ensures .0)) (c .before .before .before .if2 .left))
+    (not-hashed _ _ _ _ _ _ m w _ (hash-at _ _ _ _ _ q (c .before .before .u32-at2 .ensures .0)) (c .if3 .taken))
 
 index-passes-requires : tie.Need-index-passes-requires
 index-passes-requires c κs =
-    let p = c .before .before .before .before .before .before .before .before .before .before .before .before .before .before .pre in
+    let p = c .before .before .before .before .before .before .before .before .before .before .before .before .pre in
     (p .1, p .2, p .5)
 
 check-order-requires : tie.Need-check-order-requires
 check-order-requires c κs =
-    let w = stands-spot _ _ _ _ _ (c .before .before .before .before .before .before .before .before .before .before .before .before .before .before .before .pre .1 .laid .characters) (c .before .before .before .before .before .before .before .before .before .before .before .before .before .before .before .pre .4 .standing) (omega (arith, c .before .before .before .before .before .before .before .before .before .before .if1 .left)) in
-    let q = c .before .before .before .before .before .before .before .before .before .before .before .before .entry-at .ensures .0 in
-    let p = c .before .before .before .before .before .before .before .before .before .before .before .before .before .before .before .pre in
+    let w = stands-spot _ _ _ _ _ (c .before .before .before .before .before .before .before .before .before .before .before .before .before .pre .1 .laid .characters) (c .before .before .before .before .before .before .before .before .before .before .before .before .before .pre .4 .standing) (omega (arith, c .before .before .before .before .before .before .before .before .if1 .left)) in
+    let q = c .before .before .before .before .before .before .before .before .before .before .entry-at .ensures .0 in
+    let p = c .before .before .before .before .before .before .before .before .before .before .before .before .before .pre in
     let r =
-    text-right _ _ _ _ _ _ (c .before .before .before .before .before .before .before .before .before .measure .ensures) w (not-false _ (c .before .before .before .before .before .before .before .if2 .left)) _ (length-at _ _ _ _ _ q (c .before .before .before .before .before .before .u32-at .ensures .0))
-    (c .before .before .before .before .if3 .left) _ (hash-at _ _ _ _ _ q (c .before .before .before .u32-at2 .ensures .0)) (c .before .if4 .left) in
+    text-right _ _ _ _ _ _ (c .before .before .before .before .before .before .before .measure .ensures) w _ (length-at _ _ _ _ _ q (c .before .before .before .before .before .before .u32-at .ensures .0))
+    (c .before .before .before .before .if2 .left) _ (hash-at _ _ _ _ _ q (c .before .before .before .u32-at2 .ensures .0)) (c .before .if3 .left) in
     (p .1, p .2, p .3, r, c .index-passes .ensures)
 
 pub check-entry-spec : {M : Type 1} → statement M
 check-entry-spec =
     tie.close
-    (tie.spec (λ c κs. search needs) returns measure-requires returns-2 (λ c. search needs) (λ c κs. search needs) add-if3 returns-3
-    (λ c κs. search needs) returns-4 index-passes-requires check-order-requires (λ c. search needs))
+    (tie.spec (λ c κs. search needs) returns measure-requires (λ c. search needs) (λ c κs. search needs) add-if2 returns-2
+    (λ c κs. search needs) returns-3 index-passes-requires check-order-requires (λ c. search needs))
