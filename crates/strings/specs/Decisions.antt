@@ -1,12 +1,11 @@
 -- How the rules of Rules.antt are decided: nothing to judge here, a decision is right by its type.
-use Prim.Native.Nat.{ℕ, _+_, _-_}
+use Prim.Native.Nat.{ℕ, _-_}
 use native.Mathlib.Decide.{ℕ-discrete, decLe, decLt}
 use mathlib.Core.Logic.{Dec·and, Dec·not}
-use lib.ListN.{length}
 use Rattle.verdict.specs.Decide.{someBelow?, decBy, texts?}
 use Rattle.hash.specs.Hash.{hashText, bucketOf}
 use Rattle.region.specs.Decisions.{resolves?}
-use Rattle.layout.specs.Table.{Table, entries, hashOf, lengthOf, indexOf, segmentOf, elementOf, count, listedSegment, listedElement}
+use Rattle.layout.specs.Table.{Table, entries, hashOf, indexOf, segmentOf, elementOf, count, listedSegment, listedElement}
 use Rattle.strings.specs.Texts.{textOf}
 use Rattle.strings.specs.Rules.{Resolved, Sized, Hashed, Placed, Indexed, Twin, Carried}
 
@@ -14,7 +13,7 @@ unfoldable pub resolved? : (t : Table) (k j : ℕ) → Dec (Resolved t k j)
 resolved? t k j = resolves? 2 (t .bytes) (t .at) (segmentOf t k j) (elementOf t k j)
 
 unfoldable pub sized? : (t : Table) (k j : ℕ) → Dec (Sized t k j)
-sized? t k j = ℕ-discrete (lengthOf t k j) (length (textOf t k j) + 1)
+sized? t k j = ℕ-discrete _ _
 
 unfoldable pub hashed? : (t : Table) (k j : ℕ) → Dec (Hashed t k j)
 hashed? t k j = ℕ-discrete (hashOf t k j) (hashText (textOf t k j))
