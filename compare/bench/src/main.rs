@@ -1,6 +1,7 @@
 //! The benchmark: both loaders on made files of 8, 64 and 256 MB, whose texts
 //! stand in the order of their first use, as builders write them; then the cost
-//! of a byte as files grow, on such files and on files whose texts are shuffled.
+//! of a byte as files grow, on such files, on files whose texts are shuffled, and on
+//! files in which the last text of each segment has no stored 0.
 //!
 //! Before each measurement the workspace is zeroed and every page of the file
 //! has been touched; the best of several rounds counts, in processor time of the
@@ -232,6 +233,7 @@ fn ordinary(most: usize) {
         ("texts in the order of their first use", Order::AsUsed, Size::Small),
         ("the same in huge pages", Order::AsUsed, Size::Huge),
         ("texts shuffled", Order::Shuffled, Size::Small),
+        ("the last text of a segment without its 0", Order::Dropped, Size::Small),
     ];
     for (title, order, pages) in cases {
         println!("acceptance of as many bytes in larger files, ns a byte, {title}:");

@@ -46,6 +46,35 @@ pub fn asks(rng: &mut Rng, case: &Case) -> Vec<Question> {
     all
 }
 
+/// Every question about every text and path of a small case. A refused file gets few.
+pub fn every(rng: &mut Rng, case: &Case) -> Vec<Question> {
+    let known = Known::of(&case.bytes);
+    if known.refused {
+        return asks(rng, case);
+    }
+    let mut all = vec![(Ask::Accept, 0), (Ask::Header, 0)];
+    all.extend([0, 1, 2].map(|less| (Ask::Outline, known.outline.saturating_sub(less))));
+    for which in [Which::Names, Which::Values] {
+        for text in table(case, which) {
+            let nearly = single_text(rng, case, which);
+            all.extend([to_bytes(text), nearly].map(|text| (Ask::Single(which, text), 0)));
+        }
+        let texts = whole_list(table(case, which));
+        let count = table(case, which).len();
+        all.extend([8 * count, 8 * count - 1].map(|out| (Ask::Batch(which, texts.clone()), out)));
+    }
+    for path in case.paths.iter().map(|names| whole_list(names)) {
+        let matches = match_count(case, &known, &path);
+        all.push((Ask::Path(path), 4 * matches));
+    }
+    let mut asked: Vec<Question> =
+        all.into_iter().map(|(ask, out)| question(rng, &known, ask, out)).collect();
+    // The workspace is another matter: here it is long enough.
+    asked.iter_mut().for_each(|question| question.workspace = known.used);
+    asked.push(question(rng, &known, Ask::Accept, 0));
+    asked
+}
+
 fn random_ask(rng: &mut Rng, case: &Case, known: &Known) -> Question {
     match rng.below(16) {
         0 | 1 => question(rng, known, Ask::Accept, 0),
@@ -168,13 +197,14 @@ fn single_text(rng: &mut Rng, case: &Case, which: Which) -> Vec<u8> {
     bytes
 }
 
-/// Texts each followed by a 0, sometimes ill formed.
+/// Texts each followed by a 0.
+fn whole_list(texts: &[Text]) -> Vec<u8> {
+    texts.iter().flat_map(|text| to_bytes(text).into_iter().chain([0, 0])).collect()
+}
+
+/// The same, sometimes ill formed.
 fn ended(rng: &mut Rng, texts: &[Text]) -> Vec<u8> {
-    let mut bytes = Vec::new();
-    for text in texts {
-        bytes.extend(to_bytes(text));
-        bytes.extend([0, 0]);
-    }
+    let mut bytes = whole_list(texts);
     match rng.below(16) {
         0 => bytes.push(0),
         1 => bytes.truncate(bytes.len().saturating_sub(1)),

@@ -64,6 +64,7 @@ fn trapped(rng: &mut Rng) -> Case {
     let classes = traps::of_any_size();
     let class = rng.pick(&classes);
     let mut model = class.make(rng.between(7_500, 16_000)).model;
+    model.drop_some(rng);
     let few = |table: &Table, rng: &mut Rng| -> Vec<Text> {
         (0..40.min(table.list.len())).map(|_| table.text(*rng.pick(&table.list))).collect()
     };
@@ -74,7 +75,7 @@ fn trapped(rng: &mut Rng) -> Case {
     if rng.one_in(2) {
         let all: Vec<_> = damage::all().filter(|damage| damage.aim > 6).collect();
         let damage = *rng.pick(&all);
-        if can_take(&model) && (damage.edit)(&mut model, rng) {
+        if can_take(&model) && damage.apply(&mut model, rng) {
             words = format!("{words}, damaged: {} ({})", damage.words, damage.aim);
         }
     }
@@ -94,7 +95,7 @@ fn damaged(rng: &mut Rng, most: usize) -> Case {
     chosen.sort_unstable_by(|a, b| b.cmp(a));
     for number in chosen {
         let damage = all[number];
-        if can_take(&model) && (damage.edit)(&mut model, rng) {
+        if can_take(&model) && damage.apply(&mut model, rng) {
             words = format!("{words} {} ({}),", damage.words, damage.aim);
         }
     }
@@ -105,12 +106,15 @@ fn damaged(rng: &mut Rng, most: usize) -> Case {
 
 /// Whether the nodes and tables still hang together well enough to be edited
 /// further without a look at every step.
-fn can_take(model: &Model) -> bool {
+pub fn can_take(model: &Model) -> bool {
     let table = |table: &Table| {
         table.buckets.iter().flat_map(|bucket| &bucket.entries).all(|entry| {
             let segment = table.chars.segments.get(entry.address.0 as usize);
             let used = segment.map_or(0, |segment| segment.used.len() as u64);
-            entry.length > 0 && entry.address.1 as u64 + entry.length as u64 <= used
+            // The 0 that the length counts may be left off.
+            let (first, end) =
+                (entry.address.1 as u64, entry.address.1 as u64 + entry.length as u64);
+            entry.length > 0 && first < used && end <= used + 1
         }) && table.list.iter().all(|&address| table.chars.get(address).is_some())
     };
     let whole = |node: &maker::model::Node| {
@@ -136,7 +140,7 @@ fn cut(rng: &mut Rng, most: usize) -> Case {
     // A wrong count just before the cut: which of the two comes first matters.
     if rng.one_in(3) {
         let counts: Vec<_> = damage::all().filter(|damage| damage.aim == 5).collect();
-        (rng.pick(&counts).edit)(&mut made.model, rng);
+        rng.pick(&counts).apply(&mut made.model, rng);
     }
     let (mut bytes, places) = made.model.write();
     let length = match rng.below(4) {

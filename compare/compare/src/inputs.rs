@@ -3,10 +3,11 @@
 use maker::rich::rich;
 use maker::rng::Rng;
 use maker::samples;
-use maker::shapes::{long_segment, smallest, Part};
+use maker::shapes::{long_segment, smallest, smallest_stored, Part};
 use second::program::{to_frames, FILE_BYTES};
 
 use crate::case::random;
+use crate::directed;
 
 /// A file as lines of random lengths.
 fn uneven_frames(rng: &mut Rng, file: &[u8]) -> Vec<u8> {
@@ -26,43 +27,57 @@ fn uneven_frames(rng: &mut Rng, file: &[u8]) -> Vec<u8> {
 
 /// The smallest file with slack enough to be `length` bytes long, which is even.
 fn stretched(length: usize) -> Vec<u8> {
-    let slack = (length - 6_334 - 8) / 2;
+    let slack = (length - 6_332 - 8) / 2;
     let mut bytes = long_segment(Part::ValueChars, slack).model.bytes();
     bytes.truncate(length);
     bytes
 }
 
+/// Lines with something to say by themselves.
+const LINES: [&[u8]; 19] = [
+    b"\n",
+    b"00000000 06",
+    b"00000000 06\n\n",
+    b"00000000 \n",
+    b"00000000\n",
+    b"00000000",
+    b"00000001 06\n",
+    b"00000000 06\n00000001 00\n00000002 0\n",
+    b"00000000 06\r\n",
+    b"00000000  06\n",
+    b"00000000\t06\n",
+    b"0000000 06\n",
+    b"000000000 06\n",
+    b"00000000 0A\n",
+    b"00000000 06 \n",
+    b" 00000000 06\n",
+    b"00000000 06\0\n",
+    b"ffffffff 06\n",
+    b"100000000 06\n",
+];
+
+/// Of the files whose texts end with the used part, one in so many.
+const ENDS: usize = 16;
+
+/// Files that have to come as they are: the smallest with its last 0 and without, a byte
+/// less and a byte more; texts that end with the used part; and the samples.
+fn files() -> Vec<Vec<u8>> {
+    let mut all = vec![Vec::new(), stretched(FILE_BYTES)];
+    for file in [smallest(), smallest_stored()].map(|made| made.model.bytes()) {
+        all.push(file[..file.len() - 1].to_vec());
+        all.push([&file[..], &[0]].concat());
+        all.push(file);
+    }
+    all.extend(directed::cases(1).step_by(ENDS).map(|case| case.bytes));
+    all.extend(samples::all().into_iter().map(|sample| sample.bytes));
+    all.retain(|file| file.len() <= FILE_BYTES);
+    all
+}
+
 /// Inputs with something to say by themselves.
 pub fn fixed() -> Vec<Vec<u8>> {
-    let small = smallest().model.bytes();
-    let mut longer = small.clone();
-    longer.push(0);
-    let mut all = vec![
-        Vec::new(),
-        to_frames(&small),
-        to_frames(&small[..small.len() - 1]),
-        to_frames(&longer),
-        to_frames(&stretched(FILE_BYTES)),
-        b"\n".to_vec(),
-        b"00000000 06".to_vec(),
-        b"00000000 06\n\n".to_vec(),
-        b"00000000 \n".to_vec(),
-        b"00000000\n".to_vec(),
-        b"00000000".to_vec(),
-        b"00000001 06\n".to_vec(),
-        b"00000000 06\n00000001 00\n00000002 0\n".to_vec(),
-        b"00000000 06\r\n".to_vec(),
-        b"00000000  06\n".to_vec(),
-        b"00000000\t06\n".to_vec(),
-        b"0000000 06\n".to_vec(),
-        b"000000000 06\n".to_vec(),
-        b"00000000 0A\n".to_vec(),
-        b"00000000 06 \n".to_vec(),
-        b" 00000000 06\n".to_vec(),
-        b"00000000 06\0\n".to_vec(),
-        b"ffffffff 06\n".to_vec(),
-        b"100000000 06\n".to_vec(),
-    ];
+    let mut all: Vec<Vec<u8>> = files().iter().map(|file| to_frames(file)).collect();
+    all.extend(LINES.map(<[u8]>::to_vec));
     all.extend([31, 32, 33, 64].map(|count| {
         let digits = "00".repeat(count);
         format!("00000000 {digits}\n").into_bytes()
@@ -75,9 +90,6 @@ pub fn fixed() -> Vec<Vec<u8>> {
     let mut over = to_frames(&vec![6; FILE_BYTES - 1]);
     over.extend(b"00007fff 0000\n");
     all.push(over);
-    for sample in samples::all() {
-        all.push(to_frames(&sample.bytes));
-    }
     all
 }
 

@@ -2,6 +2,7 @@
 
 pub mod asks;
 pub mod case;
+pub mod directed;
 pub mod guard;
 pub mod hashes;
 pub mod inputs;
@@ -18,17 +19,19 @@ pub mod tally;
 pub mod texts;
 
 use loader::{Loader, Second};
-use second::{Careful, Marked, Right};
+use second::{Careful, Literal, Marked, Right};
 
 /// The loaders that the plain second one is compared with.
 pub fn others() -> Vec<Box<dyn Loader>> {
-    let indexed: Second<Right, Marked> =
-        Second::new("second, indexed, with hashes by definition", Right).hashing_by_definition();
+    let indexed: Second<Right, Marked> = Second::new("second, indexed", Right);
     let careful: Second<Right, Careful> = Second::new("second, careful from the start", Right);
-    #[cfg(feature = "rattle")]
-    let others: Vec<Box<dyn Loader>> =
-        vec![Box::new(rattle::Rattle::default()), Box::new(indexed), Box::new(careful)];
-    #[cfg(not(feature = "rattle"))]
-    let others: Vec<Box<dyn Loader>> = vec![Box::new(indexed), Box::new(careful)];
-    others
+    let literal: Second<Literal, Marked> =
+        Second::new("second, with texts and hashes by definition", Literal);
+    vec![
+        #[cfg(feature = "rattle")]
+        Box::new(rattle::Rattle::default()),
+        Box::new(indexed),
+        Box::new(careful),
+        Box::new(literal),
+    ]
 }

@@ -1,7 +1,6 @@
 //! One trait for every loader that is compared.
 
-use second::hashes::by_definition;
-use second::{Answer, HeaderReport, Index, Reading, Right, Which};
+use second::{Answer, HeaderReport, Index, Reading, Which};
 
 pub trait Loader {
     fn title(&self) -> String;
@@ -31,20 +30,11 @@ pub trait Loader {
 pub struct Second<R, I> {
     title: String,
     loader: second::Loader<R, I>,
-    by_definition: bool,
 }
 
 impl<R: Reading, I: Index> Second<R, I> {
     pub fn new(title: &str, reading: R) -> Second<R, I> {
-        let loader = second::Loader::new(reading);
-        Second { title: title.to_string(), loader, by_definition: false }
-    }
-}
-
-impl<I: Index> Second<Right, I> {
-    /// The same, whose hashes go a byte at a time by the words of document 01.
-    pub fn hashing_by_definition(self) -> Self {
-        Second { by_definition: true, ..self }
+        Second { title: title.to_string(), loader: second::Loader::new(reading) }
     }
 }
 
@@ -85,17 +75,10 @@ impl<R: Reading, I: Index> Loader for Second<R, I> {
     }
 
     fn hash(&self, start: u32, text: &[u8]) -> u32 {
-        match self.by_definition {
-            true => by_definition::hash(start, text),
-            false => self.loader.hash(start, text),
-        }
+        self.loader.hash(start, text)
     }
 
     fn value_hash(&self, text: &[u8]) -> u32 {
-        let hash = match self.by_definition {
-            true => by_definition::value_hash(text),
-            false => self.loader.value_hash(text),
-        };
-        hash as u32
+        self.loader.value_hash(text) as u32
     }
 }

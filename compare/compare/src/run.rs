@@ -7,13 +7,14 @@ use maker::rng::Rng;
 use second::hashes::folded;
 use second::{Plain, Right};
 
-use crate::asks::asks;
+use crate::asks::{asks, every};
 use crate::case::{random, Case};
+use crate::directed;
 use crate::guard::Edge;
 use crate::hashes::{self, HashAsk, HashQuestion};
 use crate::lengths;
 use crate::loader::{Loader, Second};
-use crate::question::{Ask, Pages, Question};
+use crate::question::{Ask, Pages, Question, Reply};
 use crate::sparse::Largest;
 use crate::sweep::{changed_bytes, changed_words, cut_counts, cuts, limits};
 use crate::tally::{describe, describe_hash, Tally};
@@ -24,6 +25,10 @@ const FILES_A_TEXT: u64 = 16;
 const TEXTS: usize = 2;
 /// Pairs of texts with one value hash.
 const PAIRS: usize = 40;
+
+/// Acceptance without a workspace.
+pub const PLAIN: Question =
+    Question { ask: Ask::Accept, workspace: 0, out: 0, fill: 1, edge: Edge::End, null: false };
 
 #[derive(Clone)]
 pub struct Plan {
@@ -61,9 +66,11 @@ impl Run {
         let started = Instant::now();
         let mut rng = Rng::new(self.plan.seed);
         self.texts(&mut rng.clone());
+        self.smallest();
         if self.plan.full {
             self.largest();
             self.every_length(&mut rng);
+            self.directed(&mut rng);
             for make in limits() {
                 let case = make(&mut rng);
                 self.case(&mut rng, &case);
@@ -94,8 +101,11 @@ impl Run {
     }
 
     fn case(&mut self, rng: &mut Rng, case: &Case) {
+        self.questions(case, &asks(rng, case));
+    }
+
+    fn questions(&mut self, case: &Case, questions: &[Question]) {
         self.tally.files += 1;
-        let questions = asks(rng, case);
         for edge in [Edge::End, Edge::Start] {
             self.pages.put_file(&case.bytes, edge);
             for question in questions.iter().filter(|question| question.edge == edge) {
@@ -115,6 +125,34 @@ impl Run {
                 let words = describe(case, question, right.as_ref(), outcome.as_ref());
                 let kept = ("difference.dc", &case.bytes[..]);
                 differs(&mut self.tally, &self.plan, &other.title(), &words, kept);
+            }
+        }
+    }
+
+    /// Files whose texts end with the used part.
+    fn directed(&mut self, rng: &mut Rng) {
+        for case in directed::cases(self.plan.seed) {
+            let before = self.tally.questions;
+            self.questions(&case, &every(rng, &case));
+            self.tally.directed += 1;
+            self.tally.of_directed += self.tally.questions - before;
+        }
+    }
+
+    /// The smallest file: its answers are told by the papers.
+    fn smallest(&mut self) {
+        for (case, told) in directed::fixed() {
+            let question = Question { workspace: 1, ..PLAIN };
+            self.questions(&case, std::slice::from_ref(&question));
+            self.pages.put_file(&case.bytes, question.edge);
+            let answer = self.pages.ask_put(&self.right, &case.bytes, &question);
+            if answer.as_ref().map(|outcome| outcome.reply) != Some(Reply::Answer(told)) {
+                let words = format!(
+                    "told: {told:?}\n{}",
+                    describe(&case, &question, answer.as_ref(), None)
+                );
+                let kept = ("difference.dc", &case.bytes[..]);
+                differs(&mut self.tally, &self.plan, "the papers", &words, kept);
             }
         }
     }
@@ -195,14 +233,7 @@ impl Run {
     fn largest(&mut self) {
         let mut largest = Largest::new();
         for (more, workspace) in [(0, 1), (0, 0), (1, 1), (1, 0)] {
-            let question = Question {
-                ask: Ask::Accept,
-                workspace,
-                out: 0,
-                fill: 1,
-                edge: Edge::End,
-                null: false,
-            };
+            let question = Question { workspace, ..PLAIN };
             let file = largest.bytes(more);
             let right = self.pages.ask(&self.right, file, &question);
             self.tally.count(&right);

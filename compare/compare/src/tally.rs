@@ -11,6 +11,9 @@ use crate::question::{Outcome, Question};
 pub struct Tally {
     pub files: u64,
     pub questions: u64,
+    /// Files with texts that end with the used part, and questions about them.
+    pub directed: u64,
+    pub of_directed: u64,
     /// How often each refusal was answered; 0 is answered without one.
     pub refusals: [u64; 27],
     /// Questions for the hashes of a text by itself.
@@ -41,6 +44,7 @@ impl fmt::Display for Tally {
     fn fmt(&self, out: &mut fmt::Formatter) -> fmt::Result {
         writeln!(out, "files:       {}", self.files)?;
         writeln!(out, "questions:   {}", self.questions)?;
+        writeln!(out, "directed:    {}, questions {}", self.directed, self.of_directed)?;
         writeln!(out, "answered:    {}", self.refusals[0])?;
         for (number, count) in self.refusals.iter().enumerate().skip(1) {
             writeln!(out, "refusal {number:2}:  {count}")?;

@@ -5,9 +5,11 @@
 //!
 //! A builder that goes over the tree once adds each text where it is first
 //! used, so that texts stand in that order. Shuffled files, whose texts stand
-//! anywhere, show what is lost where one does not.
+//! anywhere, show what is lost where one does not. In files with dropped 0s texts
+//! stand as in the first ones, but the last of each segment has no stored 0.
 
 use crate::attributes::text_attribute;
+use crate::dropped::drop_all;
 use crate::model::{Addr, Attr, Model, Node, Region, Segment};
 use crate::rich::index_of;
 use crate::rng::Rng;
@@ -31,10 +33,12 @@ const NAMES: usize = 2_000;
 const LEVELS: [(usize, usize); 4] = [(1, 120), (200, 300), (600, 300), (1_000, 200)];
 
 /// Where texts stand.
-#[derive(Clone, Copy, PartialEq, Eq)]
+#[derive(Clone, Copy, Debug, PartialEq, Eq)]
 pub enum Order {
     AsUsed,
     Shuffled,
+    /// As they are used, and the last of each segment without its stored 0.
+    Dropped,
 }
 
 /// About how many elements go into a segment of each region.
@@ -58,10 +62,12 @@ pub struct Built {
 
 pub fn large(megabytes: usize, order: Order) -> Large {
     let mut built = build(megabytes, order, FULL_SEGMENTS);
-    fill_up(&mut built.model.values.chars);
-    fill_up(&mut built.model.names.chars);
-    fill_up(&mut built.model.nodes);
-    fill_up(&mut built.model.attributes);
+    // Whoever reads past the used part to find a 0 finds none at once.
+    let behind = if order == Order::Dropped { 0x2e } else { 0 };
+    fill_up(&mut built.model.values.chars, behind);
+    fill_up(&mut built.model.names.chars, behind);
+    fill_up(&mut built.model.nodes, Node::default());
+    fill_up(&mut built.model.attributes, Attr::default());
     let Built { model, names, values, nodes, attributes } = built;
     Large { bytes: model.bytes(), names, values, nodes, attributes }
 }
@@ -77,23 +83,21 @@ pub fn build(megabytes: usize, order: Order, lengths: Lengths) -> Built {
     let mut attributes = Packed::new(lengths.attributes);
     let mut nodes = Packed::new(lengths.nodes);
     grow(&mut rng, node_goal, index_of(&names, "__root__"), &mut nodes, |rng| {
-        let count = rng.between(2, 7);
-        let first = rng.between(1, NAMES - 120);
-        let run: Vec<Attr> = (0..count)
-            .map(|i| {
-                let name = (first + i * 15 + rng.below(15)) as u16;
-                attribute(rng, name, value_goal)
-            })
-            .collect();
-        (attributes.block(run), count as u16)
+        let run = run(rng, value_goal);
+        let count = run.len() as u16;
+        (attributes.block(run), count)
     });
-    if order == Order::AsUsed {
+    let in_order = order != Order::Shuffled;
+    if in_order {
         by_first_use(&mut values, &mut attributes.region);
     }
-    let in_order = order == Order::AsUsed;
     let style = Style { segment: lengths.characters, untidy: false, share: false, in_order };
-    let value_table = table(&mut rng, &values, 1024, style);
-    let name_table = table(&mut rng, &names, 512, style);
+    let mut value_table = table(&mut rng, &values, 1024, style);
+    let mut name_table = table(&mut rng, &names, 512, style);
+    if order == Order::Dropped {
+        drop_all(&mut value_table);
+        drop_all(&mut name_table);
+    }
     for attribute in text_attributes(&mut attributes.region) {
         let value = attribute.word as usize;
         *attribute = text_attribute(attribute.name, &values[value], value_table.list[value]);
@@ -123,6 +127,19 @@ fn value_words(rng: &mut Rng, number: usize) -> String {
         made += *rng.pick(&words);
     }
     made
+}
+
+/// The attributes of a node.
+fn run(rng: &mut Rng, values: usize) -> Vec<Attr> {
+    let count = rng.between(2, 7);
+    let first = rng.between(1, NAMES - 120);
+    let name = |i: usize, rng: &mut Rng| (first + i * 15 + rng.below(15)) as u16;
+    (0..count)
+        .map(|i| {
+            let name = name(i, rng);
+            attribute(rng, name, values)
+        })
+        .collect()
 }
 
 /// Two in five are texts; some are used much more often than others, as in real
@@ -193,10 +210,10 @@ impl<T: Clone + Default> Packed<T> {
 
 /// A full segment keeps what no block fitted into; the last is no longer than
 /// what is used, so that files of all sizes are equally full.
-fn fill_up<T: Clone + Default>(region: &mut Region<T>) {
+fn fill_up<T: Clone>(region: &mut Region<T>, with: T) {
     if let Some((_, full)) = region.segments.split_last_mut() {
         for segment in full {
-            segment.slack.resize(FULL - segment.used.len(), T::default());
+            segment.slack.resize(FULL - segment.used.len(), with.clone());
         }
     }
 }
@@ -246,7 +263,7 @@ mod tests {
 
     #[test]
     fn large_files_are_accepted() {
-        for order in [Order::AsUsed, Order::Shuffled] {
+        for order in [Order::AsUsed, Order::Shuffled, Order::Dropped] {
             let made = large(2, order);
             let mut workspace = vec![0; made.nodes];
             let plain: Loader<Right, Plain> = Loader::new(Right);
@@ -254,5 +271,13 @@ mod tests {
             assert_eq!(plain.accept(&made.bytes, &mut workspace).refusal, 0);
             assert_eq!(marked.accept(&made.bytes, &mut workspace).refusal, 0);
         }
+    }
+
+    #[test]
+    fn dropped_files_store_no_last_0() {
+        let model = build(2, Order::Dropped, FULL_SEGMENTS).model;
+        let segments = model.values.chars.segments.iter().chain(&model.names.chars.segments);
+        assert!(segments.clone().count() > 4);
+        assert!(segments.into_iter().all(|segment| segment.used.last().is_some_and(|&c| c != 0)));
     }
 }

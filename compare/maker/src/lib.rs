@@ -4,6 +4,8 @@
 pub mod attributes;
 pub mod collide;
 pub mod damage;
+pub mod dropped;
+pub mod ends;
 pub mod large;
 pub mod model;
 pub mod rich;

@@ -1,6 +1,6 @@
 //! Writes made files: `maker samples DIRECTORY`, `maker large MEGABYTES FILE`,
-//! with the word `shuffled` behind it for texts that stand anywhere, or
-//! `maker trap NAME KILOBYTES FILE`.
+//! with the word `shuffled` behind it for texts that stand anywhere or `dropped` for
+//! segments whose last text has no stored 0, or `maker trap NAME KILOBYTES FILE`.
 
 use std::path::Path;
 use std::process::ExitCode;
@@ -21,6 +21,7 @@ fn run(words: &[&str]) -> std::io::Result<bool> {
             let order = match rest {
                 [] => Order::AsUsed,
                 ["shuffled"] => Order::Shuffled,
+                ["dropped"] => Order::Dropped,
                 _ => return Ok(false),
             };
             let Ok(megabytes) = megabytes.parse() else {
@@ -51,7 +52,7 @@ fn main() -> ExitCode {
     match run(&words) {
         Ok(true) => ExitCode::SUCCESS,
         Ok(false) => {
-            eprintln!("maker samples DIRECTORY | maker large MEGABYTES FILE [shuffled]");
+            eprintln!("maker samples DIRECTORY | maker large MEGABYTES FILE [shuffled|dropped]");
             eprintln!("maker trap NAME KILOBYTES FILE, with the names of `bench traps`");
             ExitCode::from(2)
         }

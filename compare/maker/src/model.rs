@@ -97,11 +97,35 @@ impl Table {
         buckets.flat_map(|(b, bucket)| (0..bucket.entries.len()).map(move |e| (b, e))).collect()
     }
 
-    /// The characters from a list position's address up to the next 0.
+    /// The entry of an address that has one, by its bucket and number.
+    pub fn entry_of(&self, address: Addr) -> (usize, usize) {
+        let is_it = |&(b, e): &(usize, usize)| self.buckets[b].entries[e].address == address;
+        self.entries().into_iter().find(is_it).expect("the address is an entry's")
+    }
+
+    /// The text at an address: the characters up to the next 0 or to the end of the used
+    /// part. Empty where the address does not resolve.
     pub fn text(&self, address: Addr) -> Vec<u16> {
         let segment = self.chars.segments.get(address.0 as usize);
         let used = segment.and_then(|segment| segment.used.get(address.1 as usize..));
         used.unwrap_or(&[]).iter().copied().take_while(|&character| character != 0).collect()
+    }
+
+    /// Puts a text at the end of the last segment.
+    pub fn append(&mut self, text: &[u16]) -> Addr {
+        if self.chars.segments.is_empty() {
+            self.chars.segments.push(Segment::default());
+        }
+        let number = self.chars.segments.len() - 1;
+        let used = &mut self.chars.segments[number].used;
+        // The last text there may have no stored 0.
+        if used.last().is_some_and(|&character| character != 0) {
+            used.push(0);
+        }
+        let address = (number as u16, used.len() as u16);
+        used.extend_from_slice(text);
+        used.push(0);
+        address
     }
 }
 

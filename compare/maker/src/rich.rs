@@ -2,8 +2,10 @@
 
 use crate::attributes::{garbage, Runs, Stock};
 use crate::collide::{hash_in_bucket, twin, with_hash};
-use crate::model::{Model, Node};
+use crate::dropped::drop_some;
+use crate::model::{Model, Node, Region, Table};
 use crate::rng::Rng;
+use crate::shapes::smallest;
 use crate::table::{table, Style};
 use crate::text::{every_odd, letters, random, text, Text};
 use crate::tree::Tree;
@@ -95,15 +97,23 @@ const TIMESTAMPS: [u64; 8] = [
     0x8000_0000_0000_0000,
 ];
 
+/// A table of texts, some of which may have no stored 0.
+fn strings(rng: &mut Rng, texts: &[Text], buckets: usize) -> Table {
+    let style = style(rng);
+    let mut made = table(rng, texts, buckets, style);
+    if !rng.one_in(4) {
+        drop_some(rng, &mut made);
+    }
+    made
+}
+
 /// A file of up to `most` nodes.
 pub fn rich(rng: &mut Rng, most: usize) -> Made {
     let (name_count, value_count) = (rng.between(0, 24), rng.between(0, 24));
     let plain_names = texts(rng, name_count, 512);
     let names = with_special(rng, plain_names);
     let values = texts(rng, value_count, 1024);
-    let (name_style, value_style) = (style(rng), style(rng));
-    let name_table = table(rng, &names, 512, name_style);
-    let value_table = table(rng, &values, 1024, value_style);
+    let (name_table, value_table) = (strings(rng, &names, 512), strings(rng, &values, 1024));
     let value_name = index_of(&names, "__value__");
     let keys = keys(rng, names.len() as u16, value_name);
     let stock = Stock {
@@ -116,40 +126,24 @@ pub fn rich(rng: &mut Rng, most: usize) -> Made {
     let run_list = (0..rng.below(20)).map(|_| stock.run(rng, 8)).collect();
     let run_segment = rng.between(8, 60);
     let mut runs = Runs::place(rng, run_list, run_segment, untidy);
-    let mut tree = Tree::default();
-    tree.add(Node {
-        name: index_of(&names, "__root__"),
-        attr_addr: (rng.half(), rng.half()),
-        child_addr: (rng.half(), rng.half()),
-        ..Node::default()
-    });
     let mut fields = |rng: &mut Rng| node_fields(rng, names.len(), keys.len(), &runs);
-    grow(rng, &mut tree, most, &mut fields);
-    tree.sort_children();
+    let tree = tree(rng, index_of(&names, "__root__"), most, &mut fields);
     let node_segment = rng.between(4, 100);
     let mut nodes = tree.place(rng, node_segment, untidy);
     if untidy {
-        for segment in &mut nodes.segments {
-            segment.slack = (0..rng.below(4)).map(|_| fields(rng)).collect();
-        }
-        for segment in &mut runs.region.segments {
-            segment.slack = (0..rng.below(4)).map(|_| garbage(rng)).collect();
-        }
+        slacken(rng, &mut nodes, fields);
+        slacken(rng, &mut runs.region, garbage);
     }
     let timestamp = if rng.one_in(2) { *rng.pick(&TIMESTAMPS) } else { rng.draw() };
     let model = Model {
-        version: 6,
         timestamp,
         revision: rng.word(),
-        zeros: [0; 4],
         keys,
-        key_count_is: None,
         attributes: runs.region,
         nodes,
         values: value_table,
         names: name_table,
-        footer: 0,
-        tail: Vec::new(),
+        ..smallest().model
     };
     Made { model, names, values, tree }
 }
@@ -197,6 +191,27 @@ fn node_fields(rng: &mut Rng, names: usize, keys: usize, runs: &Runs) -> Node {
     node.attrs = count;
     node.children = 0;
     node
+}
+
+/// Puts elements behind the used parts.
+fn slacken<T>(rng: &mut Rng, region: &mut Region<T>, mut element: impl FnMut(&mut Rng) -> T) {
+    for segment in &mut region.segments {
+        segment.slack = (0..rng.below(4)).map(|_| element(rng)).collect();
+    }
+}
+
+/// A tree below a root of this name.
+fn tree(rng: &mut Rng, root: u16, most: usize, fields: &mut impl FnMut(&mut Rng) -> Node) -> Tree {
+    let mut tree = Tree::default();
+    tree.add(Node {
+        name: root,
+        attr_addr: (rng.half(), rng.half()),
+        child_addr: (rng.half(), rng.half()),
+        ..Node::default()
+    });
+    grow(rng, &mut tree, most, fields);
+    tree.sort_children();
+    tree
 }
 
 /// Grows a tree of one shape or another, and orphans beside it.

@@ -1,6 +1,7 @@
 //! Files of one exact shape: the smallest, chains, wide nodes and limits.
 
 use crate::attributes::{Runs, Stock};
+use crate::dropped::drop_all;
 use crate::model::{Model, Node, Region, Segment, Table};
 use crate::rich::{index_of, with_special, Made};
 use crate::rng::Rng;
@@ -35,9 +36,24 @@ pub fn tidy(rng: &mut Rng, names: Vec<Text>, values: Vec<Text>, mut tree: Tree) 
     Made { model, names: all, values, tree }
 }
 
-/// One zero key, no attribute segments, one node, no values, two names.
+/// One zero key, no attribute segments, one node, no values, two names, of which the
+/// last has no stored 0.
 pub fn smallest() -> Made {
+    let mut made = smallest_stored();
+    drop_all(&mut made.model.names);
+    made
+}
+
+/// The same with its last 0 stored.
+pub fn smallest_stored() -> Made {
     tidy(&mut Rng::new(0), Vec::new(), Vec::new(), Tree::default())
+}
+
+/// A tidy file of which some texts have no stored 0.
+fn tidy_dropped(rng: &mut Rng, names: Vec<Text>, values: Vec<Text>, tree: Tree) -> Made {
+    let mut made = tidy(rng, names, values, tree);
+    made.model.drop_some(rng);
+    made
 }
 
 fn two_names() -> Vec<Text> {
@@ -65,7 +81,7 @@ pub fn chains(rng: &mut Rng, lengths: &[usize], nameless: bool) -> Made {
             node = tree.child(node, named(name));
         }
     }
-    let mut made = tidy(rng, two_names(), Vec::new(), tree);
+    let mut made = tidy_dropped(rng, two_names(), Vec::new(), tree);
     let segment = rng.between(2, 200);
     made.model.nodes = made.tree.place(rng, segment, true);
     made
@@ -81,7 +97,7 @@ pub fn wide(rng: &mut Rng, count: usize) -> Made {
             tree.child(child, named(1));
         }
     }
-    tidy(rng, two_names(), Vec::new(), tree)
+    tidy_dropped(rng, two_names(), Vec::new(), tree)
 }
 
 /// A file with `count` names, all different.
@@ -92,13 +108,13 @@ pub fn many_names(rng: &mut Rng, count: usize) -> Made {
     for name in [1, count / 2, count.min(65_535)] {
         tree.child(0, named(name as u16));
     }
-    tidy(rng, names, Vec::new(), tree)
+    tidy_dropped(rng, names, Vec::new(), tree)
 }
 
 /// A file with `count` values, all different.
 pub fn many_values(rng: &mut Rng, count: usize) -> Made {
     let values = (0..count).map(|i| text(&format!("v{i}"))).collect();
-    tidy(rng, two_names(), values, Tree::default())
+    tidy_dropped(rng, two_names(), values, Tree::default())
 }
 
 /// A file with `count` keys.
@@ -174,15 +190,20 @@ pub fn one_text_a_segment(rng: &mut Rng, count: usize) -> Made {
     let mut made = tidy(rng, names[..names.len() - 2].to_vec(), Vec::new(), tree);
     let style = Style { segment: 1, ..TIDY };
     made.model.names = table(rng, &made.names, 512, style);
+    made.model.drop_some(rng);
     made
 }
 
-/// A values text of `length` characters, alone in its segment with its 0.
-pub fn long_text(rng: &mut Rng, length: usize) -> Made {
+/// A values text of `length` characters, alone in its segment, with its stored 0 or
+/// without.
+pub fn long_text(rng: &mut Rng, length: usize, stored: bool) -> Made {
     let values = vec![vec![0x61; length], text("b")];
     let mut made = tidy(rng, two_names(), values, Tree::default());
     let style = Style { segment: 1, ..TIDY };
     made.model.values = table(rng, &made.values, 1024, style);
+    if !stored {
+        drop_all(&mut made.model.values);
+    }
     made
 }
 
@@ -199,7 +220,7 @@ pub fn far_nodes(rng: &mut Rng, count: usize) -> Made {
         let child = tree.child(0, named(1));
         tree.child(child, Node { attrs: length as u16, attr_addr, ..named(2) });
     }
-    let mut made = tidy(rng, two_names(), Vec::new(), tree);
+    let mut made = tidy_dropped(rng, two_names(), Vec::new(), tree);
     made.model.nodes = made.tree.place(rng, 1, true);
     made.model.attributes = placed.region;
     made

@@ -25,25 +25,47 @@ pub const TIDY: Style = Style { segment: 60_000, untidy: false, share: false, in
 pub fn table(rng: &mut Rng, texts: &[Text], buckets: usize, style: Style) -> Table {
     let mut chars = Region::default();
     let list = place_all(rng, texts, &mut chars, style);
+    let placed = texts.iter().zip(list).map(|(text, address)| Placed {
+        hash: hash(text),
+        characters: text.len(),
+        address,
+    });
+    let mut made = string_table(chars, placed.collect(), buckets);
+    if style.untidy {
+        for bucket in &mut made.buckets {
+            // Entries of one hash may stand in any order.
+            rng.shuffle(&mut bucket.entries);
+            bucket.entries.sort_by_key(|entry| entry.hash);
+        }
+    }
+    made
+}
+
+/// A text that gets an entry: its hash, characters and place.
+pub struct Placed {
+    pub hash: u32,
+    pub characters: usize,
+    pub address: Addr,
+}
+
+/// The table of these texts; the first has index 1. Entries of one hash keep
+/// their order.
+pub fn string_table(chars: Region<u16>, texts: Vec<Placed>, buckets: usize) -> Table {
+    let list = texts.iter().map(|text| text.address).collect();
     let mut made = Table { chars, buckets: vec![Bucket::default(); buckets], list, count_is: None };
-    for (i, text) in texts.iter().enumerate() {
-        let hash = hash(text);
-        let bucket = (hash ^ (hash >> 16)) as usize % buckets;
-        made.buckets[bucket].entries.push(Entry {
-            hash,
-            length: text.len() as u32 + 1,
-            index: i as u32 + 1,
-            address: made.list[i],
-        });
+    for (i, Placed { hash, characters, address }) in texts.into_iter().enumerate() {
+        let (length, index) = (characters as u32 + 1, i as u32 + 1);
+        made.buckets[bucket_of(hash, buckets)].entries.push(Entry { hash, length, index, address });
     }
     for bucket in &mut made.buckets {
-        // Entries of one hash may stand in any order.
-        if style.untidy {
-            rng.shuffle(&mut bucket.entries);
-        }
         bucket.entries.sort_by_key(|entry| entry.hash);
     }
     made
+}
+
+/// The bucket of a hash.
+pub fn bucket_of(hash: u32, buckets: usize) -> usize {
+    (hash ^ (hash >> 16)) as usize % buckets
 }
 
 fn place_all(rng: &mut Rng, texts: &[Text], chars: &mut Region<u16>, style: Style) -> Vec<Addr> {

@@ -23,6 +23,11 @@ const LETTERS: &[u8] = b"abcdefghijklmnopqrstuvwxyzABCDEFGHIJKLMNOPQRSTUVWXYZ012
 
 pub fn random(rng: &mut Rng, longest: usize) -> Text {
     let length = rng.between(0, longest);
+    of_length(rng, length)
+}
+
+/// Characters of one sort or another, none of them 0.
+pub fn of_length(rng: &mut Rng, length: usize) -> Text {
     let style = rng.below(4);
     (0..length)
         .map(|_| match style {

@@ -3,6 +3,7 @@
 use std::alloc::{GlobalAlloc, Layout, System};
 use std::cell::Cell;
 
+use maker::rng::Rng;
 use maker::traps::of_any_size;
 use second::{Careful, Index, Loader, Plain, Right, Which};
 
@@ -43,7 +44,8 @@ fn questions<I: Index>(file: &[u8], workspace: &mut [u8], texts: &[u8], out: &mu
 #[test]
 fn plain_allocates_nothing() {
     for class in of_any_size() {
-        let model = class.make(40_000).model;
+        let mut model = class.make(40_000).model;
+        model.drop_some(&mut Rng::new(1));
         let mut workspace = vec![0; model.used_nodes()];
         let mut texts = Vec::new();
         for &address in model.values.list.iter().chain(&model.names.list).take(2_000) {

@@ -45,13 +45,13 @@ impl Default for CarefulIndex {
 impl CarefulIndex {
     fn read<R: Reading>(&mut self, texts: &Texts<R>, spot: Spot) -> Option<Hashes> {
         let Texts { reading, file, .. } = *texts;
-        let chars = spot.chars(file);
+        let chars = spot.chars(file)?;
         let ordinary = if otherwise(reading) { chars.len() } else { chars.len().min(SHORT) };
-        match scan(reading, &chars[..ordinary], true) {
-            Some(text) => Some(Hashes { hash: text.hash, value_hash: text.value_hash }),
-            None if ordinary == chars.len() => None,
-            None => self.tails.text(file, spot.start as usize, spot.limit as usize),
+        let text = scan(reading, &chars[..ordinary], true);
+        if text.bytes < ordinary || ordinary == chars.len() {
+            return Some(Hashes { hash: text.hash, value_hash: text.value_hash });
         }
+        self.tails.text(file, spot.start as usize, spot.limit as usize)
     }
 }
 
@@ -87,7 +87,7 @@ impl Index for CarefulIndex {
         address: Address,
         near: &mut Near,
     ) -> Self::Spot {
-        Spot::of(texts.file, texts.values, address, near)
+        Spot::of(texts, address, near)
     }
 
     fn begin<R: Reading>(

@@ -87,7 +87,7 @@ struct Lengths {
     shared: [u64; WORDS],
 }
 
-/// Lengths are below 65,536.
+/// Lengths are 1 to 65,536: a text that fills a segment has 65,535 characters.
 const WORDS: usize = 65_536 / 64;
 
 impl Lengths {
@@ -114,7 +114,8 @@ impl Lengths {
 
 #[inline]
 fn place(length: u32) -> (usize, u64) {
-    (length as usize / 64 % WORDS, 1 << (length % 64))
+    let place = length as usize - 1;
+    (place / 64 % WORDS, 1 << (place % 64))
 }
 
 /// Places of the table of second hashes, and how many of them may be filled.

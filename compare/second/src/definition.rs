@@ -1,9 +1,18 @@
-//! The hashes by the words of document 01, a byte at a time: what the fast
-//! forms are compared with, and where wrong readings of the hashes differ.
+//! Texts and hashes by the words of document 01 and request T-01, a character or a
+//! byte at a time: what the fast forms are compared with, and where wrong readings of
+//! the hashes differ.
 
 use crate::crc_table::T;
 use crate::fold::fold;
 use crate::reading::{Mutant, Reading};
+
+/// The text at the start of some characters: those up to the first 0, or all of them
+/// where none is 0. The characters are those of a segment's used part from an address
+/// on, so that is where a text ends at the latest.
+pub fn text(chars: &[u8]) -> &[u8] {
+    let zero = chars.chunks_exact(2).position(|character| character == [0, 0]);
+    zero.map_or(chars, |zero| &chars[..2 * zero])
+}
 
 fn step<R: Reading>(reading: R, hash: u32, byte: u8) -> u32 {
     if reading.wrong(Mutant::HashShiftsLeft) {
@@ -29,8 +38,7 @@ fn hashed<R: Reading>(reading: R, text: &[u8]) -> &[u8] {
         return &text[..text.len() / 2 * 2];
     }
     if reading.wrong(Mutant::ZeroEndsHash) {
-        let zero = text.chunks_exact(2).position(|character| character == [0, 0]);
-        return zero.map_or(text, |zero| &text[..2 * zero]);
+        return self::text(text);
     }
     text
 }

@@ -6,7 +6,7 @@ use crate::definition::folded_hash;
 use crate::hash::{bucket, string_hash};
 use crate::prefetch::prefetch;
 use crate::reading::{Mutant, Reading};
-use crate::table::{Entry, Table, ENTRY};
+use crate::table::{Entry, Reader, Table, ENTRY};
 
 /// A hash on its way to its entries: its bucket, and where they may stand.
 #[derive(Clone, Copy, Default)]
@@ -150,15 +150,20 @@ impl Sought {
     }
 }
 
-/// Whether an entry bears a text. Entries hold no 0, so an equal text settles a
-/// 0 in the asked one too.
+/// Whether an entry that has passed its checks bears a text. Entries hold no 0, so an
+/// equal text settles a 0 in the asked one too.
 #[inline]
-pub fn bears<const BUCKETS: usize>(
+pub fn bears<R: Reading, const BUCKETS: usize>(
+    reading: R,
+    reader: Reader,
     file: &[u8],
     table: &Table<BUCKETS>,
     entry: Entry,
     text: &[u8],
 ) -> bool {
+    if reader.rereads(reading, Table::<BUCKETS>::NAMES) {
+        return table.text_at(reading, reader, file, entry.address) == Some(text);
+    }
     entry.length as u64 == text.len() as u64 / 2 + 1 && table.entry_text(file, entry) == text
 }
 
@@ -175,6 +180,7 @@ pub fn lookup_hash<R: Reading, const BUCKETS: usize>(reading: R, text: &[u8]) ->
 #[inline]
 pub fn find<R: Reading, const BUCKETS: usize>(
     reading: R,
+    reader: Reader,
     file: &[u8],
     table: &Table<BUCKETS>,
     text: &[u8],
@@ -182,5 +188,6 @@ pub fn find<R: Reading, const BUCKETS: usize>(
     let mut sought = seek(reading, file, table, lookup_hash::<R, BUCKETS>(reading, text));
     sought.refine(file);
     let number = sought.first_entry(file);
-    sought.entry(reading, file, number, |entry| bears(file, table, entry, text))
+    let same = |entry| bears(reading, reader, file, table, entry, text);
+    sought.entry(reading, file, number, same)
 }

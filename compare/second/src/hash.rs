@@ -5,7 +5,7 @@
 //! in hash and byte together, and several bytes can be taken at once from
 //! tables of T carried k steps further: the same slicing as for a plain CRC.
 //!
-//! Wrong readings hash by the definition instead.
+//! Wrong and literal readings hash by the definition instead.
 
 use crate::crc_table::T;
 use crate::definition;
@@ -102,11 +102,12 @@ pub fn pack(bytes: &[u8]) -> u64 {
     packed
 }
 
-/// Whether a reading has other hashes than document 01.
+/// Whether a reading hashes by the definition: other hashes than document 01, or
+/// literally the same.
 #[inline(always)]
 pub fn otherwise<R: Reading>(reading: R) -> bool {
     let among = |mutants: &[Mutant]| mutants.iter().any(|&mutant| reading.wrong(mutant));
-    among(Mutant::HASHES) || among(Mutant::HASHES_ALONE)
+    reading.literal() || among(Mutant::HASHES) || among(Mutant::HASHES_ALONE)
 }
 
 /// The string hash of a text given as bytes, two a character.

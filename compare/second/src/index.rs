@@ -105,8 +105,8 @@ pub trait Index: Sized {
     }
 }
 
-/// The used characters from an address on: their offset, and where they end. There
-/// are none where the address does not resolve, so no text either.
+/// The used characters from an address on: their offset, and where they end. An
+/// address that resolves has one at least.
 #[derive(Clone, Copy, Default)]
 pub struct Spot {
     pub start: u32,
@@ -116,11 +116,14 @@ pub struct Spot {
 impl Spot {
     /// Where an address stands; asks for the text there.
     #[inline]
-    pub fn of(file: &[u8], values: &Values, address: Address, near: &mut Near) -> Spot {
+    pub fn of<R: Reading>(texts: &Texts<R>, address: Address, near: &mut Near) -> Spot {
+        let Texts { reading, file, values } = *texts;
         match values.chars.segment_near(file, address.segment, near) {
             Some(segment) if segment.holds(address.element, 1) => {
                 let start = values.chars.element_at(segment, address.element);
-                let limit = segment.first + 2 * segment.used as usize;
+                let full = reading.wrong(Mutant::AttributeUpToFull);
+                let end = if full { segment.full } else { segment.used };
+                let limit = segment.first + 2 * end as usize;
                 prefetch_text(file, start);
                 Spot { start: start as u32, limit: limit as u32 }
             }
@@ -128,9 +131,11 @@ impl Spot {
         }
     }
 
+    /// The characters; none where the address does not resolve, and then there is no
+    /// text either.
     #[inline]
-    pub fn chars(self, file: &[u8]) -> &[u8] {
-        &file[self.start as usize..self.limit as usize]
+    pub fn chars(self, file: &[u8]) -> Option<&[u8]> {
+        (self.start < self.limit).then(|| &file[self.start as usize..self.limit as usize])
     }
 }
 
@@ -165,7 +170,7 @@ impl<const TIMES: usize> Index for Plain<TIMES> {
         address: Address,
         near: &mut Near,
     ) -> Self::Spot {
-        Spot::of(texts.file, texts.values, address, near)
+        Spot::of(texts, address, near)
     }
 
     #[inline]
@@ -177,13 +182,20 @@ impl<const TIMES: usize> Index for Plain<TIMES> {
         effort: &mut Effort,
     ) -> Self::Work {
         let Texts { reading, file, values } = *texts;
-        match scan(reading, spot.chars(file), true) {
-            Some(text) => {
-                effort.spend(text.bytes);
-                (seek(reading, file, values, text.hash), text.value_hash)
+        let Some(chars) = spot.chars(file) else {
+            return Self::Work::default();
+        };
+        let mut text = scan(reading, chars, true);
+        if text.bytes == chars.len() {
+            if reading.wrong(Mutant::AttributeZeroNeeded) {
+                return Self::Work::default();
             }
-            None => Self::Work::default(),
+            if reading.wrong(Mutant::AbsentZeroValueHashed) {
+                text.value_hash = value_hash(reading, &[chars, &[0, 0]].concat());
+            }
         }
+        effort.spend(text.bytes);
+        (seek(reading, file, values, text.hash), text.value_hash)
     }
 
     #[inline]

@@ -4,6 +4,7 @@ use crate::answer::{refuse, Refusal};
 use crate::bytes::u16_at;
 use crate::layout::Layout;
 use crate::reading::{Mutant, Reading};
+use crate::table::Reader;
 
 /// The indices of the two special names.
 #[derive(Clone, Copy)]
@@ -23,17 +24,16 @@ pub fn special_names<R: Reading>(
 ) -> Result<Special, Refusal> {
     let names = &layout.names;
     let listed = names.listed;
+    let text = |index: u32| names.listed_text(reading, Reader::Special, file, index);
     if reading.wrong(Mutant::SpecialNamesAnywhere) {
-        let index_of =
-            |wanted: &[u8]| (1..=listed).find(|&index| names.listed_text(file, index) == wanted);
+        let index_of = |wanted: &[u8]| (1..=listed).find(|&index| text(index) == wanted);
         if let (Some(root), Some(value)) = (index_of(ROOT), index_of(VALUE)) {
             let (root, value) = (root as u16, value as u16);
             return Ok(Special { root, value });
         }
     }
     if listed >= 2 {
-        let last = names.listed_text(file, listed);
-        let last_but_one = names.listed_text(file, listed - 1);
+        let (last, last_but_one) = (text(listed), text(listed - 1));
         // At most 65,535 names are listed, so an index fits in 16 bits.
         let high = listed as u16;
         if last == VALUE && last_but_one == ROOT {

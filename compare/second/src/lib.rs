@@ -1,5 +1,5 @@
-//! A loader of plain data center files, written from document 01 alone: the
-//! second program the proved library is compared with.
+//! A loader of plain data center files, written from document 01 and request T-01
+//! alone: the second program the proved library is compared with.
 //!
 //! A file is lent as a byte slice with a workspace; it is checked whole and
 //! then answers questions. See `questions::Loader` for the exported questions
@@ -24,6 +24,7 @@ mod index;
 mod keys;
 mod known;
 mod layout;
+mod literal;
 mod lookup;
 mod mix;
 mod node;
@@ -52,7 +53,7 @@ pub use index::{Index, Marked, Plain};
 pub use layout::FILE_LIMIT;
 pub use lookup::Which;
 pub use questions::Loader;
-pub use reading::{Mutant, Reading, Right, Wrong};
+pub use reading::{Literal, Mutant, Reading, Right, Wrong};
 pub use view::View;
 
 /// The plain form, careful with every file.
@@ -75,17 +76,13 @@ pub mod hashes {
         crate::definition::folded(Right, text)
     }
 
-    /// The questions for hashes by the words of document 01, a byte at a time.
+    /// The hash by the words of document 01, a byte at a time.
     pub mod by_definition {
         use crate::definition;
         use crate::reading::Right;
 
         pub fn hash(start: u32, text: &[u8]) -> u32 {
             definition::hash_on(Right, start, text)
-        }
-
-        pub fn value_hash(text: &[u8]) -> u16 {
-            definition::value_hash(Right, text)
         }
     }
 }

@@ -7,7 +7,7 @@ use crate::index::Index;
 use crate::mix::Mixer;
 use crate::reading::{Mutant, Reading};
 use crate::scan::scan;
-use crate::table::{Entry, Table, ENTRY};
+use crate::table::{Entry, Reader, Table, ENTRY};
 use crate::view::View;
 use crate::waiting::{Filter, Waiting};
 
@@ -59,23 +59,34 @@ impl<R: Reading, I: Index> View<'_, R, I> {
     /// A name's index, if the text is a name.
     #[inline]
     pub fn name(&self, text: &[u8]) -> Option<u32> {
-        self.lookup(&self.layout.names, text)
+        self.lookup(Reader::Single, &self.layout.names, text)
+    }
+
+    /// The index of a path's name.
+    #[inline]
+    pub(crate) fn path_name(&self, text: &[u8]) -> Option<u32> {
+        self.lookup(Reader::Path, &self.layout.names, text)
     }
 
     /// A value's address as a number, if the text is a value.
     #[inline]
     pub fn value(&self, text: &[u8]) -> Option<u32> {
-        self.lookup(&self.layout.values, text)
+        self.lookup(Reader::Single, &self.layout.values, text)
     }
 
     #[inline]
-    fn lookup<const BUCKETS: usize>(&self, table: &Table<BUCKETS>, text: &[u8]) -> Option<u32> {
+    fn lookup<const BUCKETS: usize>(
+        &self,
+        reader: Reader,
+        table: &Table<BUCKETS>,
+        text: &[u8],
+    ) -> Option<u32> {
         let text = if self.reading.wrong(Mutant::ZeroCutsText) {
             texts(text).next().unwrap_or(text)
         } else {
             text
         };
-        let entry = find(self.reading, self.file, table, text)?;
+        let entry = find(self.reading, reader, self.file, table, text)?;
         Some(self.number::<BUCKETS>(entry))
     }
 
@@ -107,7 +118,7 @@ impl<R: Reading, I: Index> View<'_, R, I> {
         if let Some(refusal) = list_fault(self.reading, list) {
             return refusal.into();
         }
-        // Every text ends in a 0 and holds none.
+        // Every text of the list ends in a 0 and holds none.
         let count = list.chunks_exact(2).filter(|pair| *pair == [0, 0]).count();
         if answers.len() / 8 < count {
             return Answer::from(Refusal { number: 25, place: count as u64 });
@@ -151,7 +162,7 @@ impl<R: Reading, I: Index> View<'_, R, I> {
             for (&(text, sought, number), place) in group[..filled].iter().zip(places.chunks_mut(8))
             {
                 let found = sought.entry(self.reading, self.file, number, |entry| {
-                    let same = bears(self.file, table, entry, text);
+                    let same = self.bears(table, entry, text);
                     effort.spend(if same { 0 } else { ENTRY });
                     same
                 });
@@ -187,7 +198,7 @@ impl<R: Reading, I: Index> View<'_, R, I> {
                 crowded.lengths.add(text.len() as u32 / 2 + 1);
                 waiting.add(hash, crowded.mixer.text(text), (text, number));
             } else {
-                let same = |entry| bears(self.file, table, entry, text);
+                let same = |entry| self.bears(table, entry, text);
                 let found = sought.entry(self.reading, self.file, first, same);
                 self.put_at(number, found.map(|entry| self.number::<BUCKETS>(entry)), answers);
             }
@@ -209,7 +220,7 @@ impl<R: Reading, I: Index> View<'_, R, I> {
             lengths.may_hold(entry.length).then(text)
         };
         waiting.settle(self.reading, self.file, table, key, |(text, number), entry| {
-            let takes = entry.is_none_or(|entry| bears(self.file, table, entry, text));
+            let takes = entry.is_none_or(|entry| self.bears(table, entry, text));
             if takes {
                 self.put_at(number, entry.map(|entry| self.number::<BUCKETS>(entry)), answers);
             }
@@ -218,24 +229,29 @@ impl<R: Reading, I: Index> View<'_, R, I> {
         *lengths = Filter::new();
     }
 
-    /// Takes the first text of a list, with the hash it is looked up by.
+    /// Whether an entry bears a text of a batch.
+    #[inline]
+    fn bears<const BUCKETS: usize>(
+        &self,
+        table: &Table<BUCKETS>,
+        entry: Entry,
+        text: &[u8],
+    ) -> bool {
+        bears(self.reading, Reader::Batch, self.file, table, entry, text)
+    }
+
+    /// Takes the first text of a list, with the hash it is looked up by. Only a wrong
+    /// reading's list can end without a 0.
     #[inline]
     fn next_text<'t, const BUCKETS: usize>(&self, left: &mut &'t [u8]) -> (&'t [u8], u32) {
         let list = *left;
-        match scan(self.reading, list, false) {
-            Some(scanned) => {
-                let text = &list[..scanned.bytes];
-                *left = &list[scanned.bytes + 2..];
-                if self.reading.wrong(Mutant::LookupFolds) {
-                    return (text, lookup_hash::<R, BUCKETS>(self.reading, text));
-                }
-                (text, scanned.hash)
-            }
-            None => {
-                *left = &[];
-                (list, lookup_hash::<R, BUCKETS>(self.reading, list))
-            }
+        let scanned = scan(self.reading, list, false);
+        let text = &list[..scanned.bytes];
+        *left = list.get(scanned.bytes + 2..).unwrap_or(&[]);
+        if self.reading.wrong(Mutant::LookupFolds) {
+            return (text, lookup_hash::<R, BUCKETS>(self.reading, text));
         }
+        (text, scanned.hash)
     }
 
     fn put_at(&self, number: usize, found: Option<u32>, answers: &mut [u8]) {

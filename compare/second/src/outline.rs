@@ -9,6 +9,7 @@ use crate::escape::{put_hex, put_text, Sink};
 use crate::index::Index;
 use crate::node::{Attribute, Node, ATTRIBUTE, NODE};
 use crate::reading::{Mutant, Reading};
+use crate::table::Reader;
 use crate::tally::Tally;
 use crate::view::View;
 
@@ -182,7 +183,8 @@ impl<R: Reading, I: Index> View<'_, R, I> {
     }
 
     pub(crate) fn put_name(&self, name: u16, sink: &mut impl Sink) {
-        let text = self.layout.names.listed_text(self.file, name as u32);
+        let names = &self.layout.names;
+        let text = names.listed_text(self.reading, Reader::Outline, self.file, name as u32);
         if self.reading.wrong(Mutant::NamesNotEscaped) {
             text.chunks_exact(2).for_each(|pair| sink.put(&pair[..1]));
         } else {
@@ -215,7 +217,8 @@ impl<R: Reading, I: Index> View<'_, R, I> {
             }
             Value::Text(address) => {
                 sink.put(b"s:");
-                let text = self.layout.values.text_at(self.file, address);
+                let values = &self.layout.values;
+                let text = values.text_at(self.reading, Reader::Outline, self.file, address);
                 put_text(self.reading, text.unwrap_or(&[]), sink);
             }
         }

@@ -58,7 +58,7 @@ impl<R: Reading, I: Index> View<'_, R, I> {
         let mut known = Path { names: [0; LONGEST], length: 0 };
         for text in texts(path) {
             let nameless = text.is_empty() && self.reading.wrong(Mutant::EmptyNameIsNameless);
-            let index = if nameless { 0 } else { self.name(text)? };
+            let index = if nameless { 0 } else { self.path_name(text)? };
             *known.names.get_mut(known.length)? = index as u16;
             known.length += 1;
         }

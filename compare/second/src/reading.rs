@@ -1,12 +1,19 @@
-//! The right reading of document 01, and the wrong ones the sensitivity run
-//! tells apart from it.
+//! The right reading of document 01 and request T-01, and the wrong ones the
+//! sensitivity run tells apart from it.
 //!
 //! Checks ask `reading.wrong(Mutant::…)` where a wrong reading would differ.
 //! For `Right` that is the constant `false`, so the shipped loader carries no
-//! trace of the mutants; `Wrong` decides at run time.
+//! trace of the mutants; `Wrong` decides at run time. `Literal` is the right reading
+//! without the fast forms: texts and hashes go by their definition.
 
 pub trait Reading: Copy {
     fn wrong(self, mutant: Mutant) -> bool;
+
+    /// Whether texts and hashes go by their definition.
+    #[inline(always)]
+    fn literal(self) -> bool {
+        false
+    }
 }
 
 #[derive(Clone, Copy, Debug, Default)]
@@ -16,6 +23,21 @@ impl Reading for Right {
     #[inline(always)]
     fn wrong(self, _: Mutant) -> bool {
         false
+    }
+}
+
+#[derive(Clone, Copy, Debug, Default)]
+pub struct Literal;
+
+impl Reading for Literal {
+    #[inline(always)]
+    fn wrong(self, _: Mutant) -> bool {
+        false
+    }
+
+    #[inline(always)]
+    fn literal(self) -> bool {
+        true
     }
 }
 
@@ -65,8 +87,50 @@ mutants! {
     EntriesWrap: "the size of a bucket's entries wraps in 32 bits",
     // String tables, 7 to 14.
     AddressUpToFull: "an entry's address resolves below the full count",
-    TextPastUsed: "a 0 past the used part ends a text",
     LengthWithoutZero: "length does not count the 0",
+    // Where a text ends, and its length: 7 and 8.
+    StoredZeroNeeded: "8 is given where a text has no stored 0",
+    SlackZeroNeeded: "a text without a stored 0 needs a 0 just behind the used part",
+    TextUpToFull: "a text ends at the first 0 or at the end of full",
+    TextIntoNextSegment: "a text without a stored 0 goes on in the next segment",
+    TextPastSegment: "a text without a stored 0 goes on over the bytes behind its segment",
+    DroppedOnlyWhereFull: "the 0 may be left off only where used is as large as full",
+    DroppedOnlyInLastSegment: "the 0 may be left off only in the last segment",
+    DroppedOnlyInNames: "the 0 may be left off only in names",
+    DroppedOnlyInValues: "the 0 may be left off only in values",
+    DroppedOnlyUpTo64: "the 0 may be left off only up to 64 characters",
+    DroppedOnlyUpTo4096: "the 0 may be left off only up to 4,096 characters",
+    LastFewLost: "a text without a stored 0 loses what is left over from groups of four",
+    WholeFoursRunOn: "a text without a stored 0 runs on after a whole group of four",
+    UnendedEndIsEmpty: "the end of a text without a stored 0 is taken for the empty text",
+    DroppedZeroNotCounted: "length does not count a 0 that is not stored",
+    DroppedZeroEitherWay: "length may count a 0 that is not stored, or leave it out",
+    LengthCutAtUsed: "a length past the used part is taken as far as that goes",
+    DroppedZeroResolves: "an address on a dropped 0 is the empty text",
+    DroppedZeroIs8: "an address on a dropped 0 is 8",
+    AbsentZeroHashed: "the hash takes a 0 that is not stored",
+    // The same text elsewhere: 12, 14, 19, look-ups, paths and outline.
+    RepeatsByStorage: "a text with and a text without its stored 0 are two texts",
+    RepeatsZeroNeeded: "12 finds no earlier text without a stored 0",
+    RepeatsUpToFull: "12 compares with the text up to the end of full",
+    SpecialZeroNeeded: "14 finds no name without a stored 0",
+    SpecialUpToFull: "14 reads names up to the end of full",
+    AttributeZeroNeeded: "19 is given where a text has no stored 0",
+    AttributeUpToFull: "19 reads texts up to the end of full",
+    AbsentZeroValueHashed: "the value hash takes a 0 that is not stored",
+    NameLookupZeroNeeded: "a name lookup finds no text without a stored 0",
+    NameLookupUpToFull: "a name lookup compares with the text up to the end of full",
+    ValueLookupZeroNeeded: "a value lookup finds no text without a stored 0",
+    ValueLookupUpToFull: "a value lookup compares with the text up to the end of full",
+    BatchZeroNeeded: "a batch finds no text without a stored 0",
+    BatchUpToFull: "a batch compares with the text up to the end of full",
+    PathZeroNeeded: "a path finds no name without a stored 0",
+    PathUpToFull: "a path compares with the name up to the end of full",
+    OutlineNameZeroNeeded: "the outline shows a name without a stored 0 as empty",
+    OutlineNameUpToFull: "the outline shows names up to the end of full",
+    OutlineTextZeroNeeded: "the outline shows a text without a stored 0 as empty",
+    OutlineTextUpToFull: "the outline shows texts up to the end of full",
+    // The rest of 9 to 14.
     HashShiftsLeft: "the hash shifts left",
     HashShiftsByFour: "the hash shifts by 4",
     HashHighByteFirst: "the hash takes the high byte first",

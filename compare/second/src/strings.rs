@@ -3,13 +3,15 @@
 use crate::answer::{refuse, Refusal};
 use crate::crowd::{Crowd, FEW};
 use crate::effort::{Effort, Stop};
-use crate::hash::{bucket, otherwise, string_hash};
+use crate::find::bears;
+use crate::hash::{bucket, hash_on, otherwise, string_hash};
 use crate::index::{Index, Plain, Texts};
 use crate::layout::Layout;
+use crate::literal::{self, Told};
 use crate::reading::{Mutant, Reading};
 use crate::region::Segment;
 use crate::scan::holds_zero;
-use crate::table::{Entry, Table, ENTRY};
+use crate::table::{Entry, Reader, Table, ENTRY};
 use crate::tails::{Tails, LONG};
 
 /// How many entries ahead memory is asked for.
@@ -175,32 +177,37 @@ impl<'a, R: Reading, const BUCKETS: usize> TableChecks<'a, R, BUCKETS> {
         self.table.chars.segment(self.file, entry.address.segment)
     }
 
-    /// 7, and of 8 that a 0 stands where the length says: the text before it.
+    /// 7, and of 8 that a 0 or the end of the used part is where the length says: the
+    /// text before that.
     #[inline]
     fn told_text(
         &self,
         Standing { entry, at, .. }: Standing,
         segment: Option<Segment>,
     ) -> Result<&'a [u8], Refusal> {
+        let Self { reading, file, table, .. } = *self;
         let Some(segment) = segment else {
             return refuse(7, at);
         };
-        let full = self.reading.wrong(Mutant::AddressUpToFull);
-        if entry.address.element as u32 >= if full { segment.full } else { segment.used } {
+        if literal::reads(reading) {
+            let told = Told { reading, file, table, entry, segment };
+            return told.text().or_else(|number| refuse(number, at));
+        }
+        let Some(room) = segment.used.checked_sub(entry.address.element as u32 + 1) else {
             return refuse(7, at);
-        }
-        let past_used = self.reading.wrong(Mutant::TextPastUsed);
-        let ends = if past_used { segment.full } else { segment.used };
-        let length = entry.length as u64 + self.reading.wrong(Mutant::LengthWithoutZero) as u64;
-        if length == 0 || entry.address.element as u64 + length > ends as u64 {
+        };
+        // The length counts a 0, which is not stored where the text has all the room.
+        let room = room as usize + 1;
+        let characters = (entry.length as usize).wrapping_sub(1);
+        if characters > room {
             return refuse(8, at);
         }
-        let start = self.table.chars.element_at(segment, entry.address.element);
-        let end = start + 2 * (length as usize - 1);
-        if self.file[end..end + 2] != [0, 0] {
+        let start = table.chars.element_at(segment, entry.address.element);
+        let end = start + 2 * characters;
+        if characters < room && file[end..end + 2] != [0, 0] {
             return refuse(8, at);
         }
-        Ok(&self.file[start..end])
+        Ok(&file[start..end])
     }
 
     /// 8: no 0 stands before that; and 9.
@@ -209,10 +216,20 @@ impl<'a, R: Reading, const BUCKETS: usize> TableChecks<'a, R, BUCKETS> {
         if holds_zero(text) {
             return refuse(8, at);
         }
-        if string_hash(self.reading, text) != entry.hash {
+        let mut hash = string_hash(self.reading, text);
+        if self.reading.wrong(Mutant::AbsentZeroHashed) && !self.stores_zero(entry) {
+            hash = hash_on(self.reading, hash, &[0, 0]);
+        }
+        if hash != entry.hash {
             return refuse(9, at);
         }
         Ok(())
+    }
+
+    /// Whether the 0 of an entry that has passed 8 is stored.
+    fn stores_zero(&self, entry: Entry) -> bool {
+        let end = entry.address.element as u64 + entry.length as u64;
+        self.segment(entry).is_some_and(|segment| end <= segment.used as u64)
     }
 
     /// 10: the right bucket, and hashes that do not fall.
@@ -264,10 +281,7 @@ impl<'a, R: Reading, const BUCKETS: usize> TableChecks<'a, R, BUCKETS> {
                 break;
             }
             effort.spend(ENTRY);
-            let same = other.length == entry.length
-                && (self.table.entry_text(self.file, other) == text
-                    || self.reading.wrong(Mutant::RepeatsByHash));
-            if same && !self.reading.wrong(Mutant::RepeatsAllowed) {
+            if self.is_same(other, entry, text) && !self.reading.wrong(Mutant::RepeatsAllowed) {
                 return refuse(12, at);
             }
             if self.reading.wrong(Mutant::RepeatsNeighbourOnly) {
@@ -277,11 +291,31 @@ impl<'a, R: Reading, const BUCKETS: usize> TableChecks<'a, R, BUCKETS> {
         Ok(())
     }
 
+    /// Whether an earlier entry has the text of this one: both have passed 8, and
+    /// whether their 0 is stored makes no difference.
+    #[inline]
+    fn is_same(&self, other: Entry, entry: Entry, text: &[u8]) -> bool {
+        let Self { reading, file, table, .. } = *self;
+        if reading.wrong(Mutant::RepeatsByHash) && other.length == entry.length {
+            return true;
+        }
+        let apart = reading.wrong(Mutant::RepeatsByStorage)
+            && self.stores_zero(other) != self.stores_zero(entry);
+        !apart && bears(reading, Reader::Repeat, file, table, other, text)
+    }
+
     /// 12 for the entries of one hash, from one offset to another.
     fn check_crowd(&self, first: usize, end: usize) -> Result<(), Refusal> {
         let Self { reading, file, table, .. } = *self;
         let count = (end - first) / ENTRY;
-        let mutants = [Mutant::RepeatsByHash, Mutant::RepeatsAllowed, Mutant::RepeatsNeighbourOnly];
+        let mutants = [
+            Mutant::RepeatsByHash,
+            Mutant::RepeatsAllowed,
+            Mutant::RepeatsNeighbourOnly,
+            Mutant::RepeatsByStorage,
+            Mutant::RepeatsZeroNeeded,
+            Mutant::RepeatsUpToFull,
+        ];
         if count > FEW && !mutants.iter().any(|&mutant| reading.wrong(mutant)) {
             return match (Crowd { file, table, first, count }).first_repeat() {
                 Some(number) => refuse(12, first + number * ENTRY),

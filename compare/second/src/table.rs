@@ -3,10 +3,11 @@
 use crate::answer::{refuse, Refusal};
 use crate::bytes::{u32_at, Address};
 use crate::cursor::Cursor;
+use crate::definition;
 use crate::prefetch::{prefetch, prefetch_text};
 use crate::reading::{Mutant, Reading};
 use crate::region::{Region, Segment};
-use crate::scan::first_zero;
+use crate::scan::text_of;
 
 pub const VALUE_BUCKETS: usize = 1024;
 pub const NAME_BUCKETS: usize = 512;
@@ -33,6 +34,58 @@ pub struct Entry {
     pub length: u32,
     pub index: u32,
     pub address: Address,
+}
+
+/// Who reads a text at an address, for wrong readings that tell them apart.
+#[derive(Clone, Copy)]
+pub enum Reader {
+    Repeat,
+    Special,
+    Single,
+    Batch,
+    Path,
+    Outline,
+}
+
+impl Reader {
+    /// The wrong reading by which it reads on to the end of full.
+    #[inline(always)]
+    fn up_to_full(self, names: bool) -> Mutant {
+        match (self, names) {
+            (Reader::Repeat, _) => Mutant::RepeatsUpToFull,
+            (Reader::Special, _) => Mutant::SpecialUpToFull,
+            (Reader::Single, true) => Mutant::NameLookupUpToFull,
+            (Reader::Single, false) => Mutant::ValueLookupUpToFull,
+            (Reader::Batch, _) => Mutant::BatchUpToFull,
+            (Reader::Path, _) => Mutant::PathUpToFull,
+            (Reader::Outline, true) => Mutant::OutlineNameUpToFull,
+            (Reader::Outline, false) => Mutant::OutlineTextUpToFull,
+        }
+    }
+
+    /// The wrong reading by which it finds no text without a stored 0.
+    #[inline(always)]
+    fn zero_needed(self, names: bool) -> Mutant {
+        match (self, names) {
+            (Reader::Repeat, _) => Mutant::RepeatsZeroNeeded,
+            (Reader::Special, _) => Mutant::SpecialZeroNeeded,
+            (Reader::Single, true) => Mutant::NameLookupZeroNeeded,
+            (Reader::Single, false) => Mutant::ValueLookupZeroNeeded,
+            (Reader::Batch, _) => Mutant::BatchZeroNeeded,
+            (Reader::Path, _) => Mutant::PathZeroNeeded,
+            (Reader::Outline, true) => Mutant::OutlineNameZeroNeeded,
+            (Reader::Outline, false) => Mutant::OutlineTextZeroNeeded,
+        }
+    }
+
+    /// Whether it reads an entry's text by its address, though the entry tells the
+    /// length.
+    #[inline(always)]
+    pub fn rereads<R: Reading>(self, reading: R, names: bool) -> bool {
+        reading.literal()
+            || reading.wrong(self.up_to_full(names))
+            || reading.wrong(self.zero_needed(names))
+    }
 }
 
 impl Entry {
@@ -101,7 +154,8 @@ impl<const BUCKETS: usize> Table<BUCKETS> {
         Address::at(file, self.count_at + 4 * index as usize)
     }
 
-    /// The text of an entry that has passed its checks, without its 0.
+    /// The text of an entry that has passed its checks. Its length is one more than the
+    /// characters, whether the 0 is stored or not.
     #[inline]
     pub fn entry_text<'a>(&self, file: &'a [u8], entry: Entry) -> &'a [u8] {
         let first = self.entry_start(file, entry);
@@ -132,27 +186,37 @@ impl<const BUCKETS: usize> Table<BUCKETS> {
         self.expect_text(file, entry)
     }
 
-    /// The text at any address, without its 0; none where the address does not
-    /// resolve or no 0 follows in the used part.
-    pub fn text_at<'a>(&self, file: &'a [u8], address: Address) -> Option<&'a [u8]> {
+    /// The text at any address: up to the first 0 or to the end of the used part. None
+    /// where the address does not resolve.
+    pub fn text_at<'a, R: Reading>(
+        &self,
+        reading: R,
+        reader: Reader,
+        file: &'a [u8],
+        address: Address,
+    ) -> Option<&'a [u8]> {
         let segment = self.chars.resolve(file, address)?;
-        let chars = used_chars(file, segment, address.element);
-        Some(&chars[..first_zero(chars)?])
+        let full = reading.wrong(reader.up_to_full(Self::NAMES));
+        let end = if full { segment.full } else { segment.used };
+        let start = self.chars.element_at(segment, address.element);
+        let chars = &file[start..segment.first + 2 * end as usize];
+        let text = if reading.literal() { definition::text(chars) } else { text_of(chars) };
+        let stored = text.len() < chars.len();
+        (stored || !reading.wrong(reader.zero_needed(Self::NAMES))).then_some(text)
     }
 
     /// The text of an index, empty where the list has no such index.
-    pub fn listed_text<'a>(&self, file: &'a [u8], index: u32) -> &'a [u8] {
+    pub fn listed_text<'a, R: Reading>(
+        &self,
+        reading: R,
+        reader: Reader,
+        file: &'a [u8],
+        index: u32,
+    ) -> &'a [u8] {
         if index == 0 || index > self.listed {
             return &[];
         }
         let address = self.listed_address(file, index);
-        self.text_at(file, address).unwrap_or(&[])
+        self.text_at(reading, reader, file, address).unwrap_or(&[])
     }
-}
-
-/// The used characters of a segment from an element on, as bytes.
-#[inline]
-fn used_chars(file: &[u8], segment: Segment, element: u16) -> &[u8] {
-    let end = segment.first + 2 * segment.used as usize;
-    &file[segment.first + 2 * element as usize..end]
 }

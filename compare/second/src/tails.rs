@@ -8,7 +8,7 @@
 use crate::carry::{carry, STEP, STEPS};
 use crate::hash::{folded_hash, kept, string_hash};
 use crate::reading::Right;
-use crate::scan::{first_zero, holds_zero};
+use crate::scan::{holds_zero, text_of};
 
 /// Texts of so many bytes are worth the look.
 pub const LONG: usize = STEP;
@@ -86,8 +86,8 @@ impl<const ENDS: usize, const FOLDED: usize> Tails<ENDS, FOLDED> {
         place
     }
 
-    /// The string hash of the bytes from `start` to `end`, where a 0 stands; none
-    /// where one stands among them.
+    /// The string hash of the bytes from `start` to `end`, where a text ends: at a 0 or
+    /// with the used part. None where a 0 stands among them.
     pub fn hash(&mut self, file: &[u8], start: usize, end: usize) -> Option<u32> {
         let text = &file[start..end];
         let place = self.place(end);
@@ -115,13 +115,13 @@ impl<const ENDS: usize> Tails<ENDS, ENDS> {
         ladder.hash(text, folded_hash)
     }
 
-    /// The hashes of the text that starts at `start`; none where no 0 follows
-    /// before `limit`.
+    /// The hashes of the text that starts at `start`, in a used part that ends at
+    /// `limit`. What is known of an end holds for all texts of its used part.
     pub fn text(&mut self, file: &[u8], start: usize, limit: usize) -> Option<Hashes> {
         let within = |known: &&(usize, usize)| known.0 <= start && start < known.1;
         let end = match self.known.iter().find(within) {
             Some(known) => known.1,
-            None => start + first_zero(&file[start..limit])?,
+            None => start + text_of(&file[start..limit]).len(),
         };
         let text = &file[start..end];
         let (hash, folded) = if text.len() < LONG {
@@ -138,7 +138,7 @@ mod tests {
     use super::*;
     use crate::hash::value_hash;
 
-    /// Three texts with a 0 behind each, the first of them as long as can be.
+    /// Three texts, the first of them as long as can be with its 0. The last has none.
     fn characters() -> (Vec<u8>, [usize; 3]) {
         let mut seed: u32 = 1;
         let mut ends = [0; 3];
@@ -151,6 +151,7 @@ mod tests {
             *end = bytes.len();
             bytes.extend([0, 0]);
         }
+        bytes.truncate(ends[2]);
         (bytes, ends)
     }
 
@@ -160,7 +161,7 @@ mod tests {
         let mut tails: Tails<2, 2> = Tails::EMPTY;
         let mut start = 0;
         for i in 0..3_000usize {
-            start = (start + 2 * (7_919 * i + 13)) % (bytes.len() - 2);
+            start = (start + 2 * (7_919 * i + 13)) % bytes.len();
             let end = *ends.iter().find(|&&end| start <= end).unwrap();
             let text = &bytes[start..end];
             assert_eq!(tails.hash(&bytes, start, end), Some(string_hash(Right, text)));
@@ -180,11 +181,19 @@ mod tests {
         assert_eq!(tails.hash(&bytes, ends[0], ends[1]), None);
     }
 
+    /// The same characters with a used part that ends before the 0, just behind it, and
+    /// inside the text.
     #[test]
-    fn texts_without_an_end() {
+    fn ends_of_used_parts() {
         let (bytes, ends) = characters();
-        let mut tails: Tails<2, 2> = Tails::EMPTY;
-        assert!(tails.text(&bytes, 0, ends[0]).is_none());
-        assert!(tails.text(&bytes, 0, ends[0] + 2).is_some());
+        for limit in [ends[0], ends[0] + 2, ends[0] - 2, 4_096, 2] {
+            let mut tails: Tails<2, 2> = Tails::EMPTY;
+            for start in [0, 2, 2_048, 4_094].into_iter().filter(|&start| start < limit) {
+                let text = &bytes[start..limit.min(ends[0])];
+                let found = tails.text(&bytes, start, limit).unwrap();
+                assert_eq!(found.hash, string_hash(Right, text));
+                assert_eq!(found.value_hash, value_hash(Right, text));
+            }
+        }
     }
 }

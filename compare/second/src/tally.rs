@@ -105,7 +105,7 @@ impl Lengths {
             Some((known, length)) if known == number => length as u64,
             _ => {
                 let length = counted(part);
-                // A text has at most 65,534 characters, each of which takes five bytes
+                // A text has at most 65,535 characters, each of which takes five bytes
                 // at most.
                 *place = Some((number, length as u32));
                 length

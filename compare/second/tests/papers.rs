@@ -1,8 +1,8 @@
-//! The vectors and examples of document 01 that need a whole file, on a
-//! smallest file put together here byte by byte.
+//! The vectors and examples of document 01 and request T-01 that need a whole file, on
+//! a smallest file put together here byte by byte.
 
 use second::program::{dump, to_frames};
-use second::{Answer, Index, Loader, Marked, Plain, Right, Which};
+use second::{Answer, Careful, Index, Literal, Loader, Marked, Plain, Reading, Right, Which};
 
 fn words(file: &mut Vec<u8>, all: &[u32]) {
     all.iter().for_each(|word| file.extend(word.to_le_bytes()));
@@ -14,8 +14,14 @@ fn entry(text: &str, index: u32, element: u32) -> [u32; 4] {
     [hash, text.len() as u32 + 1, index, element << 16]
 }
 
-/// One zero key, no attribute segments, one node, no values, two names.
+/// One zero key, no attribute segments, one node, no values, two names, of which the
+/// last has no stored 0.
 fn smallest() -> Vec<u8> {
+    with_names("__root__\0__value__", "")
+}
+
+/// The same with these used name characters, and others behind the used part.
+fn with_names(used: &str, behind: &str) -> Vec<u8> {
     let mut file = Vec::new();
     words(&mut file, &[6, 0, 0, 1, 0, 0, 0, 0]);
     words(&mut file, &[1, 0, 0, 0]);
@@ -24,8 +30,9 @@ fn smallest() -> Vec<u8> {
     words(&mut file, &[0]);
     words(&mut file, &[0; 1024]);
     words(&mut file, &[1]);
-    words(&mut file, &[1, 19, 19]);
-    file.extend("__root__\0__value__\0".encode_utf16().flat_map(|c| c.to_le_bytes()));
+    words(&mut file, &[1, (used.len() + behind.len()) as u32, used.len() as u32]);
+    let characters = used.encode_utf16().chain(behind.encode_utf16());
+    file.extend(characters.flat_map(|c| c.to_le_bytes()));
     let names = [entry("__root__", 1, 0), entry("__value__", 2, 9)];
     for bucket in 0..512 {
         let here: Vec<_> =
@@ -37,24 +44,71 @@ fn smallest() -> Vec<u8> {
     file
 }
 
-fn both(check: impl Fn(&dyn Fn(&[u8]) -> Answer)) {
-    fn accept<I: Index>(file: &[u8]) -> Answer {
-        Loader::<Right, I>::new(Right).accept(file, &mut [7; 4])
+fn every_form(check: impl Fn(&dyn Fn(&[u8]) -> Answer)) {
+    fn accept<R: Reading + Default, I: Index>(file: &[u8]) -> Answer {
+        Loader::<R, I>::new(R::default()).accept(file, &mut [7; 4])
     }
-    check(&accept::<Plain>);
-    check(&accept::<Marked>);
+    check(&accept::<Right, Plain>);
+    check(&accept::<Right, Careful>);
+    check(&accept::<Right, Marked>);
+    check(&accept::<Literal, Marked>);
 }
+
+fn refused(refusal: u32, place: u64) -> Answer {
+    Answer { refusal, kind: 0, value: place }
+}
+
+const ACCEPTED: Answer = Answer { refusal: 0, kind: 0, value: 1 };
 
 #[test]
 fn smallest_file() {
     let file = smallest();
-    assert_eq!(file.len(), 6334);
-    both(|accept| {
-        assert_eq!(accept(&file), Answer { refusal: 0, kind: 0, value: 1 });
-        assert_eq!(accept(&file[..6333]), Answer { refusal: 2, kind: 0, value: 6330 });
-        assert_eq!(accept(&file[..4]), Answer { refusal: 2, kind: 0, value: 4 });
-        assert_eq!(accept(&[5, 0, 0, 0]), Answer { refusal: 3, kind: 0, value: 0 });
-        assert_eq!(accept(&[]), Answer { refusal: 2, kind: 0, value: 0 });
+    let stored = with_names("__root__\0__value__\0", "");
+    assert_eq!((file.len(), stored.len()), (6332, 6334));
+    every_form(|accept| {
+        assert_eq!(accept(&file), ACCEPTED);
+        assert_eq!(accept(&file[..6331]), refused(2, 6328));
+        assert_eq!(accept(&stored), ACCEPTED);
+        assert_eq!(accept(&stored[..6333]), refused(2, 6330));
+        assert_eq!(accept(&file[..4]), refused(2, 4));
+        assert_eq!(accept(&[5, 0, 0, 0]), refused(3, 0));
+        assert_eq!(accept(&[]), refused(2, 0));
+    });
+}
+
+/// Offset of the entry of `__value__`.
+fn value_entry(file: &[u8]) -> usize {
+    let bytes: Vec<u8> =
+        entry("__value__", 2, 9).iter().flat_map(|word| word.to_le_bytes()).collect();
+    file.windows(16).position(|sixteen| sixteen == bytes).unwrap()
+}
+
+#[test]
+fn texts_end_with_the_used_part() {
+    every_form(|accept| {
+        for behind in ["", "\0", "x", "\0x", "x\0", "_\0\0"] {
+            let file = with_names("__root__\0__value__", behind);
+            assert_eq!(accept(&file), ACCEPTED, "{behind:?}");
+        }
+        // A character less in the used part, though it stands behind it.
+        let file = with_names("__root__\0__value_", "_\0");
+        assert_eq!(accept(&file), refused(8, value_entry(&file) as u64));
+        // The address is not in the used part.
+        let file = with_names("__root__\0", "__value__\0");
+        assert_eq!(accept(&file), refused(7, value_entry(&file) as u64));
+    });
+}
+
+#[test]
+fn length_counts_the_dropped_0() {
+    let file = smallest();
+    let at = value_entry(&file);
+    every_form(|accept| {
+        for length in [0, 1, 8, 9, 11, 12, 0x8000_000a, u32::MAX] {
+            let mut other = file.clone();
+            other[at + 4..at + 8].copy_from_slice(&length.to_le_bytes());
+            assert_eq!(accept(&other), refused(8, at as u64), "{length}");
+        }
     });
 }
 
@@ -63,9 +117,11 @@ fn program_examples() {
     let file = smallest();
     let mut longer = file.clone();
     longer.push(0);
-    assert_eq!(dump(&to_frames(&file)), b"accepted 6334\n__root__\n");
-    assert_eq!(dump(&to_frames(&file[..6333])), b"refused 2 at 6330\n");
-    assert_eq!(dump(&to_frames(&longer)), b"refused 6 at 6334\n");
+    let stored = with_names("__root__\0__value__\0", "");
+    assert_eq!(dump(&to_frames(&file)), b"accepted 6332\n__root__\n");
+    assert_eq!(dump(&to_frames(&file[..6331])), b"refused 2 at 6328\n");
+    assert_eq!(dump(&to_frames(&longer)), b"refused 6 at 6332\n");
+    assert_eq!(dump(&to_frames(&stored)), b"accepted 6334\n__root__\n");
     assert_eq!(dump(b""), b"refused 2 at 0\n");
 }
 

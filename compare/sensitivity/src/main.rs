@@ -8,11 +8,13 @@ mod suspects;
 use std::process::ExitCode;
 use std::time::{Duration, Instant};
 
-use compare::asks::asks;
+use compare::asks::{asks, every};
 use compare::case::{random, Case};
+use compare::directed;
 use compare::guard::Edge;
 use compare::hashes;
-use compare::question::{Ask, Question};
+use compare::question::Question;
+use compare::run::PLAIN;
 use compare::sparse::Largest;
 use compare::sweep::{cut_counts, cuts, limits};
 use compare::texts::ordinary;
@@ -25,7 +27,10 @@ use suspects::Suspects;
 const BUDGET: Duration = Duration::from_secs(300);
 
 fn case(suspects: &mut Suspects, rng: &mut Rng, case: &Case) {
-    let questions = asks(rng, case);
+    ask(suspects, case, &asks(rng, case));
+}
+
+fn ask(suspects: &mut Suspects, case: &Case, questions: &[Question]) {
     for edge in [Edge::End, Edge::Start] {
         suspects.pages.put_file(&case.bytes, edge);
         for question in questions.iter().filter(|question| question.edge == edge) {
@@ -34,7 +39,8 @@ fn case(suspects: &mut Suspects, rng: &mut Rng, case: &Case) {
     }
 }
 
-/// Random files first, then the sweeps and limits that random ones rarely hit.
+/// Random files first, then those whose texts end with the used part, and the sweeps and
+/// limits that random ones rarely hit.
 fn files(suspects: &mut Suspects, seed: u64) {
     let started = Instant::now();
     let done = |suspects: &Suspects| suspects.all_caught() || started.elapsed() > BUDGET;
@@ -43,14 +49,15 @@ fn files(suspects: &mut Suspects, seed: u64) {
         let made = random(&mut rng);
         case(suspects, &mut rng, &made);
     }
+    for made in directed::cases(seed) {
+        ask(suspects, &made, &every(&mut rng, &made));
+    }
     for make in limits() {
         let made = make(&mut rng);
         case(suspects, &mut rng, &made);
     }
     let mut largest = Largest::new();
-    let question =
-        Question { ask: Ask::Accept, workspace: 1, out: 0, fill: 1, edge: Edge::End, null: false };
-    suspects.question_on(largest.bytes(0), &question);
+    suspects.question_on(largest.bytes(0), &Question { workspace: 1, ..PLAIN });
     for made in cut_counts(&mut rng).chain(cuts(&mut rng.clone())) {
         if done(suspects) {
             return;

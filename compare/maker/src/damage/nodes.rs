@@ -196,11 +196,11 @@ pub const ALL: &[Damage] = &[
     }),
 ];
 
-/// The text at an address of the value characters, without its 0.
+/// The text at an address of the value characters, if it resolves.
 fn text_at(chars: &Region<u16>, address: Addr) -> Option<&[u16]> {
     let used = chars.segments.get(address.0 as usize)?.used.get(address.1 as usize..)?;
-    let length = used.iter().position(|&character| character == 0)?;
-    Some(&used[..length])
+    let zero = used.iter().position(|&character| character == 0);
+    (!used.is_empty()).then(|| &used[..zero.unwrap_or(used.len())])
 }
 
 fn value_name(model: &Model) -> Option<u16> {
@@ -258,7 +258,7 @@ fn shown(model: &mut Model, rng: &mut Rng, edit: impl Fn(&mut Attr, &mut Rng)) -
     edit_attribute(model, rng, |_| true, edit)
 }
 
-fn text_shown(model: &mut Model, rng: &mut Rng, edit: impl Fn(&mut Attr, &mut Rng)) -> bool {
+pub fn text_shown(model: &mut Model, rng: &mut Rng, edit: impl Fn(&mut Attr, &mut Rng)) -> bool {
     edit_attribute(model, rng, |attribute| attribute.type_word & 3 == 3, edit)
 }
 

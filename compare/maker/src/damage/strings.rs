@@ -38,19 +38,14 @@ pub const ALL: &[Damage] = &[
             true
         })
     }),
-    damage(8, "the last 0 falls into the slack", |model, rng| {
+    damage(7, "the used part ends where a text starts", |model, rng| {
         let table = if rng.one_in(2) { &mut model.values } else { &mut model.names };
         let Some((b, e)) = any_entry(table, rng) else {
             return false;
         };
-        // The used part ends just before the entry's 0.
-        let chosen = &table.buckets[b].entries[e];
-        let ends = chosen.address.1 as usize + chosen.length as usize - 1;
-        let segment = &mut table.chars.segments[chosen.address.0 as usize];
-        if ends == chosen.address.1 as usize {
-            return false;
-        }
-        let mut cut = segment.used.split_off(ends);
+        let (number, first) = table.buckets[b].entries[e].address;
+        let segment = &mut table.chars.segments[number as usize];
+        let mut cut = segment.used.split_off(first as usize);
         cut.append(&mut segment.slack);
         segment.slack = cut;
         true

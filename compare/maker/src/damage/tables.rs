@@ -1,7 +1,7 @@
 //! Damage among entries, lists, names and keys: refusals 10 and 12 to 15.
 
 use super::strings::any_entry;
-use super::{damage, Damage};
+use super::{damage, replace, Damage};
 use crate::collide::hash;
 use crate::model::{Entry, Model, Table};
 use crate::rng::Rng;
@@ -64,14 +64,7 @@ pub const ALL: &[Damage] = &[
             return false;
         };
         let chosen = values.buckets[b].entries[e].clone();
-        let text = text_of(values, &chosen);
-        let Some(segment) = values.chars.segments.last_mut() else {
-            return false;
-        };
-        let element = segment.used.len() as u16;
-        segment.used.extend(text);
-        segment.used.push(0);
-        let address = (values.chars.segments.len() as u16 - 1, element);
+        let address = values.append(&text_of(values, &chosen));
         values.list.push(address);
         let index = values.list.len() as u32;
         let entries = &mut values.buckets[b].entries;
@@ -144,11 +137,9 @@ pub const ALL: &[Damage] = &[
     }),
     damage(15, "a key names `__value__`", |model, rng| {
         let wanted = text("__value__");
-        let found = model.names.list.iter().position(|&address| {
-            let at = &model.names.chars.segments[address.0 as usize].used[address.1 as usize..];
-            at.starts_with(&wanted) && at.get(wanted.len()) == Some(&0)
-        });
-        let Some(index) = found else {
+        let names = &model.names;
+        let Some(index) = names.list.iter().position(|&address| names.text(address) == wanted)
+        else {
             return false;
         };
         let mut key = [0; 4];
@@ -166,7 +157,7 @@ fn some_table<'a>(model: &'a mut Model, rng: &mut Rng) -> &'a mut Table {
     }
 }
 
-fn text_of(table: &Table, entry: &Entry) -> Vec<u16> {
+pub fn text_of(table: &Table, entry: &Entry) -> Vec<u16> {
     let used = &table.chars.segments[entry.address.0 as usize].used;
     let first = entry.address.1 as usize;
     used[first..first + entry.length as usize - 1].to_vec()
@@ -194,14 +185,10 @@ fn respell(table: &mut Table, right: &[u16], wrong: &[u16]) -> bool {
     let Some((b, e)) = found else {
         return false;
     };
-    let mut entry = table.buckets[b].entries.remove(e);
+    let entry = Entry { hash: hash(wrong), ..table.buckets[b].entries[e].clone() };
     let first = entry.address.1 as usize;
     let used = &mut table.chars.segments[entry.address.0 as usize].used;
     used[first..first + wrong.len()].copy_from_slice(wrong);
-    entry.hash = hash(wrong);
-    let to = (entry.hash ^ (entry.hash >> 16)) as usize % table.buckets.len();
-    let entries = &mut table.buckets[to].entries;
-    let place = entries.iter().filter(|other| other.hash <= entry.hash).count();
-    entries.insert(place, entry);
+    replace(table, (b, e), entry);
     true
 }

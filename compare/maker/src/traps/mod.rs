@@ -52,7 +52,7 @@ impl Class {
         Class { name: name.to_string(), smallest, make: Box::new(make) }
     }
 
-    /// A file of about so many bytes. The smallest file has 6,334, and a large
+    /// A file of about so many bytes. The smallest file has 6,332, and a large
     /// ordinary one about a million.
     pub fn make(&self, bytes: usize) -> Trap {
         (self.make)(bytes)
@@ -133,6 +133,20 @@ mod tests {
         }
     }
 
+    /// Texts stay what they are, and where they are, so answers do too.
+    #[test]
+    fn dropped_zeros_change_no_answer() {
+        let mut rng = Rng::new(22);
+        for class in of_any_size() {
+            let mut trap = class.make(60 * KB);
+            let stored = ask_all(&trap, &class.name);
+            trap.model.drop_some(&mut rng);
+            let dropped = ask_all(&trap, &class.name);
+            assert_eq!(stored.refusal, dropped.refusal, "{}", class.name);
+            assert!(stored == dropped || stored.refusal != 0, "{}", class.name);
+        }
+    }
+
     #[test]
     fn damaged_traps_are_refused_alike() {
         let mut rng = Rng::new(21);
@@ -144,7 +158,7 @@ mod tests {
             for _ in 0..3 {
                 let damage = *rng.pick(&damages);
                 let whole = trap.model.clone();
-                (damage.edit)(&mut trap.model, &mut rng);
+                damage.apply(&mut trap.model, &mut rng);
                 refused += (ask_all(&trap, &class.name).refusal != 0) as u32;
                 trap.model = whole;
             }

@@ -2,16 +2,16 @@
 
 use super::{Ask, Trap};
 use crate::collide::hash;
-use crate::model::{Addr, Attr, Bucket, Entry, Model, Node, Region, Segment, Table};
+use crate::model::{Addr, Attr, Model, Node, Region, Segment, Table};
 use crate::rng::Rng;
 use crate::shapes::smallest;
-use crate::table::{table, Style, TIDY};
+use crate::table::{string_table, table, Placed, Style, TIDY};
 use crate::text::{text, Text};
 
 /// Elements of a segment, at most.
 pub const FULL: usize = 65_535;
 /// Bytes of the smallest file.
-pub const LEAST: usize = 6_334;
+pub const LEAST: usize = 6_332;
 pub const NODE: usize = 24;
 pub const ATTRIBUTE: usize = 12;
 /// An entry and its place in the list.
@@ -94,7 +94,7 @@ pub struct Characters {
 }
 
 impl Characters {
-    /// A text and its 0.
+    /// A text and its stored 0.
     pub fn put(&mut self, text: &[u16]) -> Addr {
         let room = |segment: &Segment<u16>| segment.used.len() + text.len() < FULL;
         if !self.region.segments.last().is_some_and(room) {
@@ -107,35 +107,11 @@ impl Characters {
         used.push(0);
         address
     }
-}
 
-/// A text that gets an entry: its hash, characters and place.
-pub struct Placed {
-    pub hash: u32,
-    pub characters: usize,
-    pub address: Addr,
-}
-
-impl Placed {
-    pub fn new(characters: &mut Characters, text: &[u16]) -> Placed {
-        Placed { hash: hash(text), characters: text.len(), address: characters.put(text) }
+    /// The same for a text that gets an entry.
+    pub fn placed(&mut self, text: &[u16]) -> Placed {
+        Placed { hash: hash(text), characters: text.len(), address: self.put(text) }
     }
-}
-
-/// The table of these texts; the first has index 1. Entries of one hash keep
-/// their order.
-pub fn string_table(chars: Region<u16>, texts: Vec<Placed>, buckets: usize) -> Table {
-    let list = texts.iter().map(|text| text.address).collect();
-    let mut made = Table { chars, buckets: vec![Bucket::default(); buckets], list, count_is: None };
-    for (i, Placed { hash, characters, address }) in texts.into_iter().enumerate() {
-        let bucket = (hash ^ (hash >> 16)) as usize % buckets;
-        let (length, index) = (characters as u32 + 1, i as u32 + 1);
-        made.buckets[bucket].entries.push(Entry { hash, length, index, address });
-    }
-    for bucket in &mut made.buckets {
-        bucket.entries.sort_by_key(|entry| entry.hash);
-    }
-    made
 }
 
 /// Nodes with the attributes of one range after the other, each of so many.

@@ -1,14 +1,15 @@
 //! Ranges that many nodes share, and texts that many attributes share.
 
 use super::parts::{
-    left, names, nodes_of_ranges, string_table, tree, whole_ranges, Characters, Parts, Placed,
-    ATTRIBUTE, ENTRY, FULL, NAME, NODE,
+    left, names, nodes_of_ranges, tree, whole_ranges, Characters, Parts, ATTRIBUTE, ENTRY, FULL,
+    NAME, NODE,
 };
 use super::{Ask, Class, Trap, KB, MB};
 use crate::attributes::text_attribute;
 use crate::collide::hash;
 use crate::model::{Addr, Attr, Node};
 use crate::rng::Rng;
+use crate::table::{string_table, Placed};
 use crate::text::{letters, Text};
 
 pub fn classes() -> Vec<Class> {
@@ -74,7 +75,7 @@ fn one_long_text(bytes: usize) -> Trap {
     let characters = (left(bytes) / 4).min(FULL - 1);
     let long = long_text(characters);
     let mut chars = Characters::default();
-    let placed = Placed::new(&mut chars, &long);
+    let placed = chars.placed(&long);
     let address = placed.address;
     let nodes = left(bytes).saturating_sub(2 * characters) / (NODE + EACH * ATTRIBUTE);
     let attribute = text_attribute(1, &long, address);
@@ -99,7 +100,7 @@ fn many_long_texts(bytes: usize) -> Trap {
     let texts: Vec<Text> =
         (0..part.div_ceil(2 * LENGTH)).map(|_| letters(&mut rng, LENGTH, LENGTH)).collect();
     let mut chars = Characters::default();
-    let placed: Vec<Placed> = texts.iter().map(|text| Placed::new(&mut chars, text)).collect();
+    let placed: Vec<Placed> = texts.iter().map(|text| chars.placed(text)).collect();
     let attribute = |text: &Text, placed: &Placed| text_attribute(1, text, placed.address);
     let each: Vec<Attr> = texts.iter().zip(&placed).map(|(t, p)| attribute(t, p)).collect();
     let named = |i| Attr { name: (i % EACH) as u16 + 1, ..rng.pick(&each).clone() };

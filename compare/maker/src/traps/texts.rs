@@ -3,14 +3,15 @@
 use second::hashes::{by_definition, folded};
 
 use super::parts::{
-    left, names, nodes_of_ranges, string_table, tree, whole_ranges, Characters, Parts, Placed,
-    ATTRIBUTE, ENTRY, FULL, NODE,
+    left, names, nodes_of_ranges, tree, whole_ranges, Characters, Parts, ATTRIBUTE, ENTRY, FULL,
+    NODE,
 };
 use super::{Ask, Class, Trap, KB, MB};
 use crate::attributes::text_attribute;
 use crate::collide::{closing, hash};
 use crate::model::{Addr, Attr, Table};
 use crate::rng::Rng;
+use crate::table::{string_table, Placed};
 use crate::text::{letters, to_bytes, Text};
 
 pub fn classes() -> Vec<Class> {
@@ -95,7 +96,7 @@ fn one_hash_texts(bytes: usize, shared: usize) -> Vec<Text> {
 }
 
 fn placed(characters: &mut Characters, texts: &[Text]) -> Vec<Placed> {
-    texts.iter().map(|text| Placed::new(characters, text)).collect()
+    texts.iter().map(|text| characters.placed(text)).collect()
 }
 
 fn table_of(texts: &[Text]) -> Table {
@@ -147,7 +148,7 @@ fn crowd_attributes(bytes: usize) -> Trap {
     .accepted()
 }
 
-/// In each segment one text as long as can be; its ends that start so far apart are
+/// In each segment one text that nearly fills it; its ends that start so far apart are
 /// values, and attributes may have them.
 fn suffixes(bytes: usize, apart: usize, with_attributes: bool) -> Trap {
     const EACH: usize = 8;
