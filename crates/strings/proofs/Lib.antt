@@ -6,6 +6,7 @@ pub mod Glances
 pub mod Begun
 pub mod Checks
 pub mod Runs
+pub mod Differing
 pub mod Left
 pub mod Only
 pub mod Agree

@@ -27,10 +27,6 @@ parted t k i j x y r s p q d e =
     d (omega (arith, p, q, r .sized, s .sized))
 
 module _ (t : Table) (k j : ℕ) where
-  pub alone-start : Alone t k j j
-  unfolding Alone
-  alone-start m l h q = omega arith
-
   pub alone-more : (i n : ℕ) → n + 1 ≡ i → Alone t k j i → (textOf t k n ≡ textOf t k j → ⊥) → Alone t k j n
   unfolding Alone
   alone-more i n e f g m l h q = ⊎-elim (λ w. g (ap (textOf t k) w ∙ q)) (λ w. f m (omega arith) h q) (eq-or-lt-of-le l)

@@ -6,3 +6,4 @@ pub mod Held
 pub mod Begins
 pub mod Ahead
 pub mod Before
+pub mod Apart

@@ -18,14 +18,15 @@ pub struct Stretch {
     pub left: usize,
 }
 
-// The same, and what touch_whole reads there.
+// The same, what touch_whole reads there, and from which entry on those before it are known to have other texts.
 pub struct Glance {
     pub at: usize,
     pub left: usize,
     pub seen: usize,
+    pub from: usize,
 }
 
-fn least(a: usize, b: usize) -> usize
+pub(crate) fn least(a: usize, b: usize) -> usize
     ensures { λ r. ⌜ (r ≤ a) × (r ≤ b) × ((i : ℕ) → i < a → i < b → i < r) ⌝ }
 {
     if a < b { a } else { b }

@@ -10,7 +10,7 @@ ghost use Rattle.strings.specs.Rules.{Placed, Indexed, Twin};
 ghost use Rattle.strings.specs.Order.{entryChecks};
 ghost use Rattle.strings.specs.Held.{Held, heldTable, Here, TextRight, Sorted};
 ghost use Rattle.strings.specs.Ahead.{Glanced};
-ghost use Rattle.strings.specs.Texts.{textOf};
+ghost use Rattle.strings.specs.Apart.{Compared, Away};
 use crate::Strings;
 use crate::ahead::Glance;
 use crate::spot;
@@ -88,9 +88,9 @@ pub(crate) fn indexed(
     le::u16_at(b, p + 2) == le::u16_at(b, e + 14)
 }
 
-// Whether entries i and j of bucket k, whose texts are right, have the same text. Their lengths are compared first: texts that repeat one
+// Whether entries i and j of bucket k have the same text, if their texts are right. Their lengths are compared first: texts that repeat one
 // word, which have one hash if that of the word is 0, share all but their ends.
-fn same_text(
+pub(crate) fn same_text(
     b: &[u8],
     s: Strings,
     samples: &[u32; 1024],
@@ -99,11 +99,9 @@ fn same_text(
     i: usize,
     j: usize,
 ) -> bool
-    requires { ⌜ Held (now b) s (now samples) (now starts)
-        × Here (heldTable (now b) s (now starts)) k i × TextRight (heldTable (now b) s (now starts)) k i
-        × Here (heldTable (now b) s (now starts)) k j × TextRight (heldTable (now b) s (now starts)) k j ⌝ }
-    ensures { λ r. ⌜ Tells (textOf (heldTable (now (b .entry)) s (now (starts .entry))) k i
-        ≡ textOf (heldTable (now (b .entry)) s (now (starts .entry))) k j) r ⌝ }
+    requires { ⌜ Held (now b) s (now samples) (now starts) × Here (heldTable (now b) s (now starts)) k i
+        × Here (heldTable (now b) s (now starts)) k j ⌝ }
+    ensures { λ r. ⌜ Compared (heldTable (now (b .entry)) s (now (starts .entry))) k i j r ⌝ }
 {
     let d = entry_at(b, s, samples, starts, k, i);
     let e = entry_at(b, s, samples, starts, k, j);
@@ -121,16 +119,24 @@ fn same_text(
     text::same(b, p, m, q, n)
 }
 
-// What refusal 12 is given for. Texts that are the same have one hash, and hashes ascend: only the run of entries just
-// before with the same hash is read.
-fn twin(b: &[u8], s: Strings, samples: &[u32; 1024], starts: &[u32], k: usize, j: usize) -> bool
+// What refusal 12 is given for, where the entries from `from` on are known to have other texts. Texts that are the same have one hash, and
+// hashes ascend: only the run of entries just before with the same hash is read.
+fn twin(
+    b: &[u8],
+    s: Strings,
+    samples: &[u32; 1024],
+    starts: &[u32],
+    k: usize,
+    j: usize,
+    from: usize,
+) -> bool
     requires { ⌜ Held (now b) s (now samples) (now starts) × Here (heldTable (now b) s (now starts)) k j
-        × Sorted (heldTable (now b) s (now starts)) k j ⌝ }
+        × Sorted (heldTable (now b) s (now starts)) k j × Away (heldTable (now b) s (now starts)) k from j ⌝ }
     ensures { λ r. ⌜ Tells (Twin (heldTable (now (b .entry)) s (now (starts .entry))) k j) r ⌝ }
 {
     let e = entry_at(b, s, samples, starts, k, j);
     let h = le::u32_at(b, e);
-    let mut i = j;
+    let mut i = from;
     while i > 0 {
         let d = entry_at(b, s, samples, starts, k, i - 1);
         if le::u32_at(b, d) != h {
@@ -153,10 +159,12 @@ fn check_order(
     k: usize,
     j: usize,
     listed: bool,
+    from: usize,
 ) -> Verdict
     requires { ⌜ Held (now b) s (now samples) (now starts) × Here (heldTable (now b) s (now starts)) k j
         × ((i : ℕ) → i < j → firstFault (entryChecks (heldTable (now b) s (now starts)) k i) ≡ Accepted)
-        × TextRight (heldTable (now b) s (now starts)) k j × Tells (Indexed (heldTable (now b) s (now starts)) k j) listed ⌝ }
+        × TextRight (heldTable (now b) s (now starts)) k j × Tells (Indexed (heldTable (now b) s (now starts)) k j) listed
+        × Away (heldTable (now b) s (now starts)) k from j ⌝ }
     ensures { λ r. ⌜ r ≡ firstFault (entryChecks (heldTable (now (b .entry)) s (now (starts .entry))) k j) ⌝ }
 {
     let e = entry_at(b, s, samples, starts, k, j);
@@ -166,7 +174,7 @@ fn check_order(
     if !listed {
         return Verdict::Refused(11, e);
     }
-    if twin(b, s, samples, starts, k, j) {
+    if twin(b, s, samples, starts, k, j, from) {
         return Verdict::Refused(12, e);
     }
     Verdict::Accepted
@@ -206,7 +214,7 @@ pub(crate) fn check_entry(
 ) -> Verdict
     requires { ⌜ Tables (now t) × Held (now b) s (now samples) (now starts) × Here (heldTable (now b) s (now starts)) k j
         × ((i : ℕ) → i < j → firstFault (entryChecks (heldTable (now b) s (now starts)) k i) ≡ Accepted)
-        × Glanced (heldTable (now b) s (now starts)) k j (g .at) (g .left) (g .seen)
+        × Glanced (heldTable (now b) s (now starts)) k j (g .at) (g .left) (g .seen) × Away (heldTable (now b) s (now starts)) k (g .from) j
         × Sure (Indexed (heldTable (now b) s (now starts)) k j) listed ⌝ }
     ensures { λ r. ⌜ r ≡ firstFault (entryChecks (heldTable (now (b .entry)) s (now (starts .entry))) k j) ⌝ }
 {
@@ -222,5 +230,5 @@ pub(crate) fn check_entry(
         return Verdict::Refused(9, e);
     }
     let right = index_passes(b, s, samples, starts, k, j, listed);
-    check_order(b, s, samples, starts, k, j, right)
+    check_order(b, s, samples, starts, k, j, right, g.from)
 }

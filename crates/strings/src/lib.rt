@@ -1,5 +1,6 @@
 // Refusals 7 to 12: the entries of a string table (FORMAT, "String tables", "Refusals").
 pub mod ahead;
+mod apart;
 pub mod entry;
 mod listed;
 pub mod spot;

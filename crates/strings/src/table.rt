@@ -11,6 +11,8 @@ ghost use Rattle.strings.specs.Held.{Held, heldTable, Here};
 use crate::Strings;
 use crate::ahead;
 use crate::ahead::Glance;
+use crate::apart;
+use crate::apart::Span;
 use crate::entry;
 use crate::listed;
 use verdict::Verdict;
@@ -68,6 +70,7 @@ pub fn check_entries(
     let mut k = 0;
     'buckets: while k < starts.len() {
         let n = entry::entry_count(b, s, samples, starts, k);
+        let mut span = Span { start: 0, end: 0 };
         let mut j = 0;
         while j < n {
             ahead::keep_ahead(
@@ -82,11 +85,13 @@ pub fn check_entries(
                 &mut left,
                 &mut seen,
             );
+            span = apart::span_at(b, s, samples, starts, k, n, j, span);
             let i = j % 64;
             let g = Glance {
                 at: at[i],
                 left: left[i],
                 seen: seen[i],
+                from: apart::away_from(span, j),
             };
             match entry::check_entry(b, t, s, samples, starts, k, j, g, right) {
                 Verdict::Accepted => {}

@@ -8,3 +8,4 @@ pub mod OneByOne
 pub mod Counted
 pub mod AsBytes
 pub mod Agree
+pub mod Stirred

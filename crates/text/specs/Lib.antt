@@ -1,3 +1,4 @@
 pub mod Text
 pub mod Zeros
 pub mod Measure
+pub mod Fingerprint

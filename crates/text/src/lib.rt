@@ -10,6 +10,7 @@ ghost use Rattle.text.specs.Text.{chars, textIn};
 ghost use Rattle.text.specs.Zeros.{zerosIn};
 ghost use Rattle.text.specs.Measure.{MeasuredOn, Measured, ValueRun, CharOrEnd};
 
+pub mod fingerprint;
 pub mod parts;
 
 // What is measured of a text: its characters, its hash.

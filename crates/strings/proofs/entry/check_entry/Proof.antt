@@ -38,7 +38,7 @@ returns-3 c =
 index-passes-requires : tie.Need-index-passes-requires
 index-passes-requires c κs =
     let p = c .before .before .before .before .before .before .before .before .before .before .before .before .pre in
-    (p .1, p .2, p .5)
+    (p .1, p .2, p .6)
 
 check-order-requires : tie.Need-check-order-requires
 check-order-requires c κs =
@@ -48,7 +48,7 @@ check-order-requires c κs =
     let r =
     text-right _ _ _ _ _ _ (c .before .before .before .before .before .before .before .measure .ensures) w _ (length-at _ _ _ _ _ q (c .before .before .before .before .before .before .u32-at .ensures .0))
     (c .before .before .before .before .if2 .left) _ (hash-at _ _ _ _ _ q (c .before .before .before .u32-at2 .ensures .0)) (c .before .if3 .left) in
-    (p .1, p .2, p .3, r, c .index-passes .ensures)
+    (p .1, p .2, p .3, r, c .index-passes .ensures, p .5)
 
 pub check-entry-spec : {M : Type 1} → statement M
 check-entry-spec =

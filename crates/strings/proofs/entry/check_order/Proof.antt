@@ -22,7 +22,7 @@ returns-2 c =
 twin-requires : tie.Need-twin-requires
 twin-requires c κs =
     let p = c .before .before .before .before .before .before .pre in
-    (p .0, p .1, sorted _ _ _ (p .2) (p .3) (c .before .before .placed .ensures .so (not-false _ (c .before .if1 .left))))
+    (p .0, p .1, sorted _ _ _ (p .2) (p .3) (c .before .before .placed .ensures .so (not-false _ (c .before .if1 .left))), p .5)
 
 returns-3 : tie.Need-returns-3
 returns-3 c =

@@ -1,8 +1,8 @@
 use borrow.Author.Needs.{needs}
-use Rattle.verdict.proofs.Laws.{tells-no}
 use Rattle.strings.specs.Texts.{textOf}
 use Rattle.strings.proofs.Places.{length-at}
 use Rattle.strings.proofs.Runs.{parted}
+use Rattle.strings.proofs.Differing.{compared, compared-no}
 use Rattle.strings.proofs.Spots.{spotted, unspotted, same-texts}
 use Rattle.strings.proofs.entry.same_text.Statement.{statement}
 use Rattle.strings.proofs.entry.same_text.Tie as tie
@@ -10,14 +10,13 @@ use Rattle.strings.proofs.entry.same_text.Tie as tie
 returns : tie.Need-returns
 returns c =
     let a = c .before .before in
-    let p = a .before .before .before .before .before .pre in
-    tells-no (parted _ _ _ _ _ _ (p .2) (p .4) (length-at _ _ _ _ _ (a .before .before .entry-at .ensures .0) (a .u32-at .ensures .0)) (length-at _ _ _ _ _ (a .before .entry-at2 .ensures .0) (c .before .u32-at2 .ensures .0)) (c .if1 .taken))
+    compared-no _ _ _ _ (record { texts = λ r s. parted _ _ _ _ _ _ r s (length-at _ _ _ _ _ (a .before .before .entry-at .ensures .0) (a .u32-at .ensures .0)) (length-at _ _ _ _ _ (a .before .entry-at2 .ensures .0) (c .before .u32-at2 .ensures .0)) (c .if1 .taken) })
 
 returns-2 : tie.Need-returns-2
-returns-2 c = absurd (unspotted _ _ _ _ (c .before .before .before .before .before .before .before .before .entry-at .ensures .0) (c .before .before .before .spot-to .ensures) (c .enum-told .given .1) (c .before .before .before .before .before .before .before .before .before .before .before .pre .2 .resolved))
+returns-2 c = compared-no _ _ _ _ (record { texts = λ r s. absurd (unspotted _ _ _ _ (c .before .before .before .before .before .before .before .before .entry-at .ensures .0) (c .before .before .before .spot-to .ensures) (c .enum-told .given .1) (r .resolved)) })
 
 returns-3 : tie.Need-returns-3
-returns-3 c = absurd (unspotted _ _ _ _ (c .before .before .before .before .before .before .before .before .before .before .entry-at2 .ensures .0) (c .before .before .before .before .before .spot-to2 .ensures) (c .enum-told2 .given .1) (c .before .before .before .before .before .before .before .before .before .before .before .before .before .before .pre .4 .resolved))
+returns-3 c = compared-no _ _ _ _ (record { texts = λ r s. absurd (unspotted _ _ _ _ (c .before .before .before .before .before .before .before .before .before .before .entry-at2 .ensures .0) (c .before .before .before .before .before .spot-to2 .ensures) (c .enum-told2 .given .1) (s .resolved)) })
 
 same-requires : tie.Need-same-requires
 same-requires c κs = let l = c .before .before .before .before .before .before .before .before .before .before .before .before .before .before .before .pre .0 .laid .characters in (
@@ -28,8 +27,8 @@ same-requires c κs = let l = c .before .before .before .before .before .before 
 returns-4 : tie.Need-returns-4
 unfolding textOf
 returns-4 c = let l = c .before .before .before .before .before .before .before .before .before .before .before .before .before .before .before .before .pre .0 .laid .characters in
-    same-texts _ _ _ _ _ _ _ _ _ (spotted _ _ _ _ (c .before .before .before .before .before .before .before .before .before .before .before .before .before .entry-at .ensures .0) (c .before .before .before .before .before .before .before .before .spot-to .ensures) l (c .before .before .before .before .before .x .given .1))
-    (spotted _ _ _ _ (c .before .before .before .before .before .before .before .before .before .before .before .before .entry-at2 .ensures .0) (c .before .before .before .before .before .before .before .spot-to2 .ensures) l (c .before .before .y .given .1)) (c .same .ensures)
+    compared _ _ _ _ (same-texts _ _ _ _ _ _ _ _ _ (spotted _ _ _ _ (c .before .before .before .before .before .before .before .before .before .before .before .before .before .entry-at .ensures .0) (c .before .before .before .before .before .before .before .before .spot-to .ensures) l (c .before .before .before .before .before .x .given .1))
+    (spotted _ _ _ _ (c .before .before .before .before .before .before .before .before .before .before .before .before .entry-at2 .ensures .0) (c .before .before .before .before .before .before .before .spot-to2 .ensures) l (c .before .before .y .given .1)) (c .same .ensures))
 
 pub same-text-spec : {M : Type 1} → statement M
 same-text-spec =

@@ -4,18 +4,19 @@ use borrow.Author.Needs.{needs}
 use Rattle.verdict.proofs.Laws.{tells-yes, tells-no}
 use Rattle.strings.specs.Held.{heldTable}
 use Rattle.strings.proofs.Places.{earlier, hash-at}
-use Rattle.strings.proofs.Runs.{Alone, alone-start, alone-more, alone-none, alone-over, twin-found}
+use Rattle.strings.proofs.Differing.{away-alone}
+use Rattle.strings.proofs.Runs.{Alone, alone-more, alone-none, alone-over, twin-found}
 use Rattle.strings.proofs.entry.twin.Statement.{statement}
 use Rattle.strings.proofs.entry.twin.Tie as tie
 
 abbrev Inv-loop : tie.InvT-loop
-Inv-loop b s samples starts k j e h i₀ i = (i ≤ j) × Alone (heldTable b s starts) k j i
+Inv-loop b s samples starts k j from e h i₀ i = (i ≤ j) × Alone (heldTable b s starts) k j i
 
 abbrev μ-loop : tie.MeasureT-loop
-μ-loop b s samples starts k j e h i₀ i = i
+μ-loop b s samples starts k j from e h i₀ i = i
 
 loop-holds : tie.Need-loop-holds Inv-loop μ-loop
-loop-holds c = (search needs, alone-start _ _ _)
+loop-holds c = let p = c .before .before .before .before .pre in (p .3 .first, away-alone _ _ _ _ (p .3) (p .2))
 
 entry-at-requires-2 : tie.Need-entry-at-requires-2 Inv-loop μ-loop
 entry-at-requires-2 c κs = let p = c .before .before .before .before .before .before .pre in (p .0, earlier _ _ _ _ (p .1) (omega arith))
@@ -28,13 +29,13 @@ returns c = let l = c .before .before .before .before .loop .inv in
 
 same-text-requires : tie.Need-same-text-requires Inv-loop μ-loop
 same-text-requires c κs = let p = c .before .before .before .before .before .before .before .before .before .pre in
-    (p .0, earlier _ _ _ _ (p .1) (omega arith), p .2 .right _ (omega arith), p .1, p .2 .right _ (omega arith))
+    (p .0, earlier _ _ _ _ (p .1) (omega arith), p .1)
 
 returns-2 : tie.Need-returns-2 Inv-loop μ-loop
 returns-2 c = let l = c .before .before .before .before .before .before .loop .inv in tells-yes (twin-found _ _ _ _ _ (omega arith) (l .0) (c .before .same-text .ensures .so (c .if2 .taken)))
 
 loop-again : tie.Need-loop-again Inv-loop μ-loop
-loop-again c = let l = c .before .before .before .before .before .before .loop .inv in (omega arith, alone-more _ _ _ _ _ (omega arith) (l .1) (c .before .same-text .ensures .not (c .if2 .left)))
+loop-again c = let l = c .before .before .before .before .before .before .loop .inv in let r = c .before .before .before .before .before .before .before .before .before .before .before .pre .2 in (omega arith, alone-more _ _ _ _ _ (omega arith) (l .1) (c .before .same-text .ensures .not (c .if2 .left) .texts (r .right _ (omega arith)) (r .right _ (omega arith))))
 
 returns-3 : tie.Need-returns-3 Inv-loop μ-loop
 returns-3 c = tells-no (alone-none _ _ _ _ (omega arith) (c .before .loop .inv .1))

@@ -1,0 +1,273 @@
+// Duplicates among many entries with one hash (12). To compare each with all before it takes time that grows with the square of their number. Here
+// they are filed by a second hash of their texts, 8,192 at a time, and each entry is compared only with those of the same fingerprint. So n entries
+// take n / 8,192 rounds. An entry is looked at before refusals 7 to 9 were looked for: what is found here holds if its text is right.
+ghost use mathlib.Core.Path.{_≡_};
+ghost use Prim.Native.Nat.{_+_, _≤_, _<_};
+ghost use lib.ListN.{length};
+ghost use Rattle.multimap.specs.Multimap.{Filled};
+ghost use Rattle.layout.specs.Table.{entries};
+ghost use Rattle.strings.specs.Held.{Held, heldTable, Here};
+ghost use Rattle.strings.specs.Apart.{Apart, Printed, Filed, Met, Sifted, Clear, AwayWithin};
+use crate::Strings;
+use crate::ahead;
+use crate::entry;
+use crate::spot;
+use crate::spot::Spot;
+
+// Entries of one bucket that have different texts: those from start on, before end.
+pub struct Span {
+    pub start: usize,
+    pub end: usize,
+}
+
+// How many entries were filed, and before which one each of them has a text of its own.
+pub struct Round {
+    pub filed: usize,
+    pub clear: usize,
+}
+
+// The fingerprint of the text of entry j. The length is that which the entry tells.
+fn print(b: &[u8], s: Strings, samples: &[u32; 1024], starts: &[u32], k: usize, j: usize) -> usize
+    requires { ⌜ Held (now b) s (now samples) (now starts) × Here (heldTable (now b) s (now starts)) k j ⌝ }
+    ensures { λ r. ⌜ Printed (heldTable (now (b .entry)) s (now (starts .entry))) k j r ⌝ }
+{
+    let e = entry::entry_at(b, s, samples, starts, k, j);
+    let a = spot::spot_to(b, s.chars, samples, e + 12);
+    let Spot::At(p, n) = a else {
+        return 0;
+    };
+    let told = le::u32_at(b, e + 4);
+    if told == 0 {
+        return 0;
+    }
+    if told > n + 1 {
+        return 0;
+    }
+    text::fingerprint::fingerprint(b, p, told - 1)
+}
+
+// Whether entry j, whose fingerprint is x, may have the text of one of the n entries from `from` on, which are filed.
+fn met(
+    b: &[u8],
+    s: Strings,
+    samples: &[u32; 1024],
+    starts: &[u32],
+    k: usize,
+    from: usize,
+    n: usize,
+    j: usize,
+    x: usize,
+    map: &[u32; 24576],
+) -> bool
+    requires { ⌜ Held (now b) s (now samples) (now starts) × Here (heldTable (now b) s (now starts)) k j × (from + n ≤ j)
+        × Printed (heldTable (now b) s (now starts)) k j x × Filed (heldTable (now b) s (now starts)) k from n (now map) ⌝ }
+    ensures { λ r. ⌜ Met (heldTable (now (b .entry)) s (now (starts .entry))) k from n j r ⌝ }
+{
+    let mut c = multimap::last(map, n, x);
+    while c > 0 {
+        if entry::same_text(b, s, samples, starts, k, from + (c - 1), j) {
+            return true;
+        }
+        c = multimap::before(map, n, c - 1, x);
+    }
+    false
+}
+
+// Files entries from `from` on, at most so many, up to one that may have the text of one before it.
+fn file(
+    b: &[u8],
+    s: Strings,
+    samples: &[u32; 1024],
+    starts: &[u32],
+    k: usize,
+    from: usize,
+    most: usize,
+    map: &mut [u32; 24576],
+) -> usize
+    requires { ⌜ Held (now b) s (now samples) (now starts) × (k < length (now starts))
+        × (from + most ≤ entries (heldTable (now b) s (now starts)) k) × (most ≤ 8192) × Filled 0 (now map) ⌝ }
+    ensures answer { λ r. ⌜ Sifted (heldTable (now (b .entry)) s (now (starts .entry))) k from r most ⌝ }
+    ensures map { λ r. ⌜ Filed (heldTable (now (b .entry)) s (now (starts .entry))) k from r (now (map .exit)) ⌝ }
+{
+    let mut n = 0;
+    while n < most {
+        let x = print(b, s, samples, starts, k, from + n);
+        if met(b, s, samples, starts, k, from, n, from + n, x, map) {
+            return n;
+        }
+        multimap::put(map, n, x);
+        n += 1;
+    }
+    n
+}
+
+// The first entry behind the n that are filed, before end, that may have the text of one of them; end if there is none.
+fn sift(
+    b: &[u8],
+    s: Strings,
+    samples: &[u32; 1024],
+    starts: &[u32],
+    k: usize,
+    from: usize,
+    n: usize,
+    end: usize,
+    map: &[u32; 24576],
+) -> usize
+    requires { ⌜ Held (now b) s (now samples) (now starts) × (k < length (now starts)) × (from + n ≤ end)
+        × (end ≤ entries (heldTable (now b) s (now starts)) k) × Apart (heldTable (now b) s (now starts)) k from (from + n)
+        × Filed (heldTable (now b) s (now starts)) k from n (now map) ⌝ }
+    ensures { λ r. ⌜ Clear (heldTable (now (b .entry)) s (now (starts .entry))) k from n r × (r ≤ end) ⌝ }
+{
+    let mut j = from + n;
+    while j < end {
+        let x = print(b, s, samples, starts, k, j);
+        if met(b, s, samples, starts, k, from, n, j, x, map) {
+            return j;
+        }
+        j += 1;
+    }
+    end
+}
+
+// One round: some entries from `from` on are filed, and those behind them, before end, are compared with them.
+fn sift_some(
+    b: &[u8],
+    s: Strings,
+    samples: &[u32; 1024],
+    starts: &[u32],
+    k: usize,
+    from: usize,
+    end: usize,
+) -> Round
+    requires { ⌜ Held (now b) s (now samples) (now starts) × (k < length (now starts)) × (from < end)
+        × (end ≤ entries (heldTable (now b) s (now starts)) k) ⌝ }
+    ensures { λ r. ⌜ Clear (heldTable (now (b .entry)) s (now (starts .entry))) k from (r .filed) (r .clear) × (r .clear ≤ end) × (0 < r .filed) ⌝ }
+{
+    let mut map = [0u32; 24576];
+    let most = ahead::least(end - from, 8192);
+    let filed = file(b, s, samples, starts, k, from, most, &mut map);
+    let clear = sift(b, s, samples, starts, k, from, filed, end, &map);
+    Round { filed, clear }
+}
+
+// The entry before which, from `from` on and before end, no two entries have the same text.
+pub(crate) fn apart_until(
+    b: &[u8],
+    s: Strings,
+    samples: &[u32; 1024],
+    starts: &[u32],
+    k: usize,
+    from: usize,
+    end: usize,
+) -> usize
+    requires { ⌜ Held (now b) s (now samples) (now starts) × (k < length (now starts)) × (from ≤ end)
+        × (end ≤ entries (heldTable (now b) s (now starts)) k) ⌝ }
+    ensures { λ r. ⌜ Apart (heldTable (now (b .entry)) s (now (starts .entry))) k from r ⌝ }
+{
+    let mut done = from;
+    let mut clear = end;
+    while done < clear {
+        let r = sift_some(b, s, samples, starts, k, done, clear);
+        done += r.filed;
+        clear = r.clear;
+    }
+    clear
+}
+
+// Where the run of entries with hash h that holds entry j starts.
+fn run_start(
+    b: &[u8],
+    s: Strings,
+    samples: &[u32; 1024],
+    starts: &[u32],
+    k: usize,
+    j: usize,
+    h: usize,
+) -> usize
+    requires { ⌜ Held (now b) s (now samples) (now starts) × Here (heldTable (now b) s (now starts)) k j ⌝ }
+    ensures { λ r. ⌜ r ≤ j ⌝ }
+{
+    let mut i = j;
+    while i > 0 {
+        let e = entry::entry_at(b, s, samples, starts, k, i - 1);
+        if le::u32_at(b, e) != h {
+            return i;
+        }
+        i -= 1;
+    }
+    0
+}
+
+// Where it ends, of the n entries of the bucket.
+fn run_end(
+    b: &[u8],
+    s: Strings,
+    samples: &[u32; 1024],
+    starts: &[u32],
+    k: usize,
+    n: usize,
+    j: usize,
+    h: usize,
+) -> usize
+    requires { ⌜ Held (now b) s (now samples) (now starts) × (k < length (now starts)) × (j ≤ n)
+        × (n ≤ entries (heldTable (now b) s (now starts)) k) ⌝ }
+    ensures { λ r. ⌜ (j ≤ r) × (r ≤ n) ⌝ }
+{
+    let mut i = j;
+    while i < n {
+        let e = entry::entry_at(b, s, samples, starts, k, i);
+        if le::u32_at(b, e) != h {
+            return i;
+        }
+        i += 1;
+    }
+    n
+}
+
+// Entries that are known to have different texts, when entry j of the n of bucket k is next: where 64 entries from a multiple of 64 on have one
+// hash, those of the whole run are compared.
+pub(crate) fn span_at(
+    b: &[u8],
+    s: Strings,
+    samples: &[u32; 1024],
+    starts: &[u32],
+    k: usize,
+    n: usize,
+    j: usize,
+    span: Span,
+) -> Span
+    requires { ⌜ Held (now b) s (now samples) (now starts) × (k < length (now starts)) × (n ≡ entries (heldTable (now b) s (now starts)) k)
+        × (j < n) × Apart (heldTable (now b) s (now starts)) k (span .start) (span .end) ⌝ }
+    ensures { λ r. ⌜ Apart (heldTable (now (b .entry)) s (now (starts .entry))) k (r .start) (r .end) ⌝ }
+{
+    if j % 64 != 0 {
+        return span;
+    }
+    if j < span.end {
+        return span;
+    }
+    if n - j < 64 {
+        return span;
+    }
+    let h = le::u32_at(b, entry::entry_at(b, s, samples, starts, k, j));
+    if le::u32_at(b, entry::entry_at(b, s, samples, starts, k, j + 63)) != h {
+        return span;
+    }
+    let start = run_start(b, s, samples, starts, k, j, h);
+    let end = run_end(b, s, samples, starts, k, n, j, h);
+    let clear = apart_until(b, s, samples, starts, k, start, end);
+    Span { start, end: clear }
+}
+
+// From which entry on those before entry j are known to have other texts.
+pub(crate) fn away_from(span: Span, j: usize) -> usize
+    ensures { λ r. ⌜ AwayWithin (span .start) (span .end) r j ⌝ }
+{
+    if span.start > j {
+        return j;
+    }
+    if j < span.end {
+        return span.start;
+    }
+    j
+}
