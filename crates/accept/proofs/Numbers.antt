@@ -13,7 +13,7 @@ use Rattle.layout.specs.Table.{Table, bucketChecks, listChecks, tableChecks}
 use Rattle.layout.specs.Layout.{sizeChecks, footerChecks, frontChecks, layoutChecks}
 use Rattle.strings.specs.Order.{entryChecks, bucketEntryChecks, allEntryChecks, positionChecks, allPositionChecks, stringChecks}
 use Rattle.keys.specs.Order.{specialChecks, keyRuleChecks, allKeyChecks}
-use Rattle.nodes.specs.Order.{attributeChecks, nodeAttributeChecks, nodeChecks, segmentNodeChecks, allNodeChecks}
+use Rattle.nodes.specs.Order.{attributeChecks, nodeAttributeChecks, attributeRangeChecks, nodeChecks, segmentNodeChecks, allNodeChecks}
 use Rattle.nodes.specs.Node.{nodeAt}
 use Rattle.tree.specs.Outcome.{workspaceAfter}
 
@@ -145,7 +145,7 @@ unfolding attributeChecks
 calm-attribute b p i = calm-more _ _ _ _ _ tt (calm-more _ _ _ _ _ tt calm-none)
 
 calm-node : (b : List ℕ) (seg el : ℕ) → Calm (nodeChecks b seg el)
-unfolding nodeChecks nodeAttributeChecks
+unfolding nodeChecks attributeRangeChecks nodeAttributeChecks
 calm-node b seg el =
     calm-more _ _ _ _ _ tt (calm-more _ _ _ _ _ tt (calm-append _ _ (calm-each _ _ _ (calm-attribute b (nodeAt b seg el))) (calm-more _ _ _ _ _ tt calm-none)))
 

@@ -20,7 +20,7 @@ use Rattle.strings.specs.Texts.{textOf}
 use Rattle.strings.specs.Order.{entryChecks, bucketEntryChecks, allEntryChecks, positionChecks, allPositionChecks, stringChecks}
 use Rattle.keys.specs.Order.{specialChecks, keyRuleChecks, allKeyChecks}
 use Rattle.nodes.specs.Node.{attributeCount, nodeAt}
-use Rattle.nodes.specs.Order.{attributeChecks, nodeAttributeChecks, nodeChecks, segmentNodeChecks, allNodeChecks}
+use Rattle.nodes.specs.Order.{attributeChecks, nodeAttributeChecks, attributeRangeChecks, nodeChecks, segmentNodeChecks, allNodeChecks}
 use Rattle.tree.specs.Chain.{ends, firstOr}
 use Rattle.tree.specs.File.{nodeOf, treeOf}
 use Rattle.tree.specs.Rules.{DepthRule}
@@ -177,7 +177,7 @@ module _ (b : List ℕ) (room : ℕ) where
   of-attribute seg el i a = more _ _ _ _ _ (Broken.attribute-wrong a) (more _ _ _ _ _ (Broken.text-wrong a) none)
 
   of-node : (seg el : ℕ) → UsedNode b seg el → Rows (nodeChecks b seg el)
-  unfolding nodeChecks nodeAttributeChecks
+  unfolding nodeChecks attributeRangeChecks nodeAttributeChecks
   of-node seg el u =
       more _ _ _ _ _ (Broken.node-wrong u)
       (more _ _ _ _ _ (Broken.attributes-out u)

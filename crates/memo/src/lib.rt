@@ -6,12 +6,12 @@ ghost use Prim.Native.Nat.{_<_, _^_};
 ghost use lib.ListN.{length};
 ghost use Rattle.memo.specs.Memo.{Recalled, TakenOver};
 
-// The slot of x and n. Texts stand close together or far apart: the product spreads both.
+// The slot of x and n. Texts stand close together or far apart: the high bits of the product spread both.
 fn slot(x: usize, n: usize) -> usize
     requires { ⌜ (x < 2 ^ 32) × (n < 2 ^ 32) ⌝ }
     ensures { λ r. ⌜ r < 1024 ⌝ }
 {
-    (((x + n) * 40503) >> 16) % 1024
+    (x + n) % 4294967296 * 2654435769 / 4194304 % 1024
 }
 
 // The value at x and n, if it is remembered; otherwise 2^32.

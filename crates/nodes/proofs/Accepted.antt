@@ -9,7 +9,7 @@ use Rattle.verdict.specs.declared.Verdict.the-variants.{Accepted}
 use Rattle.verdict.proofs.Laws.{Clean, pass, clean-inv, append-inv, fault-append, fault-none, each-inv, each-clean}
 use Rattle.nodes.specs.Node.{nodeAt, attributeCount, attributeAt}
 use Rattle.nodes.specs.Rules.{AttributeRule, TextRight, NodeRules, NodesRules}
-use Rattle.nodes.specs.Order.{attributeChecks, nodeAttributeChecks, nodeChecks, segmentNodeChecks, allNodeChecks}
+use Rattle.nodes.specs.Order.{attributeChecks, nodeAttributeChecks, attributeRangeChecks, nodeChecks, segmentNodeChecks, allNodeChecks}
 
 module _ (b : List ℕ) where
   attribute-inv : (p i : ℕ) → Clean (attributeChecks b p i) → AttributeRule b p i × TextRight b (attributeAt b p i)
@@ -25,7 +25,7 @@ module _ (b : List ℕ) where
   attributes-inv p e i h = attribute-inv p i (each-inv _ _ _ e i (omega arith) (omega arith))
 
   pub node-inv : (seg el : ℕ) → Clean (nodeChecks b seg el) → NodeRules b seg el
-  unfolding nodeChecks
+  unfolding nodeChecks attributeRangeChecks
   node-inv seg el e =
       let x = clean-inv _ _ _ _ _ e in
       let y = clean-inv _ _ _ _ _ (x .1) in
@@ -40,7 +40,7 @@ module _ (b : List ℕ) where
       }
 
   pub node-clean : (seg el : ℕ) → NodeRules b seg el → Clean (nodeChecks b seg el)
-  unfolding nodeChecks nodeAttributeChecks
+  unfolding nodeChecks attributeRangeChecks nodeAttributeChecks
   node-clean seg el g =
       pass _ _ _ _ _ (g .node) ∙ pass _ _ _ _ _ (g .attributes)
       ∙ fault-append _ _ (each-clean _ _ _ (λ i l h. attribute-clean (nodeAt b seg el) i (g .attribute i (omega arith)) (g .text i (omega arith))))

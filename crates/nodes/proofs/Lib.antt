@@ -11,3 +11,4 @@ pub mod Types
 pub mod Attributes
 pub mod Addresses
 pub mod Agree
+pub mod Noting

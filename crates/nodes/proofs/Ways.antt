@@ -8,6 +8,7 @@ use mathlib.Core.List.{List, [], _∷_, _++_}
 use lib.ListN.{length}
 use borrow.Author.Tests.{eq-eqb, ne-eqb}
 use Rattle.verdict.specs.Checks.{Check, check, firstFault}
+use Rattle.verdict.specs.declared.Verdict.{Verdict}
 use Rattle.verdict.specs.declared.Verdict.the-variants.{Accepted, Refused}
 use Rattle.verdict.proofs.Laws.{Clean, pass, stop, fault-none, fault-append, fault-keep}
 use Rattle.verdict.proofs.Scans.{each-end}
@@ -21,8 +22,8 @@ use Rattle.region.proofs.Laws.{place-fits, range-each}
 use Rattle.layout.specs.Layout.{attributeSize, nodeSize, attributesAt, nodesAt}
 use Rattle.nodes.specs.Node.{nodeName, attributeField, childField, attributeSegment, attributeElement, attributeCount, childCount, Live, nodeAt, attributeAt}
 use Rattle.nodes.specs.Rules.{NodeRule, AttributesReach, ChildRule}
-use Rattle.nodes.specs.Decisions.{nodeRule?, attributesReach?, childRule?}
-use Rattle.nodes.specs.Order.{nodeAttributeChecks, nodeChecks}
+use Rattle.nodes.specs.Decisions.{nodeRule?, childRule?}
+use Rattle.nodes.specs.Order.{nodeAttributeChecks, attributeRangeChecks, nodeChecks}
 use Rattle.nodes.proofs.Sought.{sought-out, sought-in, sought-range, sought-at, sought-fits}
 
 -- ---- counts: a nameless node has none, a live one those of its fields
@@ -62,17 +63,22 @@ unfolding attributeSize attributeSegment attributeElement
 attributes-sought b p n g w seg el s t r f = let a = w .at-is in cc
 
 module _ (b : List ℕ) (p n : ℕ) (c : n ≡ attributeCount b p) where
-  pub attributes-none : n ≡ 0 → AttributesReach b p × Clean (nodeAttributeChecks b p)
-  unfolding nodeAttributeChecks
-  attributes-none z = (inl (sym c ∙ z), each-end _ _ _ (sym c ∙ z))
+  pub range-none : n ≡ 0 → Accepted ≡ firstFault (attributeRangeChecks b p)
+  unfolding attributeRangeChecks nodeAttributeChecks
+  range-none z = sym (pass _ _ _ _ _ (inl (sym c ∙ z)) ∙ each-end _ _ _ (sym c ∙ z))
 
   module _ (r : Place) (f : r ≡ rangeAt attributeSize b (attributesAt b) (attributeSegment b p) (attributeElement b p) n) where
     pub attributes-nowhere : 0 < n → r ≡ Nowhere → AttributesReach b p → ⊥
     attributes-nowhere l e h = sought-out _ _ _ _ _ _ _ c r f (λ z. omega arith) e h
 
+    pub range-nowhere : (n ≡ 0 → ⊥) → r ≡ Nowhere → Refused 17 p ≡ firstFault (attributeRangeChecks b p)
+    unfolding attributeRangeChecks
+    range-nowhere d e = sym (stop _ _ _ _ _ (attributes-nowhere (omega arith) e))
+
     module _ (a : ℕ) (e : r ≡ At a) where
-      pub attributes-reach : AttributesReach b p
-      attributes-reach = sought-in _ _ _ _ _ _ _ c r f a e
+      pub range-told : (v : Verdict) → v ≡ firstFault (nodeAttributeChecks b p) → v ≡ firstFault (attributeRangeChecks b p)
+      unfolding attributeRangeChecks
+      range-told v g = g ∙ sym (pass _ _ _ _ _ (sought-in _ _ _ _ _ _ _ c r f a e))
 
       pub attributes-fit : Laid attributeSize b (attributesAt b) → a + n * 12 ≤ length b
       unfolding attributeSize
@@ -93,8 +99,7 @@ module _ (b : List ℕ) (p n : ℕ) (c : n ≡ attributeCount b p) where
 checksAt : List ℕ → ℕ → ℕ → ℕ → List Check
 checksAt b seg el x =
     check 16 x (NodeRule b seg el) (nodeRule? b seg el)
-    ∷ check 17 x (AttributesReach b x) (attributesReach? b x)
-    ∷ (nodeAttributeChecks b x ++ (check 23 x (ChildRule b x) (childRule? b x) ∷ []))
+    ∷ (attributeRangeChecks b x ++ (check 23 x (ChildRule b x) (childRule? b x) ∷ []))
 
 module _ (b : List ℕ) (seg el x : ℕ) (q : x ≡ nodeAt b seg el) where
   at-node : nodeChecks b seg el ≡ checksAt b seg el x
@@ -106,24 +111,20 @@ module _ (b : List ℕ) (seg el x : ℕ) (q : x ≡ nodeAt b seg el) where
   refused-16 f = sym (ap firstFault at-node ∙ stop _ _ _ _ _ f)
 
   module _ (r : NodeRule b seg el) where
-    pub refused-17 : (AttributesReach b x → ⊥) → Refused 17 x ≡ firstFault (nodeChecks b seg el)
+    pub refused-range : {n p : ℕ} → firstFault (attributeRangeChecks b x) ≡ Refused n p → Refused n p ≡ firstFault (nodeChecks b seg el)
     unfolding checksAt
-    refused-17 f = sym (ap firstFault at-node ∙ pass _ _ _ _ _ r ∙ stop _ _ _ _ _ f)
+    refused-range e = sym (ap firstFault at-node ∙ pass _ _ _ _ _ r ∙ fault-keep _ _ e)
 
-    pub refused-attribute : AttributesReach b x → {n p : ℕ} → firstFault (nodeAttributeChecks b x) ≡ Refused n p → Refused n p ≡ firstFault (nodeChecks b seg el)
-    unfolding checksAt
-    refused-attribute a e = sym (ap firstFault at-node ∙ pass _ _ _ _ _ r ∙ pass _ _ _ _ _ a ∙ fault-keep _ _ e)
-
-    module _ (a : AttributesReach b x × Clean (nodeAttributeChecks b x)) where
+    module _ (a : Clean (attributeRangeChecks b x)) where
       pub refused-23 : (ChildRule b x → ⊥) → Refused 23 x ≡ firstFault (nodeChecks b seg el)
       unfolding checksAt
-      refused-23 f = sym (ap firstFault at-node ∙ pass _ _ _ _ _ r ∙ pass _ _ _ _ _ (a .0) ∙ fault-append _ _ (a .1) ∙ stop _ _ _ _ _ f)
+      refused-23 f = sym (ap firstFault at-node ∙ pass _ _ _ _ _ r ∙ fault-append _ _ a ∙ stop _ _ _ _ _ f)
 
       pub node-passes : ChildRule b x → Accepted ≡ firstFault (nodeChecks b seg el)
       unfolding checksAt
-      node-passes h = sym (ap firstFault at-node ∙ pass _ _ _ _ _ r ∙ pass _ _ _ _ _ (a .0) ∙ fault-append _ _ (a .1) ∙ pass _ _ _ _ _ h ∙ fault-none)
+      node-passes h = sym (ap firstFault at-node ∙ pass _ _ _ _ _ r ∙ fault-append _ _ a ∙ pass _ _ _ _ _ h ∙ fault-none)
 
     pub nameless-passes : (n : ℕ) → n ≡ u16At b x → n ≡ 0 → Accepted ≡ firstFault (nodeChecks b seg el)
     unfolding nodeName
-    nameless-passes n e v = let z : nodeName b x ≡ 0 = sym e ∙ v in node-passes (attributes-none b x 0 (sym (no-attributes b x z)) refl)
+    nameless-passes n e v = let z : nodeName b x ≡ 0 = sym e ∙ v in node-passes (sym (range-none b x 0 (sym (no-attributes b x z)) refl))
         (record { reach = inl (no-children b x z); rising = λ j l. absurd (not-suc-le-zero {n = j} (omega (arith, no-children b x z))) })

@@ -6,3 +6,4 @@ pub mod Decisions
 pub mod Order
 pub mod Held
 pub mod Search
+pub mod Noted

@@ -19,12 +19,15 @@ attributeChecks b p i =
 unfoldable pub nodeAttributeChecks : List ℕ → ℕ → List Check
 nodeAttributeChecks b p = each (attributeChecks b p) (attributeCount b p) 0
 
+-- 17 of the node at p, then its attributes.
+unfoldable pub attributeRangeChecks : List ℕ → ℕ → List Check
+attributeRangeChecks b p = check 17 p (AttributesReach b p) (attributesReach? b p) ∷ nodeAttributeChecks b p
+
 -- Within a node: 16, 17, its attributes, 23; but for the attributes' the place is the node.
 unfoldable pub nodeChecks : List ℕ → ℕ → ℕ → List Check
 nodeChecks b seg el =
     check 16 (nodeAt b seg el) (NodeRule b seg el) (nodeRule? b seg el)
-    ∷ check 17 (nodeAt b seg el) (AttributesReach b (nodeAt b seg el)) (attributesReach? b (nodeAt b seg el))
-    ∷ (nodeAttributeChecks b (nodeAt b seg el)
+    ∷ (attributeRangeChecks b (nodeAt b seg el)
     ++ (check 23 (nodeAt b seg el) (ChildRule b (nodeAt b seg el)) (childRule? b (nodeAt b seg el)) ∷ []))
 
 -- The used nodes of a segment.

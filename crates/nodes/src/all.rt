@@ -2,10 +2,12 @@
 ghost use mathlib.Core.Path.{_≡_};
 ghost use Rattle.verdict.specs.Checks.{firstFault};
 ghost use Rattle.hash.specs.Table.{Tables};
+ghost use Rattle.memo.specs.Memo.{Remembers};
 ghost use Rattle.nodes.specs.Doubts.{AllTrusted, NoDoubt};
 ghost use Rattle.verdict.specs.Checks.{Sure};
 ghost use Rattle.nodes.specs.Order.{allNodeChecks};
 ghost use Rattle.nodes.specs.Held.{Ready};
+ghost use Rattle.nodes.specs.Noted.{noted};
 use crate::node;
 use keys::Names;
 use layout::Places;
@@ -23,10 +25,12 @@ pub fn check_nodes(
     value_buckets: &[u32],
     known: bool,
     doubts: &[u32; 4096],
+    memo: &mut [u32; 3072],
 ) -> Verdict
     requires { ⌜ Tables (now t) × Ready (now b) p names (now «attribute_starts») (now «node_starts») (now «value_starts») (now «value_buckets»)
-        × Sure (NoDoubt (now doubts)) known × AllTrusted (now b) (now doubts) ⌝ }
-    ensures { λ r. ⌜ r ≡ firstFault (allNodeChecks (now (b .entry))) ⌝ }
+        × Sure (NoDoubt (now doubts)) known × AllTrusted (now b) (now doubts) × Remembers (noted (now b)) (now memo) ⌝ }
+    ensures answer { λ r. ⌜ r ≡ firstFault (allNodeChecks (now (b .entry))) ⌝ }
+    ensures memo { λ _. ⌜ Remembers (noted (now (b .entry))) (now (memo .exit)) ⌝ }
 {
     let nodes = p.nodes;
     if nodes.count == 0 {
@@ -57,6 +61,7 @@ pub fn check_nodes(
                 x,
                 known,
                 doubts,
+                memo,
             ) {
                 Verdict::Accepted => {}
                 Verdict::Refused(num, place) => {

@@ -5,6 +5,7 @@ ghost use lib.ListN.{length};
 ghost use Rattle.verdict.specs.Checks.{Tells, firstFault};
 ghost use Rattle.verdict.specs.declared.Verdict.the-variants.{Accepted};
 ghost use Rattle.hash.specs.Table.{Tables};
+ghost use Rattle.memo.specs.Memo.{Remembers};
 ghost use Rattle.layout.specs.Layout.{values};
 ghost use Rattle.strings.specs.Order.{stringChecks};
 ghost use Rattle.strings.specs.Held.{Held, heldTable};
@@ -14,7 +15,9 @@ ghost use Rattle.nodes.specs.Attribute.{Typed};
 ghost use Rattle.nodes.specs.Rules.{AttributeRule, TextRight};
 ghost use Rattle.nodes.specs.Doubts.{Trusted, NoDoubt};
 ghost use Rattle.nodes.specs.Order.{nodeAttributeChecks};
+ghost use Rattle.nodes.specs.Noted.{noted};
 ghost use Rattle.verdict.specs.Checks.{Sure};
+use crate::long;
 use keys::Names;
 use search::run;
 use strings::Strings;
@@ -78,10 +81,12 @@ pub fn text_right(
     samples: &[u32; 1024],
     starts: &[u32],
     q: usize,
+    memo: &mut [u32; 3072],
 ) -> bool
     requires { ⌜ Tables (now t) × Held (now b) s (now samples) (now starts) × (heldTable (now b) s (now starts) ≡ values (now b))
-        × (firstFault (stringChecks (values (now b))) ≡ Accepted) × (q + 12 ≤ length (now b)) ⌝ }
-    ensures { λ r. ⌜ Tells (TextRight (now (b .entry)) q) r ⌝ }
+        × (firstFault (stringChecks (values (now b))) ≡ Accepted) × (q + 12 ≤ length (now b)) × Remembers (noted (now b)) (now memo) ⌝ }
+    ensures answer { λ r. ⌜ Tells (TextRight (now (b .entry)) q) r ⌝ }
+    ensures memo { λ _. ⌜ Remembers (noted (now (b .entry))) (now (memo .exit)) ⌝ }
 {
     let word = le::u16_at(b, q + 2);
     if words::kind(word) != 3 {
@@ -91,11 +96,10 @@ pub fn text_right(
     let Spot::At(x, n) = a else {
         return false;
     };
-    if words::extended(word) != text::value_hash(b, t, x, n, 0) {
+    if words::extended(word) != long::value_hash(b, t, x, n, memo) {
         return false;
     }
-    let m = text::measure(b, t, x, n);
-    let h = m.hash;
+    let h = long::text_hash(b, t, x, n, memo);
     let k = hash::bucket(h, starts.len());
     let low = search::lower(b, s, samples, starts, k, h);
     let address = le::u32_at(b, q + 4);
@@ -112,11 +116,13 @@ fn text_passes(
     q: usize,
     known: bool,
     doubts: &[u32; 4096],
+    memo: &mut [u32; 3072],
 ) -> bool
     requires { ⌜ Tables (now t) × Held (now b) s (now samples) (now starts) × (heldTable (now b) s (now starts) ≡ values (now b))
         × (firstFault (stringChecks (values (now b))) ≡ Accepted) × (q + 12 ≤ length (now b)) × Sure (NoDoubt (now doubts)) known
-        × Trusted (now b) (now doubts) q ⌝ }
-    ensures { λ r. ⌜ Tells (TextRight (now (b .entry)) q) r ⌝ }
+        × Trusted (now b) (now doubts) q × Remembers (noted (now b)) (now memo) ⌝ }
+    ensures answer { λ r. ⌜ Tells (TextRight (now (b .entry)) q) r ⌝ }
+    ensures memo { λ _. ⌜ Remembers (noted (now (b .entry))) (now (memo .exit)) ⌝ }
 {
     if known {
         return true;
@@ -124,7 +130,7 @@ fn text_passes(
     if doubts[q / 4 % 4096] == 0 {
         return true;
     }
-    text_right(b, t, s, samples, starts, q)
+    text_right(b, t, s, samples, starts, q, memo)
 }
 
 // Refusals 18 and 19 of the attributes of the node at p, the first of which stands at a; 19 is due only to those that are doubted.
@@ -140,12 +146,14 @@ pub fn check_attributes(
     n: usize,
     known: bool,
     doubts: &[u32; 4096],
+    memo: &mut [u32; 3072],
 ) -> Verdict
     requires { ⌜ Tables (now t) × Known (now b) names × Held (now b) s (now samples) (now starts)
         × (heldTable (now b) s (now starts) ≡ values (now b)) × (firstFault (stringChecks (values (now b))) ≡ Accepted) ⌝ }
     requires { ⌜ (n ≡ attributeCount (now b) p) × (a ≡ attributeAt (now b) p 0) × (a + n * 12 ≤ length (now b)) × Sure (NoDoubt (now doubts)) known
-        × ((i : ℕ) → i < n → Trusted (now b) (now doubts) (attributeAt (now b) p i)) ⌝ }
-    ensures { λ r. ⌜ r ≡ firstFault (nodeAttributeChecks (now (b .entry)) p) ⌝ }
+        × ((i : ℕ) → i < n → Trusted (now b) (now doubts) (attributeAt (now b) p i)) × Remembers (noted (now b)) (now memo) ⌝ }
+    ensures answer { λ r. ⌜ r ≡ firstFault (nodeAttributeChecks (now (b .entry)) p) ⌝ }
+    ensures memo { λ _. ⌜ Remembers (noted (now (b .entry))) (now (memo .exit)) ⌝ }
 {
     let mut i = 0;
     while i < n {
@@ -153,7 +161,7 @@ pub fn check_attributes(
         if !attribute_right(b, names, p, i, q) {
             return Verdict::Refused(18, q);
         }
-        if !text_passes(b, t, s, samples, starts, q, known, doubts) {
+        if !text_passes(b, t, s, samples, starts, q, known, doubts, memo) {
             return Verdict::Refused(19, q);
         }
         i += 1;

@@ -3,19 +3,24 @@ ghost use mathlib.Core.Path.{_≡_};
 ghost use Prim.Native.Nat.{_+_, _*_, _≤_, _<_};
 ghost use lib.ListN.{length};
 ghost use Rattle.verdict.specs.Checks.{Tells, firstFault};
+ghost use Rattle.verdict.specs.declared.Verdict.the-variants.{Accepted};
 ghost use Rattle.hash.specs.Table.{Tables};
+ghost use Rattle.memo.specs.Memo.{Remembers};
 ghost use Rattle.region.specs.Region.{Resolves};
 ghost use Rattle.region.specs.Samples.{Mapped, Starts};
 ghost use Rattle.layout.specs.Header.{keyCount};
-ghost use Rattle.layout.specs.Layout.{nodeSize, nodesAt};
+ghost use Rattle.layout.specs.Layout.{attributeSize, nodeSize, attributesAt, nodesAt, values};
+ghost use Rattle.strings.specs.Order.{stringChecks};
+ghost use Rattle.strings.specs.Held.{Held, heldTable};
 ghost use Rattle.keys.specs.Known.{Known};
 ghost use Rattle.nodes.specs.Node.{nodeAt, Live};
 ghost use Rattle.nodes.specs.Rules.{NodeRule, ChildRule};
 ghost use Rattle.nodes.specs.Doubts.{AllTrusted, NoDoubt};
 ghost use Rattle.verdict.specs.Checks.{Sure};
 ghost use Rattle.nodes.specs.Search.{Rising};
-ghost use Rattle.nodes.specs.Order.{nodeChecks};
+ghost use Rattle.nodes.specs.Order.{attributeRangeChecks, nodeChecks};
 ghost use Rattle.nodes.specs.Held.{Ready};
+ghost use Rattle.nodes.specs.Noted.{noted};
 use crate::attribute;
 use keys::Names;
 use layout::Places;
@@ -96,6 +101,61 @@ fn children_right(b: &[u8], nodes: Region, starts: &[u32; 1024], p: usize) -> bo
     }
 }
 
+// Refusals 17 to 19 of the live node at x; 19 is due only to attributes that are doubted.
+fn check_attribute_range(
+    b: &[u8],
+    t: &[u32; 2048],
+    attributes: Region,
+    names: Names,
+    attribute_starts: &[u32; 1024],
+    s: Strings,
+    samples: &[u32; 1024],
+    starts: &[u32],
+    x: usize,
+    known: bool,
+    doubts: &[u32; 4096],
+    memo: &mut [u32; 3072],
+) -> Verdict
+    requires { ⌜ Tables (now t) × Known (now b) names × Held (now b) s (now samples) (now starts)
+        × (heldTable (now b) s (now starts) ≡ values (now b)) × (firstFault (stringChecks (values (now b))) ≡ Accepted) ⌝ }
+    requires { ⌜ Mapped attributeSize (now b) (attributesAt (now b)) attributes
+        × Starts attributeSize (now b) (attributesAt (now b)) (attributes .shift) (now «attribute_starts») × (x + 24 ≤ length (now b)) × Live (now b) x
+        × Sure (NoDoubt (now doubts)) known × AllTrusted (now b) (now doubts) × Remembers (noted (now b)) (now memo) ⌝ }
+    ensures answer { λ r. ⌜ r ≡ firstFault (attributeRangeChecks (now (b .entry)) x) ⌝ }
+    ensures memo { λ _. ⌜ Remembers (noted (now (b .entry))) (now (memo .exit)) ⌝ }
+{
+    let n = le::u16_at(b, x + 4);
+    if n == 0 {
+        return Verdict::Accepted;
+    }
+    let r = region::range_at(
+        b,
+        attributes,
+        12,
+        attribute_starts,
+        le::u16_at(b, x + 8),
+        le::u16_at(b, x + 10),
+        n,
+    );
+    match r {
+        Place::At(a) => attribute::check_attributes(
+            b,
+            t,
+            names,
+            s,
+            samples,
+            starts,
+            x,
+            a,
+            n,
+            known,
+            doubts,
+            memo,
+        ),
+        Place::Nowhere => Verdict::Refused(17, x),
+    }
+}
+
 // Refusals 16 to 19 and 23 of node seg:el, which stands at x; 19 is due only to attributes that are doubted.
 pub fn check_node(
     b: &[u8],
@@ -111,11 +171,13 @@ pub fn check_node(
     x: usize,
     known: bool,
     doubts: &[u32; 4096],
+    memo: &mut [u32; 3072],
 ) -> Verdict
     requires { ⌜ Tables (now t) × Ready (now b) p names (now «attribute_starts») (now «node_starts») (now «value_starts») (now «value_buckets»)
         × Resolves nodeSize (now b) (nodesAt (now b)) seg el × (x ≡ nodeAt (now b) seg el) × Sure (NoDoubt (now doubts)) known
-        × AllTrusted (now b) (now doubts) ⌝ }
-    ensures { λ r. ⌜ r ≡ firstFault (nodeChecks (now (b .entry)) seg el) ⌝ }
+        × AllTrusted (now b) (now doubts) × Remembers (noted (now b)) (now memo) ⌝ }
+    ensures answer { λ r. ⌜ r ≡ firstFault (nodeChecks (now (b .entry)) seg el) ⌝ }
+    ensures memo { λ _. ⌜ Remembers (noted (now (b .entry))) (now (memo .exit)) ⌝ }
 {
     if !node_right(b, names, p.keys, seg, el, x) {
         return Verdict::Refused(16, x);
@@ -123,41 +185,27 @@ pub fn check_node(
     if le::u16_at(b, x) == 0 {
         return Verdict::Accepted;
     }
-    let n = le::u16_at(b, x + 4);
-    if n > 0 {
-        let r = region::range_at(
-            b,
-            p.attributes,
-            12,
-            attribute_starts,
-            le::u16_at(b, x + 8),
-            le::u16_at(b, x + 10),
-            n,
-        );
-        let Place::At(a) = r else {
-            return Verdict::Refused(17, x);
-        };
-        let chars = p.value_chars;
-        let s = Strings {
-            chars,
-            list: p.value_list,
-        };
-        let v = attribute::check_attributes(
-            b,
-            t,
-            names,
-            s,
-            value_starts,
-            value_buckets,
-            x,
-            a,
-            n,
-            known,
-            doubts,
-        );
-        if let Verdict::Refused(num, place) = v {
-            return Verdict::Refused(num, place);
-        }
+    let chars = p.value_chars;
+    let s = Strings {
+        chars,
+        list: p.value_list,
+    };
+    let v = check_attribute_range(
+        b,
+        t,
+        p.attributes,
+        names,
+        attribute_starts,
+        s,
+        value_starts,
+        value_buckets,
+        x,
+        known,
+        doubts,
+        memo,
+    );
+    if let Verdict::Refused(num, place) = v {
+        return Verdict::Refused(num, place);
     }
     if !children_right(b, p.nodes, node_starts, x) {
         return Verdict::Refused(23, x);

@@ -1,5 +1,4 @@
 pub mod Doubting
 pub mod Taking
 pub mod Filling
-pub mod Noting
 pub mod Rights

@@ -1,4 +1,3 @@
 pub mod Slots
 pub mod Batch
 pub mod Examined
-pub mod Noted

@@ -14,9 +14,9 @@ ghost use Rattle.positions.specs.Packed.{Packed};
 ghost use Rattle.nodes.specs.Doubts.{Trusted, AllTrusted, NoDoubt};
 ghost use Rattle.nodes.specs.Order.{allNodeChecks};
 ghost use Rattle.nodes.specs.Held.{Ready};
+ghost use Rattle.nodes.specs.Noted.{noted};
 ghost use Rattle.prefetch.specs.Slots.{SlotsIn};
 ghost use Rattle.prefetch.specs.Examined.{Kept, Examined};
-ghost use Rattle.prefetch.specs.Noted.{noted};
 use crate::slots;
 use crate::steps;
 use keys::Names;
@@ -35,12 +35,15 @@ fn doubt(
     starts: &[u32],
     q: usize,
     doubts: &mut [u32; 4096],
+    memo: &mut [u32; 3072],
 )
     requires { ⌜ Tables (now t) × Held (now b) s (now samples) (now starts) × (heldTable (now b) s (now starts) ≡ values (now b))
-        × (firstFault (stringChecks (values (now b))) ≡ Accepted) × (q + 12 ≤ length (now b)) × (length (now doubts) ≡ 4096) ⌝ }
-    ensures { λ _. ⌜ Trusted (now (b .entry)) (now (doubts .exit)) q × Kept (now (doubts .entry)) (now (doubts .exit)) ⌝ }
+        × (firstFault (stringChecks (values (now b))) ≡ Accepted) × (q + 12 ≤ length (now b)) × (length (now doubts) ≡ 4096)
+        × Remembers (noted (now b)) (now memo) ⌝ }
+    ensures doubts { λ _. ⌜ Trusted (now (b .entry)) (now (doubts .exit)) q × Kept (now (doubts .entry)) (now (doubts .exit)) ⌝ }
+    ensures memo { λ _. ⌜ Remembers (noted (now (b .entry))) (now (memo .exit)) ⌝ }
 {
-    if attribute::text_right(b, t, s, samples, starts, q) {
+    if attribute::text_right(b, t, s, samples, starts, q, memo) {
         return;
     }
     doubts[q / 4 % 4096] = 1;
@@ -56,15 +59,17 @@ fn doubt_wrong(
     slots: &[u32; 64],
     n: usize,
     doubts: &mut [u32; 4096],
+    memo: &mut [u32; 3072],
 )
     requires { ⌜ Tables (now t) × Held (now b) s (now samples) (now starts) × (heldTable (now b) s (now starts) ≡ values (now b))
         × (firstFault (stringChecks (values (now b))) ≡ Accepted) × (length (now slots) ≡ 64) × SlotsIn (now b) (now slots) n × (n ≤ 64)
-        × (length (now doubts) ≡ 4096) ⌝ }
-    ensures { λ _. ⌜ Examined (now (b .entry)) (now (slots .entry)) n (now (doubts .entry)) (now (doubts .exit)) ⌝ }
+        × (length (now doubts) ≡ 4096) × Remembers (noted (now b)) (now memo) ⌝ }
+    ensures doubts { λ _. ⌜ Examined (now (b .entry)) (now (slots .entry)) n (now (doubts .entry)) (now (doubts .exit)) ⌝ }
+    ensures memo { λ _. ⌜ Remembers (noted (now (b .entry))) (now (memo .exit)) ⌝ }
 {
     let mut j = 0;
     while j < n {
-        doubt(b, t, s, samples, starts, le::wide(slots[j]), doubts);
+        doubt(b, t, s, samples, starts, le::wide(slots[j]), doubts, memo);
         j += 1;
     }
 }
@@ -95,7 +100,7 @@ fn examine_batch(
     if steps::batch_right(b, t, s, samples, starts, slots, n, packed, memo) {
         return known;
     }
-    doubt_wrong(b, t, s, samples, starts, slots, n, doubts);
+    doubt_wrong(b, t, s, samples, starts, slots, n, doubts, memo);
     false
 }
 
@@ -118,6 +123,7 @@ fn find_doubts(
     requires { ⌜ (length (now doubts) ≡ 4096) × NoDoubt (now doubts) ⌝ }
     ensures answer { λ r. ⌜ Sure (NoDoubt (now (doubts .exit))) r ⌝ }
     ensures doubts { λ _. ⌜ AllTrusted (now (b .entry)) (now (doubts .exit)) ⌝ }
+    ensures memo { λ _. ⌜ Remembers (noted (now (b .entry))) (now (memo .exit)) ⌝ }
 {
     let mut slots = [0u32; 64];
     let mut known = true;
@@ -194,5 +200,6 @@ pub fn check_nodes(
         value_buckets,
         known,
         &doubts,
+        &mut memo,
     )
 }

@@ -2,6 +2,5 @@
 // steps of a batch touch all its texts, then all its entries, so that the waits overlap. What is not found out here is left to the
 // checks node by node, which give the refusal its place.
 pub mod all;
-mod long;
 mod slots;
 mod steps;

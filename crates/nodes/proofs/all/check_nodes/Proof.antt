@@ -10,7 +10,9 @@ use Rattle.region.specs.Region.{Resolves, startOf}
 use Rattle.region.specs.Samples.{Mapped}
 use Rattle.region.proofs.Samples.{segment-fits, used-at}
 use Rattle.layout.specs.Layout.{nodeSize, nodesAt}
+use Rattle.memo.specs.Memo.{Remembers}
 use Rattle.nodes.specs.Node.{nodeAt}
+use Rattle.nodes.specs.Noted.{noted}
 use Rattle.nodes.specs.Order.{allNodeChecks}
 use Rattle.nodes.proofs.Left.{segmentsLeft, nodesLeft, no-segment, no-node, first-start, next-start, nodes-start, node-in, node-at}
 use Rattle.nodes.proofs.Rows.{left-open, left-more, left-stop, left-next, left-none}
@@ -19,18 +21,18 @@ use Rattle.nodes.proofs.all.check_nodes.Statement.{statement}
 use Rattle.nodes.proofs.all.check_nodes.Tie as tie
 
 abbrev Inv-loop : tie.InvT-loop
-Inv-loop b t p names attribute-starts node-starts value-starts value-buckets known doubts nodes at fault₀ seg used el₀ fault el =
-    (el ≤ used) × (fault ≡ Accepted) × (firstFault (allNodeChecks b) ≡ nodesLeft b seg el)
+Inv-loop b t p names attribute-starts node-starts value-starts value-buckets known doubts memo₀ nodes at fault₀ seg used el₀ memo fault el =
+    (el ≤ used) × (fault ≡ Accepted) × (firstFault (allNodeChecks b) ≡ nodesLeft b seg el) × Remembers (noted b) memo
 
 abbrev μ-loop : tie.MeasureT-loop
-μ-loop b t p names attribute-starts node-starts value-starts value-buckets known doubts nodes at fault₀ seg used el₀ fault el = used - el
+μ-loop b t p names attribute-starts node-starts value-starts value-buckets known doubts memo₀ nodes at fault₀ seg used el₀ memo fault el = used - el
 
 abbrev Inv-segments : tie.InvT-segments
-Inv-segments b t p names attribute-starts node-starts value-starts value-buckets known doubts nodes at₀ fault₀ seg₀ at fault seg =
-    (seg ≤ nodes .count) × (at ≡ startOf nodeSize b (nodesAt b) seg) × (fault ≡ Accepted) × (firstFault (allNodeChecks b) ≡ segmentsLeft b seg)
+Inv-segments b t p names attribute-starts node-starts value-starts value-buckets known doubts memo₀ nodes at₀ fault₀ seg₀ memo at fault seg =
+    (seg ≤ nodes .count) × (at ≡ startOf nodeSize b (nodesAt b) seg) × (fault ≡ Accepted) × (firstFault (allNodeChecks b) ≡ segmentsLeft b seg) × Remembers (noted b) memo
 
 abbrev μ-segments : tie.MeasureT-segments
-μ-segments b t p names attribute-starts node-starts value-starts value-buckets known doubts nodes at₀ fault₀ seg₀ at fault seg = nodes .count - seg
+μ-segments b t p names attribute-starts node-starts value-starts value-buckets known doubts memo₀ nodes at₀ fault₀ seg₀ memo at fault seg = nodes .count - seg
 
 region : (c : tie.Start Inv-loop μ-loop Inv-segments μ-segments) → Mapped nodeSize (c .args .b .now) (nodesAt (c .args .b .now)) (c .args .p .nodes)
 region c = c .pre .1 .placed .nodes
@@ -59,7 +61,7 @@ module _ (c : tie.In-loop Inv-loop μ-loop Inv-segments μ-segments) where
   inside = node-fits _ _ _ _ (c .before .before .before .before .before .before .before .before .before .before .before .before .before .before .pre .1 .laid .nodes) here place
 
 returns : tie.Need-returns Inv-loop μ-loop Inv-segments μ-segments
-returns c = no-segment _ _ (region (c .before .before .before .before .before)) (c .if1 .taken)
+returns c = (no-segment _ _ (region (c .before .before .before .before .before)) (c .if1 .taken), c .before .before .before .before .before .pre .4)
 
 add-at : tie.Need-add-at Inv-loop μ-loop Inv-segments μ-segments
 add-at c = record { fits = omega (arith, first (c .before)) }
@@ -71,10 +73,10 @@ u32-at-requires : tie.Need-u32-at-requires Inv-loop μ-loop Inv-segments μ-segm
 u32-at-requires c κs = omega (arith, first (c .before))
 
 returns-2 : tie.Need-returns-2 Inv-loop μ-loop Inv-segments μ-segments
-returns-2 c = no-node _ _ (region (c .before .before .before .before .before .before .before .before)) _ (c .before .u32-at .ensures .0) (c .if2 .taken)
+returns-2 c = (no-node _ _ (region (c .before .before .before .before .before .before .before .before)) _ (c .before .u32-at .ensures .0) (c .if2 .taken), c .before .before .before .before .before .before .before .before .pre .4)
 
 segments-holds : tie.Need-segments-holds Inv-loop μ-loop Inv-segments μ-segments
-segments-holds c = let w = region (c .before .before .before .before .before .before .before .before) in (omega arith, first-start _ _ w, refl, nodes-start _ _ w _ (c .before .u32-at .ensures .0) (c .before .before .before .if1 .left) (c .if2 .left))
+segments-holds c = let w = region (c .before .before .before .before .before .before .before .before) in (omega arith, first-start _ _ w, refl, nodes-start _ _ w _ (c .before .u32-at .ensures .0) (c .before .before .before .if1 .left) (c .if2 .left), c .before .before .before .before .before .before .before .before .pre .4)
 
 add-u32-at-2 : tie.Need-add-u32-at-2 Inv-loop μ-loop Inv-segments μ-segments
 add-u32-at-2 c = record { fits = omega (arith, turn c) }
@@ -83,7 +85,7 @@ u32-at-requires-2 : tie.Need-u32-at-requires-2 Inv-loop μ-loop Inv-segments μ-
 u32-at-requires-2 c κs = omega (arith, turn c)
 
 loop-holds : tie.Need-loop-holds Inv-loop μ-loop Inv-segments μ-segments
-loop-holds c = let i = c .before .before .before .segments .inv in (omega arith, i .2, i .3 ∙ left-open _ _ _ _ (omega (arith, c .before .if3 .taken, region (c .before .before .before .before .before .before .before .before .before .before .before .before) .count-is)))
+loop-holds c = let i = c .before .before .before .segments .inv in (omega arith, i .2, i .3 ∙ left-open _ _ _ _ (omega (arith, c .before .if3 .taken, region (c .before .before .before .before .before .before .before .before .before .before .before .before) .count-is)), i .4)
 
 add-x : tie.Need-add-x Inv-loop μ-loop Inv-segments μ-segments
 add-x c = record { fits = omega (arith, inside c) }
@@ -95,11 +97,12 @@ add-x-2 : tie.Need-add-x-2 Inv-loop μ-loop Inv-segments μ-segments
 add-x-2 c = record { fits = omega (arith, inside c) }
 
 check-node-requires : tie.Need-check-node-requires Inv-loop μ-loop Inv-segments μ-segments
-check-node-requires c κs = let s = c .before .before .before .before .before .before .before .before .before .before .before .before .before .before in (s .pre .0, s .pre .1, here c, place c, s .pre .2, s .pre .3)
+check-node-requires c κs = let s = c .before .before .before .before .before .before .before .before .before .before .before .before .before .before .before in (s .pre .0, s .pre .1, here (c .before), place (c .before), s .pre .2, s .pre .3, c .before .before .loop .inv .3)
 
 loop-again : tie.Need-loop-again Inv-loop μ-loop Inv-segments μ-segments
-loop-again c = let i = c .before .before .before .before .loop .inv in
-    (omega arith, i .1, i .2 ∙ left-more _ _ _ _ _ (here (c .before .before .before) .el-in) (c .before .before .check-node .ensures) (c .enum-told .given .1))
+loop-again c = let i = c .before .before .before .before .before .loop .inv in
+    let w = c .before .before .check-node .ensures in
+    (omega arith, i .1, i .2 ∙ left-more _ _ _ _ _ (here (c .before .before .before .before) .el-in) (w .0) (c .enum-told .given .1), w .1)
 
 add-at-2 : tie.Need-add-at-2 Inv-loop μ-loop Inv-segments μ-segments
 add-at-2 c = record { fits = omega (arith, turn (c .before .before .before)) }
@@ -120,13 +123,14 @@ segments-again c = let q = c .before .before .before .before .before .before .se
       next-start _ _ (region (c .before .before .before .before .before .before .before .before .before .before .before .before .before .before .before)) _ _ (c .before .before .before .before .if3 .taken) q _ (c .u32-at3 .ensures .0),
       i .1,
       i .2 ∙ left-next _ _ _ _ _ (omega (arith, used-at _ _ _ _ _ _ q (c .before .before .before .u32-at2 .ensures .0))),
+      i .3,
     )
 
 returns-3 : tie.Need-returns-3 Inv-loop μ-loop Inv-segments μ-segments
-returns-3 c = let i = c .before .before .segments .inv in i .2 ∙ sym (i .3 ∙ left-none _ _ _ _ (omega (arith, c .if3 .left, region (c .before .before .before .before .before .before .before .before .before .before .before) .count-is)))
+returns-3 c = let i = c .before .before .segments .inv in (i .2 ∙ sym (i .3 ∙ left-none _ _ _ _ (omega (arith, c .if3 .left, region (c .before .before .before .before .before .before .before .before .before .before .before) .count-is))), i .4)
 
 returns-4 : tie.Need-returns-4 Inv-loop μ-loop Inv-segments μ-segments
-returns-4 c = let i = c .before .before .before .before .before .loop .inv in sym (i .2 ∙ left-stop _ _ _ _ _ (here (c .before .before .before .before) .el-in) (c .before .before .before .check-node .ensures) (c .before .num .given .1))
+returns-4 c = let w = c .before .before .before .check-node .ensures in (sym (c .before .before .before .before .before .before .loop .inv .2 ∙ left-stop _ _ _ _ _ (here (c .before .before .before .before .before) .el-in) (w .0) (c .before .num .given .1)), w .1)
 
 pub check-nodes-spec : {M : Type 1} → statement M
 check-nodes-spec =

@@ -11,7 +11,7 @@ use Rattle.region.specs.Region.{startOf}
 use Rattle.layout.specs.Layout.{attributeSize, attributesAt}
 use Rattle.memo.specs.Memo.{Remembers}
 use Rattle.nodes.specs.Doubts.{Trusted, NoDoubt}
-use Rattle.prefetch.specs.Noted.{noted}
+use Rattle.nodes.specs.Noted.{noted}
 use Rattle.prefetch.proofs.Taking.{passed-trusted}
 use native.Mathlib.Omega.{arith}
 use borrow.Author.Needs.{needs}
@@ -96,7 +96,7 @@ loop-again c = let i = c .before .before .before .before .before .before .loop .
     (omega arith, rows-next _ (c .before .before .before .before .before .before .before .before .before .before .pre .0 .5) _ _ (c .before .before .before .before .if1 .taken) (i .1) _ (c .u32-at2 .ensures .0), j .1, j .2, j .3, rows-more _ _ _ _ _ _ (j .4) (i .1) (used-at _ _ _ _ _ _ (i .1) (c .before .before .before .u32-at .ensures .0)) (c .before .loop2-test .left) (j .5), j .6)
 
 returns : tie.Need-returns Inv-loop2 μ-loop2 Inv-loop μ-loop
-returns c = let i = c .before .before .loop .inv in (i .4, rows-all _ _ _ (i .5) (omega (arith, c .if1 .left, c .before .before .before .before .before .before .pre .0 .5 .count-is)))
+returns c = let i = c .before .before .loop .inv in (i .4, (rows-all _ _ _ (i .5) (omega (arith, c .if1 .left, c .before .before .before .before .before .before .pre .0 .5 .count-is)), i .6))
 
 pub find-doubts-spec : {M : Type 1} → statement M
 find-doubts-spec =

@@ -1,6 +1,6 @@
 use Rattle.memo.specs.Memo.{Remembers}
-use Rattle.prefetch.specs.Noted.{noted}
-use Rattle.prefetch.proofs.Noting.{hash-small}
+use Rattle.nodes.specs.Noted.{noted}
+use Rattle.nodes.proofs.Noting.{hash-small}
 use Rattle.prefetch.proofs.Filling.{fit-read, length-kept}
 use Prim.Native.Nat.{_-_}
 use mathlib.Core.Path.{_≡_}

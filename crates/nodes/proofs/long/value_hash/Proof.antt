@@ -3,9 +3,9 @@ use mathlib.Core.Path.{sym, _∙_}
 use borrow.Author.Needs.{needs}
 use borrow.Author.Tests.{not-false}
 use Rattle.text.proofs.Split.{value-first, value-second, run-small}
-use Rattle.prefetch.proofs.Noting.{value-noted, value-small}
-use Rattle.prefetch.proofs.long.value_hash.Statement.{statement}
-use Rattle.prefetch.proofs.long.value_hash.Tie as tie
+use Rattle.nodes.proofs.Noting.{value-noted, value-small}
+use Rattle.nodes.proofs.long.value_hash.Statement.{statement}
+use Rattle.nodes.proofs.long.value_hash.Tie as tie
 
 value-run-requires : tie.Need-value-run-requires
 value-run-requires c κs =

@@ -15,7 +15,7 @@ use Rattle.text.specs.Measure.{Measured}
 use Rattle.text.specs.declared.Extent.{Extent}
 use Rattle.text.proofs.Laws.{text-none}
 use Rattle.text.proofs.Split.{ends-first}
-use Rattle.prefetch.specs.Noted.{noted}
+use Rattle.nodes.specs.Noted.{noted}
 
 module _ (b : List ℕ) (x n : ℕ) where
   pub value-noted : n < 65536 → noted b x n ≡ valueHash (textIn b x n)

@@ -2,9 +2,9 @@ use native.Mathlib.Omega.{arith}
 use mathlib.Core.Path.{sym, _∙_}
 use borrow.Author.Needs.{needs}
 use borrow.Author.Tests.{not-false}
-use Rattle.prefetch.proofs.Noting.{hash-noted, hash-small, short-hash}
-use Rattle.prefetch.proofs.long.text_hash.Statement.{statement}
-use Rattle.prefetch.proofs.long.text_hash.Tie as tie
+use Rattle.nodes.proofs.Noting.{hash-noted, hash-small, short-hash}
+use Rattle.nodes.proofs.long.text_hash.Statement.{statement}
+use Rattle.nodes.proofs.long.text_hash.Tie as tie
 
 measure-requires-2 : tie.Need-measure-requires-2
 measure-requires-2 c κs =

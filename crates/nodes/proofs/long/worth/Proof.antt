@@ -1,8 +1,8 @@
 use native.Mathlib.Omega.{arith}
 use borrow.Author.Tests.{ltb-true}
 use Rattle.verdict.proofs.Laws.{unsure}
-use Rattle.prefetch.proofs.long.worth.Statement.{statement}
-use Rattle.prefetch.proofs.long.worth.Tie as tie
+use Rattle.nodes.proofs.long.worth.Statement.{statement}
+use Rattle.nodes.proofs.long.worth.Tie as tie
 
 returns : tie.Need-returns
 returns c = unsure

@@ -1,5 +1,5 @@
-// The hashes of texts that may be long. Thousands of attributes may share one text: what was found out about a text of more than 64 characters
-// is remembered. Shorter ones are hashed each time, which costs less than to look them up.
+// The hashes of texts that may be long. Thousands of attributes may share one text, and thousands of nodes one attribute: what was found out
+// about a text of more than 64 characters is remembered. Shorter ones are hashed each time, which costs less than to look them up.
 ghost use mathlib.Core.Path.{_≡_};
 ghost use Prim.Native.Nat.{_+_, _*_, _≤_, _<_, _^_};
 ghost use lib.ListN.{length};
@@ -9,7 +9,7 @@ ghost use Rattle.hash.specs.Hash.{hashText};
 ghost use Rattle.hash.specs.Fold.{valueHash};
 ghost use Rattle.text.specs.Text.{textIn};
 ghost use Rattle.memo.specs.Memo.{Remembers};
-ghost use Rattle.prefetch.specs.Noted.{noted};
+ghost use Rattle.nodes.specs.Noted.{noted};
 
 // Whether a text with n characters left is worth remembering: at most 65,535 characters are left anywhere.
 fn worth(n: usize) -> bool

@@ -1,0 +1,44 @@
+use mathlib.Core.Path.{_≡_}
+use borrow.Author.Needs.{needs}
+use Rattle.region.specs.Region.{rangeAt}
+use Rattle.layout.specs.Layout.{attributeSize, attributesAt}
+use Rattle.nodes.specs.Node.{attributeSegment, attributeElement, attributeCount}
+use Rattle.nodes.specs.Doubts.{Trusted}
+use Rattle.nodes.proofs.Sought.{lent}
+use Rattle.nodes.proofs.Ways.{attribute-count, attributes-sought, attributes-fit, attributes-start, attributes-known, range-none, range-nowhere, range-told}
+use Rattle.nodes.proofs.node.check_attribute_range.Statement.{statement}
+use Rattle.nodes.proofs.node.check_attribute_range.Tie as tie
+
+count : (c : tie.After-u16-at) → let a = c .before .before .before .args in c .u16-at .result ≡ attributeCount (a .b .now) (a .x)
+count c = attribute-count _ _ (c .before .before .before .pre .1 .3) _ (c .u16-at .ensures .0)
+
+range : (c : tie.After-range-at)
+    → let a = c .before .before .before .before .before .before .before .args in
+    c .range-at .result ≡ rangeAt attributeSize (a .b .now) (attributesAt (a .b .now)) (attributeSegment (a .b .now) (a .x)) (attributeElement (a .b .now) (a .x)) (c .before .before .before .before .u16-at .result)
+range c = attributes-sought _ _ _ _ (c .before .before .before .before .before .before .before .pre .1 .0) _ _ (c .before .before .u16-at2 .ensures .0) (c .before .u16-at3 .ensures .0) _ (c .range-at .ensures)
+
+returns : tie.Need-returns
+returns c = (range-none _ _ _ (count (c .before)) (c .if1 .taken), c .before .before .before .before .pre .1 .6)
+
+range-at-requires : tie.Need-range-at-requires
+unfolding attributeSize
+range-at-requires c κs = let p = c .before .before .before .before .before .before .pre .1 in (lent (p .0) (p .1), (c .u16-at3 .ensures .1, c .before .before .before .u16-at .ensures .1))
+
+check-attributes-requires : tie.Need-check-attributes-requires
+check-attributes-requires c κs = let p = c .before .before .before .before .before .before .before .before .before .before .before .pre .1 in
+    let n = count (c .before .before .before .before .before .before .before .before) in
+    let f = range (c .before .before .before .before) in
+    let e = c .before .before .r .given .1 in
+    (c .before .before .before .before .before .before .before .before .before .before .before .pre .0, (n, attributes-start _ _ _ n _ f _ e, attributes-fit _ _ _ n _ f _ e (p .0 .laid), p .4, attributes-known _ _ _ n _ f _ e (Trusted _ _) (p .5), p .6))
+
+returns-2 : tie.Need-returns-2
+returns-2 c = let w = c .check-attributes .ensures in (range-told _ _ _ (count (c .before .before .before .before .before .before .before .before .before)) _ (range (c .before .before .before .before .before)) _ (c .before .before .before .r .given .1) _ (w .0), w .1)
+
+returns-3 : tie.Need-returns-3
+returns-3 c = (range-nowhere _ _ _ (count (c .before .before .before .before .before .before)) _ (range (c .before .before)) (c .before .before .before .before .before .if1 .left) (c .enum-told .given .1), c .before .before .before .before .before .before .before .before .before .pre .1 .6)
+
+pub check-attribute-range-spec : {M : Type 1} → statement M
+check-attribute-range-spec =
+    tie.close
+    (tie.spec (λ c. search needs) (λ c κs. search needs) returns (λ c. search needs) (λ c κs. search needs) (λ c. search needs)
+    (λ c κs. search needs) range-at-requires (λ c. search needs) check-attributes-requires (λ c. search needs) returns-2 returns-3)
