@@ -43,7 +43,7 @@ module _ (t : Table) (k j : ℕ) where
     pub told-few : n + 1 < w → TextRight t k j → ⊥
     told-few l r = omega (arith, r .sized, ap length text-here, text-length-le (t .bytes) p n)
 
-    pub print-some : (x : ℕ) → (x ≡ fingerprintOf (chars (t .bytes) p (w - 1))) × (x < 2 ^ 32) → Printed t k j x
+    pub print-some : (x : ℕ) → (x ≡ fingerprintOf (chars (t .bytes) p (w - 1))) × (x < 2 ^ 16) → Printed t k j x
     print-some x e = record {
       small = e .1;
       print = λ r.

@@ -29,7 +29,7 @@ pub record Apart (t : Table) (k s e : ℕ) : Type 0 where
 
 -- x is the fingerprint of the text of entry j, if that is right.
 pub record Printed (t : Table) (k j x : ℕ) : Type 0 where
-  pub small : x < 2 ^ 32
+  pub small : x < 2 ^ 16
   pub print : TextRight t k j → x ≡ fingerprintOf (textOf t k j)
 
 -- A multimap has the fingerprints of the n entries from s on.

@@ -57,7 +57,7 @@ fn met(
     n: usize,
     j: usize,
     x: usize,
-    map: &[u32; 24576],
+    map: &[u16; 20480],
 ) -> bool
     requires { ⌜ Held (now b) s (now samples) (now starts) × Here (heldTable (now b) s (now starts)) k j × (from + n ≤ j)
         × Printed (heldTable (now b) s (now starts)) k j x × Filed (heldTable (now b) s (now starts)) k from n (now map) ⌝ }
@@ -82,7 +82,7 @@ fn file(
     k: usize,
     from: usize,
     most: usize,
-    map: &mut [u32; 24576],
+    map: &mut [u16; 20480],
 ) -> usize
     requires { ⌜ Held (now b) s (now samples) (now starts) × (k < length (now starts))
         × (from + most ≤ entries (heldTable (now b) s (now starts)) k) × (most ≤ 8192) × Filled 0 (now map) ⌝ }
@@ -111,7 +111,7 @@ fn sift(
     from: usize,
     n: usize,
     end: usize,
-    map: &[u32; 24576],
+    map: &[u16; 20480],
 ) -> usize
     requires { ⌜ Held (now b) s (now samples) (now starts) × (k < length (now starts)) × (from + n ≤ end)
         × (end ≤ entries (heldTable (now b) s (now starts)) k) × Apart (heldTable (now b) s (now starts)) k from (from + n)
@@ -143,7 +143,7 @@ fn sift_some(
         × (end ≤ entries (heldTable (now b) s (now starts)) k) ⌝ }
     ensures { λ r. ⌜ Clear (heldTable (now (b .entry)) s (now (starts .entry))) k from (r .filed) (r .clear) × (r .clear ≤ end) × (0 < r .filed) ⌝ }
 {
-    let mut map = [0u32; 24576];
+    let mut map = [0u16; 20480];
     let most = ahead::least(end - from, 8192);
     let filed = file(b, s, samples, starts, k, from, most, &mut map);
     let clear = sift(b, s, samples, starts, k, from, filed, end, &map);

@@ -13,11 +13,10 @@ use Rattle.text.proofs.Words.{two}
 pub record Stirring (b : List ℕ) (p n i g : ℕ) : Type 0 where
   pub inside : i ≤ n
   pub small : g < 2 ^ 32
-  pub rest : fingerprintOf (chars b p n) ≡ fingerprintOn g (charsFrom b p n i)
+  pub rest : fingerprintOn 0 (chars b p n) ≡ fingerprintOn g (charsFrom b p n i)
 
 module _ (b : List ℕ) (p n : ℕ) where
   pub stirring-start : Stirring b p n 0 0
-  unfolding fingerprintOf
   stirring-start = record { inside = omega arith; small = omega arith; rest = ap (fingerprintOn 0) (sym (chars-start b p n)) }
 
   module _ (i g : ℕ) (k : Stirring b p n i g) where
@@ -39,11 +38,11 @@ module _ (b : List ℕ) (p n : ℕ) where
         }
 
     -- one character is left, or none
-    pub stirring-one : (c r : ℕ) → i < n → (i + 1 < n → ⊥) → c ≡ u16At b (p + 2 * i) → r ≡ stirred g c → r ≡ fingerprintOf (chars b p n)
-    unfolding fingerprintOn
+    pub stirring-one : (c r : ℕ) → i < n → (i + 1 < n → ⊥) → c ≡ u16At b (p + 2 * i) → r ≡ stirred g c → r / 65536 ≡ fingerprintOf (chars b p n)
+    unfolding fingerprintOn fingerprintOf
     stirring-one c r l d e s =
-        s ∙ sym (k .rest ∙ ap (fingerprintOn g) (chars-next b p n i c l e ∙ ap (λ (xs : List ℕ). c ∷ xs) (chars-over b p n (i + 1) (omega arith))))
+        ap (λ (y : ℕ). y / 65536) (s ∙ sym (k .rest ∙ ap (fingerprintOn g) (chars-next b p n i c l e ∙ ap (λ (xs : List ℕ). c ∷ xs) (chars-over b p n (i + 1) (omega arith)))))
 
-    pub stirring-none : (i < n → ⊥) → g ≡ fingerprintOf (chars b p n)
-    unfolding fingerprintOn
-    stirring-none d = sym (k .rest ∙ ap (fingerprintOn g) (chars-over b p n i (omega arith)))
+    pub stirring-none : (i < n → ⊥) → g / 65536 ≡ fingerprintOf (chars b p n)
+    unfolding fingerprintOn fingerprintOf
+    stirring-none d = ap (λ (y : ℕ). y / 65536) (sym (k .rest ∙ ap (fingerprintOn g) (chars-over b p n i (omega arith))))

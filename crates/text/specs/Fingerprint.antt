@@ -11,5 +11,6 @@ fingerprintOn g [] = g
 fingerprintOn g (c ∷ []) = stirred g c
 fingerprintOn g (c ∷ d ∷ cs) = fingerprintOn (stirred g (c + 65536 * d)) cs
 
+-- The upper half of it.
 unfoldable pub fingerprintOf : List ℕ → ℕ
-fingerprintOf xs = fingerprintOn 0 xs
+fingerprintOf xs = fingerprintOn 0 xs / 65536

@@ -17,7 +17,7 @@ fn stir(g: usize, v: usize) -> usize
 // The fingerprint of the n characters at p.
 pub fn fingerprint(b: &[u8], p: usize, n: usize) -> usize
     requires { ⌜ p + 2 * n ≤ length (now b) ⌝ }
-    ensures { λ r. ⌜ (r ≡ fingerprintOf (chars (now (b .entry)) p n)) × (r < 2 ^ 32) ⌝ }
+    ensures { λ r. ⌜ (r ≡ fingerprintOf (chars (now (b .entry)) p n)) × (r < 2 ^ 16) ⌝ }
 {
     let mut g = 0;
     let mut i = 0;
@@ -26,7 +26,7 @@ pub fn fingerprint(b: &[u8], p: usize, n: usize) -> usize
         i += 2;
     }
     if i < n {
-        return stir(g, le::u16_at(b, p + 2 * i));
+        return stir(g, le::u16_at(b, p + 2 * i)) / 65536;
     }
-    g
+    g / 65536
 }

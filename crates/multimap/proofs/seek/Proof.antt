@@ -24,7 +24,7 @@ element-copy-out-wide : tie.Need-element-copy-out-wide Inv-loop μ-loop
 element-copy-out-wide c = omega (arith, c .before .loop .inv .within, c .before .before .pre .1, c .before .before .pre .0 .few)
 
 returns : tie.Need-returns Inv-loop μ-loop
-returns c = sought-here _ _ _ _ (c .before .before .before .before .loop .inv) (sym (c .before .wide .ensures .0) ∙ c .if1 .taken)
+returns c = sought-here _ _ _ _ (c .before .before .before .before .loop .inv) (sym (c .before .wide .ensures) ∙ c .if1 .taken)
 
 add-wide-2 : tie.Need-add-wide-2 Inv-loop μ-loop
 add-wide-2 c = search needs
@@ -38,13 +38,13 @@ element-copy-out-wide-2 c = omega (arith, c .before .before .before .before .loo
 loop-less : tie.Need-loop-less Inv-loop μ-loop
 loop-less c =
     let p = c .before .before .before .before .before .before .before .pre in
-    linked-less _ _ _ (p .0) (p .1) _ (c .before .before .before .before .before .before .loop .inv) (c .before .before .before .before .before .loop-test .taken) _ (c .wide2 .ensures .0)
+    linked-less _ _ _ (p .0) (p .1) _ (c .before .before .before .before .before .before .loop .inv) (c .before .before .before .before .before .loop-test .taken) _ (c .wide2 .ensures)
 
 loop-again : tie.Need-loop-again Inv-loop μ-loop
 loop-again c =
     let p = c .before .before .before .before .before .before .before .pre in
-    sought-next _ _ _ (p .0) (p .1) _ (c .before .before .before .before .before .before .loop .inv) (c .before .before .before .before .before .loop-test .taken) _ (c .wide2 .ensures .0)
-    (λ e. c .before .before .if1 .left (c .before .before .before .wide .ensures .0 ∙ e))
+    sought-next _ _ _ (p .0) (p .1) _ (c .before .before .before .before .before .before .loop .inv) (c .before .before .before .before .before .loop-test .taken) _ (c .wide2 .ensures)
+    (λ e. c .before .before .if1 .left (c .before .before .before .wide .ensures ∙ e))
 
 returns-2 : tie.Need-returns-2 Inv-loop μ-loop
 returns-2 c = sought-none _ _ _ _ (c .before .loop .inv) (c .loop-test .left)

@@ -30,10 +30,10 @@ returns : tie.Need-returns Inv-loop μ-loop
 returns c =
     let d = c .before in
     let e = c .stir2 .ensures in
-    (stirring-one _ _ _ _ _ (d .before .before .before .loop .inv) _ _ (d .before .if1 .taken) (λ z. omega (arith, d .before .before .loop-test .left)) (d .u16-at .ensures .0) (e .0), e .1)
+    (stirring-one _ _ _ _ _ (d .before .before .before .loop .inv) _ _ (d .before .if1 .taken) (λ z. omega (arith, d .before .before .loop-test .left)) (d .u16-at .ensures .0) (e .0), omega (arith, e .1))
 
 returns-2 : tie.Need-returns-2 Inv-loop μ-loop
-returns-2 c = (stirring-none _ _ _ _ _ (c .before .before .loop .inv) (λ z. omega (arith, c .if1 .left)), c .before .before .loop .inv .small)
+returns-2 c = (stirring-none _ _ _ _ _ (c .before .before .loop .inv) (λ z. omega (arith, c .if1 .left)), omega (arith, c .before .before .loop .inv .small))
 
 pub fingerprint-spec : {M : Type 1} → statement M
 fingerprint-spec =
