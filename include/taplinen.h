@@ -14,7 +14,7 @@
  * Texts have two bytes per character, low byte first; tool/text.c of the sources converts UTF-8.
  *
  * THREADS. Any number of threads may call at the same time. They may share the file, which no function here writes to; each thread needs
- * a workspace of its own. A call needs about 170 KB of stack, whatever the file, and is tested with 256 KB. That is more than the 128 KB
+ * a workspace of its own. A call needs about 200 KB of stack, whatever the file, and is tested with 256 KB. That is more than the 128 KB
  * that musl gives to a new thread: set the size with pthread_attr_setstacksize there. (glibc puts thread-local data onto the same stack;
  * sanitizers have a lot of it, and 1 MB is enough for them.)
  *
