@@ -15,7 +15,7 @@ use Rattle.text.proofs.Laws.{text-chars, text-length-le}
 use Rattle.layout.specs.Table.{Table, lengthOf, segmentOf, elementOf}
 use Rattle.strings.specs.Texts.{textOf}
 use Rattle.strings.specs.Held.{TextRight, Sorted}
-use Rattle.strings.specs.Apart.{Differ, Compared, Away, Apart, Printed, Filed, Met, Sifted, Clear, AwayWithin}
+use Rattle.strings.specs.Apart.{Differ, Compared, Away, Apart, Fingerprinted, Collected, Met, Sifted, Clear, AwayWithin}
 use Rattle.strings.proofs.Spots.{Spotted}
 use Rattle.strings.proofs.Runs.{Alone}
 
@@ -29,8 +29,8 @@ module _ (t : Table) (k i j : ℕ) where
 -- ---- fingerprints
 
 module _ (t : Table) (k j : ℕ) where
-  pub print-none : (TextRight t k j → ⊥) → Printed t k j 0
-  print-none f = record { small = omega arith; print = λ r. absurd (f r) }
+  pub fingerprint-none : (TextRight t k j → ⊥) → Fingerprinted t k j 0
+  fingerprint-none f = record { small = omega arith; value = λ r. absurd (f r) }
 
   module _ (p n w : ℕ) (s : Spotted t (segmentOf t k j) (elementOf t k j) p n) (q : w ≡ lengthOf t k j) where
     text-here : textOf t k j ≡ textIn (t .bytes) p n
@@ -43,15 +43,15 @@ module _ (t : Table) (k j : ℕ) where
     pub told-few : n + 1 < w → TextRight t k j → ⊥
     told-few l r = omega (arith, r .sized, ap length text-here, text-length-le (t .bytes) p n)
 
-    pub print-some : (x : ℕ) → (x ≡ fingerprintOf (chars (t .bytes) p (w - 1))) × (x < 2 ^ 16) → Printed t k j x
-    print-some x e = record {
+    pub fingerprint-some : (x : ℕ) → (x ≡ fingerprintOf (chars (t .bytes) p (w - 1))) × (x < 2 ^ 16) → Fingerprinted t k j x
+    fingerprint-some x e = record {
       small = e .1;
-      print = λ r.
+      value = λ r.
           let d : w - 1 ≡ length (textIn (t .bytes) p n) = omega (arith, r .sized, ap length text-here) in
           e .0 ∙ ap fingerprintOf (ap (chars (t .bytes) p) d ∙ sym (text-chars (t .bytes) p n) ∙ sym text-here);
     }
 
--- ---- one entry against those that are filed
+-- ---- one entry against the collected ones
 
 -- it differs from all of them from c on, and c is one with its fingerprint
 pub record Meeting (t : Table) (k s n j x : ℕ) (map : List ℕ) (c : ℕ) : Type 0 where
@@ -59,12 +59,12 @@ pub record Meeting (t : Table) (k s n j x : ℕ) (map : List ℕ) (c : ℕ) : Ty
   pub rest : (i : ℕ) → c ≤ i → i < n → Differ t k (s + i) j
   pub number : (i : ℕ) → i + 1 ≡ c → numberAt map i ≡ x
 
-module _ (t : Table) (k s n j x : ℕ) (map : List ℕ) (f : Filed t k s n map) (p : Printed t k j x) where
-  other-print : (i : ℕ) → i < n → (numberAt map i ≡ x → ⊥) → Differ t k (s + i) j
-  other-print i l d = record { texts = λ a b e. d (f .each i l .print a ∙ ap fingerprintOf e ∙ sym (p .print b)) }
+module _ (t : Table) (k s n j x : ℕ) (map : List ℕ) (f : Collected t k s n map) (p : Fingerprinted t k j x) where
+  other-fingerprint : (i : ℕ) → i < n → (numberAt map i ≡ x → ⊥) → Differ t k (s + i) j
+  other-fingerprint i l d = record { texts = λ a b e. d (f .each i l .value a ∙ ap fingerprintOf e ∙ sym (p .value b)) }
 
   pub meeting-start : (c : ℕ) → LastWith map n x c → Meeting t k s n j x map c
-  meeting-start c w = record { within = w .within; rest = λ i l h. other-print i h (w .after i l h); number = w .number }
+  meeting-start c w = record { within = w .within; rest = λ i l h. other-fingerprint i h (w .after i l h); number = w .number }
 
   pub meeting-next : (c d : ℕ) → Meeting t k s n j x map c → 0 < c → Differ t k (s + (c - 1)) j → LastWith map (c - 1) x d → Meeting t k s n j x map d
   meeting-next c d m l a w = record {
@@ -74,7 +74,7 @@ module _ (t : Table) (k s n j x : ℕ) (map : List ℕ) (f : Filed t k s n map) 
         (λ u. m .rest i u h)
         (λ u. ⊎-elim
         (λ v. let z : c - 1 ≡ i = omega arith in subst (λ (y : ℕ). Differ t k (s + y) j) z a)
-        (λ v. other-print i h (w .after i g (omega arith)))
+        (λ v. other-fingerprint i h (w .after i g (omega arith)))
         (le-or-lt c (i + 1)))
         (le-or-lt c i);
     number = w .number;
@@ -86,26 +86,26 @@ module _ (t : Table) (k s n j x : ℕ) (map : List ℕ) (f : Filed t k s n map) 
   pub met-none : (c : ℕ) → Meeting t k s n j x map c → c ≤ 0 → Met t k s n j false
   met-none c m l = record { some = λ e. absurd (false≢true e); none = λ e i h. m .rest i (omega arith) h }
 
--- ---- filing
+-- ---- collecting
 
-pub record Filing (t : Table) (k s n most : ℕ) (map : List ℕ) : Type 0 where
+pub record Collecting (t : Table) (k s n most : ℕ) (map : List ℕ) : Type 0 where
   pub few : n ≤ most
   pub apart : Apart t k s (s + n)
-  pub filed : Filed t k s n map
+  pub collected : Collected t k s n map
 
 module _ (t : Table) (k s most : ℕ) where
-  pub filing-start : (map : List ℕ) → Filled 0 map → Filing t k s 0 most map
-  filing-start map f = record {
+  pub collecting-start : (map : List ℕ) → Filled 0 map → Collecting t k s 0 most map
+  collecting-start map f = record {
     few = omega arith;
     apart = record { each = λ i j l g h. absurd (omega arith) };
-    filed = record { filled = f; each = λ i l. absurd (omega arith) };
+    collected = record { filled = f; each = λ i l. absurd (omega arith) };
   }
 
-  module _ (n : ℕ) (map : List ℕ) (f : Filing t k s n most map) where
+  module _ (n : ℕ) (map : List ℕ) (f : Collecting t k s n most map) where
     pub sifted : (0 < most → 0 < n) → Sifted t k s n most
     sifted g = record { some = g; few = f .few; apart = f .apart }
 
-    -- the next differs from all that are filed
+    -- the next differs from all collected ones
     next-apart : {r : Bool} → r ≡ false → Met t k s n (s + n) r → Apart t k s (s + (n + 1))
     next-apart q m = record {
       each = λ i j l g h.
@@ -117,18 +117,18 @@ module _ (t : Table) (k s most : ℕ) where
           (le-or-lt (s + n) j);
     }
 
-    pub filing-next : (x : ℕ) (after : List ℕ) {r : Bool} → n < most → Printed t k (s + n) x → r ≡ false → Met t k s n (s + n) r → PutBehind map n x after
-        → Filing t k s (n + 1) most after
-    filing-next x after l p q m w = record {
+    pub collecting-next : (x : ℕ) (after : List ℕ) {r : Bool} → n < most → Fingerprinted t k (s + n) x → r ≡ false → Met t k s n (s + n) r → PutBehind map n x after
+        → Collecting t k s (n + 1) most after
+    collecting-next x after l p q m w = record {
       few = omega arith;
       apart = next-apart q m;
-      filed = record {
+      collected = record {
         filled = w .filled;
         each = λ i h.
             ⊎-elim
             (λ u. let z : n ≡ i = omega arith in
-            subst (λ (y : ℕ). Printed t k (s + y) (numberAt after y)) z (subst (Printed t k (s + n)) (sym (w .number)) p))
-            (λ u. subst (Printed t k (s + i)) (sym (w .stay i u)) (f .filed .each i u))
+            subst (λ (y : ℕ). Fingerprinted t k (s + y) (numberAt after y)) z (subst (Fingerprinted t k (s + n)) (sym (w .number)) p))
+            (λ u. subst (Fingerprinted t k (s + i)) (sym (w .stay i u)) (f .collected .each i u))
             (le-or-lt n i);
       };
     }

@@ -28,14 +28,14 @@ pub record Apart (t : Table) (k s e : ℕ) : Type 0 where
   pub each : (i j : ℕ) → s ≤ i → i < j → j < e → Differ t k i j
 
 -- x is the fingerprint of the text of entry j, if that is right.
-pub record Printed (t : Table) (k j x : ℕ) : Type 0 where
+pub record Fingerprinted (t : Table) (k j x : ℕ) : Type 0 where
   pub small : x < 2 ^ 16
-  pub print : TextRight t k j → x ≡ fingerprintOf (textOf t k j)
+  pub value : TextRight t k j → x ≡ fingerprintOf (textOf t k j)
 
 -- A multimap has the fingerprints of the n entries from s on.
-pub record Filed (t : Table) (k s n : ℕ) (map : List ℕ) : Type 0 where
+pub record Collected (t : Table) (k s n : ℕ) (map : List ℕ) : Type 0 where
   pub filled : Filled n map
-  pub each : (i : ℕ) → i < n → Printed t k (s + i) (numberAt map i)
+  pub each : (i : ℕ) → i < n → Fingerprinted t k (s + i) (numberAt map i)
 
 -- Entry j differs from each of the n entries from s on, if r is false; if r is true, there is at least one.
 pub record Met (t : Table) (k s n j : ℕ) (r : Bool) : Type 0 where

@@ -1,13 +1,13 @@
 // Duplicates among many entries with one hash (12). To compare each with all before it takes time that grows with the square of their number. Here
-// they are filed by a second hash of their texts, 8,192 at a time, and each entry is compared only with those of the same fingerprint. So n entries
-// take n / 8,192 rounds. An entry is looked at before refusals 7 to 9 were looked for: what is found here holds if its text is right.
+// the fingerprints of 8,192 texts at a time are collected, and each later entry is compared only with those of its own fingerprint: n entries take
+// n / 8,192 rounds. Refusals 7 to 9 are not looked for yet when an entry is compared, so what is found holds only if its text is right.
 ghost use mathlib.Core.Path.{_≡_};
 ghost use Prim.Native.Nat.{_+_, _≤_, _<_};
 ghost use lib.ListN.{length};
 ghost use Rattle.multimap.specs.Multimap.{Filled};
 ghost use Rattle.layout.specs.Table.{entries};
 ghost use Rattle.strings.specs.Held.{Held, heldTable, Here};
-ghost use Rattle.strings.specs.Apart.{Apart, Printed, Filed, Met, Sifted, Clear, AwayWithin};
+ghost use Rattle.strings.specs.Apart.{Apart, Fingerprinted, Collected, Met, Sifted, Clear, AwayWithin};
 use crate::Strings;
 use crate::ahead;
 use crate::entry;
@@ -20,16 +20,23 @@ pub struct Span {
     pub end: usize,
 }
 
-// How many entries were filed, and before which one each of them has a text of its own.
+// What a round finds: how many entries it collected, and before which entry each of them has a text of its own.
 pub struct Round {
-    pub filed: usize,
+    pub collected: usize,
     pub clear: usize,
 }
 
 // The fingerprint of the text of entry j. The length is that which the entry tells.
-fn print(b: &[u8], s: Strings, samples: &[u32; 1024], starts: &[u32], k: usize, j: usize) -> usize
+fn fingerprint_at(
+    b: &[u8],
+    s: Strings,
+    samples: &[u32; 1024],
+    starts: &[u32],
+    k: usize,
+    j: usize,
+) -> usize
     requires { ⌜ Held (now b) s (now samples) (now starts) × Here (heldTable (now b) s (now starts)) k j ⌝ }
-    ensures { λ r. ⌜ Printed (heldTable (now (b .entry)) s (now (starts .entry))) k j r ⌝ }
+    ensures { λ r. ⌜ Fingerprinted (heldTable (now (b .entry)) s (now (starts .entry))) k j r ⌝ }
 {
     let e = entry::entry_at(b, s, samples, starts, k, j);
     let a = spot::spot_to(b, s.chars, samples, e + 12);
@@ -46,7 +53,7 @@ fn print(b: &[u8], s: Strings, samples: &[u32; 1024], starts: &[u32], k: usize, 
     text::fingerprint::fingerprint(b, p, told - 1)
 }
 
-// Whether entry j, whose fingerprint is x, may have the text of one of the n entries from `from` on, which are filed.
+// Whether entry j, whose fingerprint is x, may have the text of one of the n collected entries, those from `from` on.
 fn met(
     b: &[u8],
     s: Strings,
@@ -60,7 +67,7 @@ fn met(
     map: &[u16; 20480],
 ) -> bool
     requires { ⌜ Held (now b) s (now samples) (now starts) × Here (heldTable (now b) s (now starts)) k j × (from + n ≤ j)
-        × Printed (heldTable (now b) s (now starts)) k j x × Filed (heldTable (now b) s (now starts)) k from n (now map) ⌝ }
+        × Fingerprinted (heldTable (now b) s (now starts)) k j x × Collected (heldTable (now b) s (now starts)) k from n (now map) ⌝ }
     ensures { λ r. ⌜ Met (heldTable (now (b .entry)) s (now (starts .entry))) k from n j r ⌝ }
 {
     let mut c = multimap::last(map, n, x);
@@ -73,8 +80,8 @@ fn met(
     false
 }
 
-// Files entries from `from` on, at most so many, up to one that may have the text of one before it.
-fn file(
+// Collects the fingerprints of entries from `from` on, at most so many, up to one that may have the text of one before it.
+fn collect(
     b: &[u8],
     s: Strings,
     samples: &[u32; 1024],
@@ -87,11 +94,11 @@ fn file(
     requires { ⌜ Held (now b) s (now samples) (now starts) × (k < length (now starts))
         × (from + most ≤ entries (heldTable (now b) s (now starts)) k) × (most ≤ 8192) × Filled 0 (now map) ⌝ }
     ensures answer { λ r. ⌜ Sifted (heldTable (now (b .entry)) s (now (starts .entry))) k from r most ⌝ }
-    ensures map { λ r. ⌜ Filed (heldTable (now (b .entry)) s (now (starts .entry))) k from r (now (map .exit)) ⌝ }
+    ensures map { λ r. ⌜ Collected (heldTable (now (b .entry)) s (now (starts .entry))) k from r (now (map .exit)) ⌝ }
 {
     let mut n = 0;
     while n < most {
-        let x = print(b, s, samples, starts, k, from + n);
+        let x = fingerprint_at(b, s, samples, starts, k, from + n);
         if met(b, s, samples, starts, k, from, n, from + n, x, map) {
             return n;
         }
@@ -101,7 +108,7 @@ fn file(
     n
 }
 
-// The first entry behind the n that are filed, before end, that may have the text of one of them; end if there is none.
+// The first entry behind the n collected ones, before end, that may have the text of one of them; end if there is none.
 fn sift(
     b: &[u8],
     s: Strings,
@@ -115,12 +122,12 @@ fn sift(
 ) -> usize
     requires { ⌜ Held (now b) s (now samples) (now starts) × (k < length (now starts)) × (from + n ≤ end)
         × (end ≤ entries (heldTable (now b) s (now starts)) k) × Apart (heldTable (now b) s (now starts)) k from (from + n)
-        × Filed (heldTable (now b) s (now starts)) k from n (now map) ⌝ }
+        × Collected (heldTable (now b) s (now starts)) k from n (now map) ⌝ }
     ensures { λ r. ⌜ Clear (heldTable (now (b .entry)) s (now (starts .entry))) k from n r × (r ≤ end) ⌝ }
 {
     let mut j = from + n;
     while j < end {
-        let x = print(b, s, samples, starts, k, j);
+        let x = fingerprint_at(b, s, samples, starts, k, j);
         if met(b, s, samples, starts, k, from, n, j, x, map) {
             return j;
         }
@@ -129,7 +136,7 @@ fn sift(
     end
 }
 
-// One round: some entries from `from` on are filed, and those behind them, before end, are compared with them.
+// One round: entries from `from` on are collected, and those behind them, before end, are compared with them.
 fn sift_some(
     b: &[u8],
     s: Strings,
@@ -141,13 +148,13 @@ fn sift_some(
 ) -> Round
     requires { ⌜ Held (now b) s (now samples) (now starts) × (k < length (now starts)) × (from < end)
         × (end ≤ entries (heldTable (now b) s (now starts)) k) ⌝ }
-    ensures { λ r. ⌜ Clear (heldTable (now (b .entry)) s (now (starts .entry))) k from (r .filed) (r .clear) × (r .clear ≤ end) × (0 < r .filed) ⌝ }
+    ensures { λ r. ⌜ Clear (heldTable (now (b .entry)) s (now (starts .entry))) k from (r .collected) (r .clear) × (r .clear ≤ end) × (0 < r .collected) ⌝ }
 {
     let mut map = [0u16; 20480];
     let most = ahead::least(end - from, 8192);
-    let filed = file(b, s, samples, starts, k, from, most, &mut map);
-    let clear = sift(b, s, samples, starts, k, from, filed, end, &map);
-    Round { filed, clear }
+    let collected = collect(b, s, samples, starts, k, from, most, &mut map);
+    let clear = sift(b, s, samples, starts, k, from, collected, end, &map);
+    Round { collected, clear }
 }
 
 // The entry before which, from `from` on and before end, no two entries have the same text.
@@ -168,7 +175,7 @@ pub(crate) fn apart_until(
     let mut clear = end;
     while done < clear {
         let r = sift_some(b, s, samples, starts, k, done, clear);
-        done += r.filed;
+        done += r.collected;
         clear = r.clear;
     }
     clear

@@ -1,5 +1,5 @@
-// A second hash of a text, for the search of duplicates among texts that have the same hash. It is no part of the format. Many texts with one
-// hash are easily made, since that is linear in the bits of a text; this one is not.
+// A second hash of a text, for the search of duplicates among texts that have the same hash. It is no part of the format. The hash of the format is
+// linear in the bits of a text, so many texts with one hash are easily made. The fingerprint is not linear.
 ghost use mathlib.Core.Path.{_≡_};
 ghost use Prim.Native.Nat.{_+_, _*_, _≤_, _<_, _^_};
 ghost use lib.ListN.{length};

@@ -19,6 +19,7 @@ pub struct Extent {
     pub hash: usize,
 }
 
+// So that each place where a text can end takes one line.
 fn measured(length: usize, hash: usize) -> Extent
     ensures { λ r. ⌜ (r .length ≡ length) × (r .hash ≡ hash) ⌝ }
 {

@@ -22,15 +22,15 @@ add-j c = let p = c .before .before .pre in record { fits = omega (arith, p .2, 
 loop-holds : tie.Need-loop-holds Inv-loop μ-loop
 loop-holds c = let p = c .before .before .pre in (clear-start _ _ _ _ (p .4), p .2)
 
-print-requires : tie.Need-print-requires Inv-loop μ-loop
-print-requires c κs =
+fingerprint-at-requires : tie.Need-fingerprint-at-requires Inv-loop μ-loop
+fingerprint-at-requires c κs =
     let p = c .before .before .before .before .pre in (p .0, record { bucket = p .1; entry = omega (arith, c .loop-test .taken, p .3) })
 
 met-requires : tie.Need-met-requires Inv-loop μ-loop
 met-requires c κs =
     let d = c .before in
     let p = d .before .before .before .before .pre in
-    (p .0, record { bucket = p .1; entry = omega (arith, d .loop-test .taken, p .3) }, d .before .loop .inv .0 .inside, c .print .ensures, p .5)
+    (p .0, record { bucket = p .1; entry = omega (arith, d .loop-test .taken, p .3) }, d .before .loop .inv .0 .inside, c .fingerprint-at .ensures, p .5)
 
 returns : tie.Need-returns Inv-loop μ-loop
 returns c = c .before .before .before .before .loop .inv
@@ -50,4 +50,4 @@ returns-2 c =
 pub sift-spec : {M : Type 1} → statement M
 sift-spec =
     tie.close
-    (tie.spec Inv-loop μ-loop add-j loop-holds print-requires met-requires returns (λ c. search needs) (λ c. search needs) loop-again returns-2)
+    (tie.spec Inv-loop μ-loop add-j loop-holds fingerprint-at-requires met-requires returns (λ c. search needs) (λ c. search needs) loop-again returns-2)
