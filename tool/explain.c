@@ -33,7 +33,7 @@ static const struct explanation explanations[] = {
      "the name index, flags and key index of the node; the root has the name __root__ and no attributes"},
     {17, "the offset of the node", "its attribute address and attribute count"},
     {18, "the offset of the attribute", "the attribute: attributes ascend by name index, and types are 1, 2, 3"},
-    {19, "the offset of the attribute", "the address, or how characters are folded for the value hash"},
+    {19, "the offset of the attribute", "the address, or how characters are folded for the value hash: 0151 is not folded to 0150"},
     {20, "the number of bytes needed; no offset", "the workspace: pass that many bytes"},
     {21, "the offset of the node that has the range", "two parents of one child"},
     {22, "the offset of the last node of the chain", "the depth of the tree: at most 64"},

@@ -7,4 +7,5 @@ pub mod Rows
 pub mod Late
 pub mod Complete
 pub mod Agree
-pub mod Before
+pub mod OldTexts
+pub mod OldFold

@@ -4,4 +4,5 @@ pub mod Given
 pub mod Accepted
 pub mod Held
 pub mod Refusals
-pub mod Before
+pub mod OldTexts
+pub mod OldFold

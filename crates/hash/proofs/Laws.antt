@@ -33,12 +33,12 @@ hash-lt h [] l = l
 hash-lt h (c ∷ cs) l = hash-lt (hashChar h c) cs (char-lt h c l)
 
 pub folded-le : (c : ℕ) → folded c ≤ c
-folded-le c = fold-ways (λ (r : ℕ). r ≤ c) c (λ e. omega arith) (λ e. omega arith) (λ e. omega arith) (λ e. omega arith) (λ e. omega arith)
+folded-le c = fold-ways (λ (r : ℕ). r ≤ c) c (λ e. omega arith) (λ e. omega arith) (λ e. omega arith) (λ e. omega arith)
 
 -- to fold twice is to fold once
 pub fold-fold : (c : ℕ) → folded (folded c) ≡ folded c
 unfolding folded loses
-fold-fold c = fold-ways (λ (r : ℕ). folded r ≡ r) c (λ e. refl) (λ e. refl) (λ e. refl) (lost-stays c) (λ e. e)
+fold-fold c = fold-ways (λ (r : ℕ). folded r ≡ r) c (λ e. refl) (λ e. refl) (lost-stays c) (λ e. e)
 
 pub foldText-append : (xs ys : List ℕ) → foldText (xs ++ ys) ≡ foldText xs ++ foldText ys
 unfolding foldText

@@ -5,3 +5,4 @@ pub mod Laws
 pub mod Lent
 pub mod Halves
 pub mod Parts
+pub mod OldFold

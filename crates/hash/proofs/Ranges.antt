@@ -49,11 +49,11 @@ loses-range c e =
 pub lost-room : (c : ℕ) → loses c ≡ true → 0x20 ≤ c
 lost-room c e = ⊎-elim (λ r. omega arith) (λ r. omega arith) (loses-range c e)
 
-module _ (c : ℕ) (m : c ≡ 0x9c → ⊥) (n : c ≡ 0xff → ⊥) (o : c ≡ 0x151 → ⊥) where
-  -- past the three single characters
+module _ (c : ℕ) (m : c ≡ 0x9c → ⊥) (n : c ≡ 0xff → ⊥) where
+  -- past the two single characters
   rest : folded c ≡ cond (loses c) (c - 0x20) c
   unfolding folded
-  rest = rw (ne-eqb c 0x9c m, ne-eqb c 0xff n, ne-eqb c 0x151 o)
+  rest = rw (ne-eqb c 0x9c m, ne-eqb c 0xff n)
 
   pub stays : loses c ≡ false → folded c ≡ c
   stays e = rest ∙ rw e
@@ -65,8 +65,8 @@ module _ (c : ℕ) (m : c ≡ 0x9c → ⊥) (n : c ≡ 0xff → ⊥) (o : c ≡ 
 pub lost-stays : (c : ℕ) → loses c ≡ true → folded (c - 0x20) ≡ c - 0x20
 lost-stays c e =
     ⊎-elim
-    (λ r. stays (c - 0x20) (omega arith) (omega arith) (omega arith) (keeps-below (c - 0x20) (omega arith)))
-    (λ r. stays (c - 0x20) (omega arith) (omega arith) (omega arith) (keeps-between (c - 0x20) (omega arith) (omega arith)))
+    (λ r. stays (c - 0x20) (omega arith) (omega arith) (keeps-below (c - 0x20) (omega arith)))
+    (λ r. stays (c - 0x20) (omega arith) (omega arith) (keeps-between (c - 0x20) (omega arith) (omega arith)))
     (loses-range c e)
 
 by-test : (P : ℕ → Type 0) (b : Bool) (x y : ℕ) → (b ≡ true → P x) → (b ≡ false → P y) → P (cond b x y)
@@ -75,10 +75,9 @@ by-test P false x y t f = f refl
 
 -- what holds of each way to fold c, holds of c folded
 pub fold-ways : (P : ℕ → Type 0) (c : ℕ)
-    → (c ≡ 0x9c → P 0x8c) → (c ≡ 0xff → P 0x9f) → (c ≡ 0x151 → P 0x150) → (loses c ≡ true → P (c - 0x20)) → (folded c ≡ c → P c) → P (folded c)
+    → (c ≡ 0x9c → P 0x8c) → (c ≡ 0xff → P 0x9f) → (loses c ≡ true → P (c - 0x20)) → (folded c ≡ c → P c) → P (folded c)
 unfolding folded
-fold-ways P c a b d l s =
+fold-ways P c a b l s =
     by-test P (eqb c 0x9c) 0x8c _ (λ e. a (eqb-true c 0x9c e)) (λ m.
     by-test P (eqb c 0xff) 0x9f _ (λ e. b (eqb-true c 0xff e)) (λ n.
-    by-test P (eqb c 0x151) 0x150 _ (λ e. d (eqb-true c 0x151 e)) (λ o.
-    by-test P (loses c) (c - 0x20) c l (λ e. s (stays c (eqb-false c 0x9c m) (eqb-false c 0xff n) (eqb-false c 0x151 o) e)))))
+    by-test P (loses c) (c - 0x20) c l (λ e. s (stays c (eqb-false c 0x9c m) (eqb-false c 0xff n) e))))

@@ -10,9 +10,9 @@ use Rattle.hash.specs.Hash.{hashText}
 unfoldable pub loses : ℕ → Bool
 loses c = (leb 0x61 c && leb c 0x7a) || ((leb 0xe0 c && leb c 0xfe) && (not (eqb c 0xf0) && not (eqb c 0xf7)))
 
--- 009c to 008c; 00ff to 009f; 0151 to 0150; those that lose 0020 lose it; others stay.
+-- 009c to 008c; 00ff to 009f; those that lose 0020 lose it; others stay.
 unfoldable pub folded : ℕ → ℕ
-folded c = cond (eqb c 0x9c) 0x8c (cond (eqb c 0xff) 0x9f (cond (eqb c 0x151) 0x150 (cond (loses c) (c - 0x20) c)))
+folded c = cond (eqb c 0x9c) 0x8c (cond (eqb c 0xff) 0x9f (cond (loses c) (c - 0x20) c))
 
 -- Two characters, each in its half of the word w, are folded in r.
 pub record FoldedPair (w r : ℕ) : Type 0 where

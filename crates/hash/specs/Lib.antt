@@ -2,3 +2,4 @@ pub mod Table
 pub mod Hash
 pub mod Fold
 pub mod Parts
+pub mod OldFold

@@ -392,9 +392,6 @@ fn fold_any(c: usize) -> usize
     if c == 0xff {
         return 0x9f;
     }
-    if c == 0x151 {
-        return 0x150;
-    }
     if loses(c) {
         return c - 0x20;
     }

@@ -12,3 +12,4 @@ pub mod Attributes
 pub mod Addresses
 pub mod Agree
 pub mod Noting
+pub mod OldFold

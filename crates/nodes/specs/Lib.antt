@@ -7,3 +7,4 @@ pub mod Order
 pub mod Held
 pub mod Search
 pub mod Noted
+pub mod OldFold

@@ -10,4 +10,4 @@ pub mod Differing
 pub mod Left
 pub mod Only
 pub mod Agree
-pub mod Before
+pub mod OldTexts

@@ -5,5 +5,5 @@ pub mod Order
 pub mod Held
 pub mod Begins
 pub mod Ahead
-pub mod Before
+pub mod OldTexts
 pub mod Apart

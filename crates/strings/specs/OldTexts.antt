@@ -1,5 +1,5 @@
 -- Refusal 8 as it was before request T-01: a text had to have its 0 stored in the used part. Kept for one law only: nothing else of a verdict
--- moved (accept/specs/Before).
+-- moved (accept/specs/OldTexts).
 use Prim.Native.Nat.{ℕ, _+_, _*_, _<_}
 use native.Mathlib.Decide.{ℕ-discrete}
 use mathlib.Core.Path.{_≡_}

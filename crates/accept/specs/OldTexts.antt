@@ -1,5 +1,5 @@
 -- What request T-01 moved. Before it, a text had to have its 0 stored in the used part, and 8 was also given where it had not. The verdict
--- of before is kept for this law only (proofs/Before).
+-- of before is kept for this law only (proofs/OldTexts).
 use Prim.Native.Nat.{ℕ, _<_}
 use mathlib.Core.Path.{_≡_}
 use mathlib.Core.Logic.{_⊎_}
@@ -12,15 +12,15 @@ use Rattle.layout.specs.Table.{Table, entries}
 use Rattle.layout.specs.Layout.{layoutChecks, values, names}
 use Rattle.strings.specs.Texts.{textOf}
 use Rattle.strings.specs.Rules.{Resolved}
-use Rattle.strings.specs.Before.{textStart, textRoom, Stored, EndedAt, stringChecksBefore}
+use Rattle.strings.specs.OldTexts.{textStart, textRoom, Stored, EndedAt, stringChecksBefore}
 use Rattle.keys.specs.Order.{specialChecks, allKeyChecks}
 use Rattle.nodes.specs.Order.{allNodeChecks}
 use Rattle.tree.specs.Outcome.{treeChecks}
 use Rattle.accept.specs.Verdict.{verdictOf}
 
 -- The verdict as it was: the checks of the two string tables are those of before, all others stayed.
-unfoldable pub verdictBefore : List ℕ → ℕ → Verdict
-verdictBefore b room =
+unfoldable pub verdictOldTexts : List ℕ → ℕ → Verdict
+verdictOldTexts b room =
     firstFault (layoutChecks b
     ++ (stringChecksBefore (values b)
     ++ (stringChecksBefore (names b)
@@ -37,6 +37,6 @@ pub record TextsMoved (b : List ℕ) : Type 0 where
   -- A text that a stored 0 ended is the same text now.
   pub text : (t : Table) (k j m : ℕ) → m < textRoom t k j → EndedAt t k j m → textOf t k j ≡ chars (t .bytes) (textStart t k j) m
   -- Where every text has its stored 0, the verdict is the one that it was, in any workspace.
-  pub same : AllStored (values b) → AllStored (names b) → (room : ℕ) → verdictOf b room ≡ verdictBefore b room
+  pub same : AllStored (values b) → AllStored (names b) → (room : ℕ) → verdictOf b room ≡ verdictOldTexts b room
   -- In any file the verdict is the one that it was, or it was refusal 8. So a file that was accepted is accepted.
-  pub moved : (room : ℕ) → (verdictOf b room ≡ verdictBefore b room) ⊎ ((p : ℕ) × (verdictBefore b room ≡ Refused 8 p))
+  pub moved : (room : ℕ) → (verdictOf b room ≡ verdictOldTexts b room) ⊎ ((p : ℕ) × (verdictOldTexts b room ≡ Refused 8 p))

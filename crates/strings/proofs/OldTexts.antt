@@ -6,7 +6,7 @@ use mathlib.Core.Logic.{_⊎_, inl, inr, ⊎-elim, by-cases}
 use lib.ListN.{length}
 use Rattle.laws.proofs.Order.{le-or-lt}
 use Rattle.verdict.proofs.Laws.{pass, stop}
-use Rattle.verdict.proofs.Same.{SameOr, same-all, same-append, same-each}
+use Rattle.verdict.proofs.Same.{SameOr, Never, same-all, same-append, same-each}
 use Rattle.text.specs.Text.{chars, textIn, textAt, TextEnds}
 use Rattle.text.proofs.Laws.{text-chars}
 use Rattle.text.proofs.Rule.{text-ends, ends-once}
@@ -15,7 +15,7 @@ use Rattle.strings.specs.Texts.{textOf, textTo}
 use Rattle.strings.specs.Rules.{Resolved, Sized}
 use Rattle.strings.specs.Decisions.{resolved?}
 use Rattle.strings.specs.Order.{entryChecks, bucketEntryChecks, allEntryChecks, stringChecks}
-use Rattle.strings.specs.Before.{textStart, textRoom, textChar, Stored, EndedAt, Delimited, delimited?, entryChecksBefore, stringChecksBefore}
+use Rattle.strings.specs.OldTexts.{textStart, textRoom, textChar, Stored, EndedAt, Delimited, delimited?, entryChecksBefore, stringChecksBefore}
 
 module _ (t : Table) (k j : ℕ) where
   -- the text, in the terms of the old rule
@@ -68,7 +68,7 @@ module _ (t : Table) (k j : ℕ) where
 
   -- ---- the checks of an entry
 
-  pub entry-same : {P : ℕ → Type 0} → (Resolved t k j → Stored t k j) → SameOr P (entryChecks t k j) (entryChecksBefore t k j)
+  pub entry-same : {P Q : ℕ → ℕ → Type 0} → (Resolved t k j → Stored t k j) → SameOr P Q (entryChecks t k j) (entryChecksBefore t k j)
   unfolding entryChecks entryChecksBefore
   entry-same s =
       by-cases (resolved? t k j)
@@ -79,29 +79,29 @@ module _ (t : Table) (k j : ℕ) where
       (pass _ _ _ _ _ r ∙ stop _ _ _ _ _ (λ e. f (sized-delimited (s r) e)) ∙ sym (pass _ _ _ _ _ r ∙ stop _ _ _ _ _ f))))
       (λ f. inl (stop _ _ _ _ _ f ∙ sym (stop _ _ _ _ _ f)))
 
-  pub entry-or-8 : SameOr (λ n. n ≡ 8) (entryChecks t k j) (entryChecksBefore t k j)
+  pub entry-or-8 : SameOr Never (λ n p. n ≡ 8) (entryChecks t k j) (entryChecksBefore t k j)
   unfolding entryChecks entryChecksBefore
   entry-or-8 =
       by-cases (resolved? t k j)
       (λ r. by-cases (delimited? t k j)
       (λ d. entry-same (λ q. delimited-stored d))
-      (λ f. inr (8, entryAt t k j, pass _ _ _ _ _ r ∙ stop _ _ _ _ _ f, refl)))
+      (λ f. inr (inr (8, entryAt t k j, pass _ _ _ _ _ r ∙ stop _ _ _ _ _ f, refl))))
       (λ f. entry-same (λ q. absurd (f q)))
 
 -- ---- those of a table
 
 module _ (t : Table) where
-  table-same : {P : ℕ → Type 0} → ((k j : ℕ) → k < t .buckets → j < entries t k → SameOr P (entryChecks t k j) (entryChecksBefore t k j))
-      → SameOr P (stringChecks t) (stringChecksBefore t)
+  table-same : {P Q : ℕ → ℕ → Type 0} → ((k j : ℕ) → k < t .buckets → j < entries t k → SameOr P Q (entryChecks t k j) (entryChecksBefore t k j))
+      → SameOr P Q (stringChecks t) (stringChecksBefore t)
   unfolding stringChecks stringChecksBefore allEntryChecks bucketEntryChecks
   table-same h =
       same-append _ _ _ _
       (same-each _ _ (t .buckets) 0 (λ k l m. same-each _ _ (entries t k) 0 (λ j g d. h k j (omega arith) (omega arith))))
       (same-all _)
 
-  pub strings-same : {P : ℕ → Type 0} → ((k j : ℕ) → k < t .buckets → j < entries t k → Resolved t k j → Stored t k j)
-      → SameOr P (stringChecks t) (stringChecksBefore t)
+  pub strings-same : {P Q : ℕ → ℕ → Type 0} → ((k j : ℕ) → k < t .buckets → j < entries t k → Resolved t k j → Stored t k j)
+      → SameOr P Q (stringChecks t) (stringChecksBefore t)
   strings-same s = table-same (λ k j h l. entry-same t k j (s k j h l))
 
-  pub strings-or-8 : SameOr (λ n. n ≡ 8) (stringChecks t) (stringChecksBefore t)
+  pub strings-or-8 : SameOr Never (λ n p. n ≡ 8) (stringChecks t) (stringChecksBefore t)
   strings-or-8 = table-same (λ k j h l. entry-or-8 t k j)
