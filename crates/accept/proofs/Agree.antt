@@ -6,7 +6,7 @@ use mathlib.Core.List.{List}
 use Rattle.verdict.specs.declared.Verdict.the-variants.{Accepted}
 use Rattle.layout.specs.Header.{keyCount}
 use Rattle.layout.specs.Layout.{LaidOut, valuesAt, values, namesAt, names}
-use Rattle.layout.specs.View.{Fits}
+use Rattle.layout.specs.inner.View.{Fits}
 use Rattle.layout.specs.declared.View.{View}
 use Rattle.layout.proofs.Agree.{alike-file, laid-out, fits-same, values-behind, names-behind}
 use Rattle.strings.proofs.Agree.{table-rules}

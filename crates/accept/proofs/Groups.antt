@@ -8,7 +8,7 @@ use Rattle.verdict.specs.declared.Verdict.{Verdict}
 use Rattle.verdict.specs.declared.Verdict.the-variants.{Refused}
 use Rattle.verdict.proofs.Laws.{Clean, fault-append, fault-keep}
 use Rattle.layout.specs.Layout.{layoutChecks, values, names}
-use Rattle.layout.specs.View.{Fits}
+use Rattle.layout.specs.inner.View.{Fits}
 use Rattle.layout.specs.declared.View.{View}
 use Rattle.layout.proofs.Accepted.{layout-iff}
 use Rattle.strings.specs.Order.{stringChecks}

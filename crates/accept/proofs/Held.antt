@@ -5,26 +5,27 @@ use mathlib.Core.Path.{_≡_, ap, sym, _∙_, subst}
 use mathlib.Core.Bool.{Bool}
 use mathlib.Core.List.{List}
 use lib.ListN.{length}
-use Rattle.verdict.specs.Checks.{firstFault, Sure}
+use Rattle.verdict.specs.Checks.{firstFault}
+use Rattle.verdict.specs.inner.Tells.{Sure}
 use Rattle.verdict.specs.declared.Verdict.{Verdict}
 use Rattle.verdict.specs.declared.Verdict.the-variants.{Accepted}
-use Rattle.region.specs.Samples.{Mapped, Starts}
+use Rattle.region.specs.inner.Samples.{Mapped, Starts}
 use Rattle.layout.specs.Table.{Table, table, listAt, TableLaid, BucketStarts}
 use Rattle.layout.specs.Layout.{values, names, valuesMost, namesMost}
-use Rattle.layout.specs.View.{Fits}
+use Rattle.layout.specs.inner.View.{Fits}
 use Rattle.layout.specs.declared.View.{View}
 use Rattle.layout.proofs.Seen.{own-mapped}
-use Rattle.strings.specs.Held.{Held, heldTable}
+use Rattle.strings.specs.inner.Held.{Held, heldTable}
 use Rattle.strings.specs.Order.{stringChecks}
 use Rattle.strings.specs.declared.Strings.{Strings}
-use Rattle.positions.specs.Packed.{Packed}
-use Rattle.keys.specs.Known.{Known}
+use Rattle.positions.specs.inner.Packed.{Packed}
+use Rattle.keys.specs.inner.Known.{Known}
 use Rattle.keys.specs.declared.Names.{Names}
-use Rattle.nodes.specs.Held.{valueStrings, Ready}
+use Rattle.nodes.specs.inner.Held.{valueStrings, Ready}
 use Rattle.nodes.specs.Order.{allNodeChecks}
 use Rattle.tree.specs.File.{usedNodes}
-use Rattle.tree.specs.Outcome.{TreeReady}
-use Rattle.accept.specs.Held.{nameStrings}
+use Rattle.tree.specs.inner.Marking.{TreeReady}
+use Rattle.accept.specs.inner.Held.{nameStrings}
 
 -- a table laid at an offset, with its parts as the code holds them
 module _ (b : List ℕ) (at n most : ℕ) (s : Strings) (samples starts : List ℕ) (m : Mapped 2 b at (s .chars)) (k : BucketStarts (table b at n) starts) where

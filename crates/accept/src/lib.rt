@@ -1,10 +1,10 @@
 // Acceptance: every refusal of 1 to 23, the first fault in the stated order (FORMAT, "Refusals").
 ghost use mathlib.Core.Path.{_≡_};
 ghost use lib.ListN.{length};
-ghost use Rattle.layout.specs.View.{Fits};
+ghost use Rattle.layout.specs.inner.View.{Fits};
 ghost use Rattle.tree.specs.Outcome.{workspaceAfter};
 ghost use Rattle.accept.specs.Verdict.{verdictOf};
-ghost use Rattle.accept.specs.Accepted.{Judged};
+ghost use Rattle.accept.specs.inner.Accepted.{Judged};
 use layout::View;
 use strings::Strings;
 use verdict::Verdict;

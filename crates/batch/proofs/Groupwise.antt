@@ -4,13 +4,13 @@ use native.Mathlib.Omega.{arith}
 use mathlib.Core.Path.{_≡_, sym}
 use mathlib.Core.List.{List}
 use lib.ListN.{getD}
-use Rattle.laws.specs.Lists.{splice}
+use Rattle.laws.specs.inner.Lists.{splice}
 use Rattle.verdict.proofs.Laws.{Clean}
 use Rattle.text.specs.Text.{chars}
 use Rattle.lookup.specs.declared.Lookup.{Lookup}
 use Rattle.path.specs.Names.{pathChecks}
 use Rattle.batch.specs.Places.{place}
-use Rattle.batch.specs.Groups.{standsAt, Group}
+use Rattle.batch.specs.inner.Groups.{standsAt, Group}
 use Rattle.batch.proofs.Placed.{TextAt, text-measured, Writing, writing-more}
 use Rattle.batch.proofs.Slots.{stands-first, stands-next, stands-on, stands-even}
 

@@ -9,24 +9,24 @@ use native.Mathlib.Omega.{arith}
 use borrow.Author.Tests.{eq-eqb, ne-eqb}
 use lib.Dec.{eqb}
 use lib.ListN.{length, length-append}
-use Rattle.laws.specs.Lists.{splice}
+use Rattle.laws.specs.inner.Lists.{splice}
 use Rattle.laws.proofs.Order.{le-or-lt}
 use Rattle.laws.proofs.Splice.{splice-nil, splice-length, splice-append}
 use Rattle.le.specs.Le.{u16At, le4}
 use Rattle.verdict.proofs.Laws.{Clean}
 use Rattle.hash.specs.Hash.{hashText}
 use Rattle.text.specs.Text.{chars, textIn}
-use Rattle.text.specs.Zeros.{zerosIn}
+use Rattle.text.specs.inner.Zeros.{zerosIn}
 use Rattle.text.proofs.Laws.{chars-more, text-chars, text-live, text-end}
 use Rattle.lookup.specs.Kinds.{kindOf, numberOf}
 use Rattle.lookup.specs.declared.Lookup.{Lookup}
 use Rattle.lookup.specs.declared.Lookup.the-variants.{Found, Absent}
 use Rattle.path.specs.Names.{addFirst, split, namesOf, pathChecks}
-use Rattle.path.specs.Indices.{NameEnd}
+use Rattle.path.specs.inner.Indices.{NameEnd}
 use Rattle.path.proofs.Split.{length-add, namesFrom, names-start, names-end, names-more}
 use Rattle.path.proofs.Formed.{formed-inv}
 use Rattle.batch.specs.Places.{place, places}
-use Rattle.batch.specs.Groups.{TextRead}
+use Rattle.batch.specs.inner.Groups.{TextRead}
 
 pub length-place : (l : Lookup) → length (place l) ≡ 8
 unfolding place le4

@@ -12,17 +12,17 @@ use lib.Seq.{getD-set-same, getD-set-other}
 use Rattle.hash.specs.Hash.{bucketOf}
 use Rattle.hash.proofs.Laws.{hash-lt}
 use Rattle.text.specs.Text.{textIn}
-use Rattle.text.specs.Measure.{Measured}
+use Rattle.text.specs.inner.Measure.{Measured}
 use Rattle.text.specs.declared.Extent.{Extent}
 use Rattle.layout.specs.Table.{Table}
-use Rattle.search.specs.Lower.{Lower}
-use Rattle.search.specs.Group.{AllLow}
-use Rattle.strings.specs.Held.{Held, heldTable}
+use Rattle.search.specs.inner.Lower.{Lower}
+use Rattle.search.specs.inner.Group.{AllLow}
+use Rattle.strings.specs.inner.Held.{Held, heldTable}
 use Rattle.strings.specs.declared.Strings.{Strings}
 use Rattle.strings.proofs.Places.{few-entries}
-use Rattle.lookup.specs.Bears.{Bears}
+use Rattle.lookup.specs.inner.Bears.{Bears}
 use Rattle.lookup.specs.declared.Kind.{Kind}
-use Rattle.batch.specs.Groups.{TextRead, standsAt, Group, AllNear, Texts, Picked, SameLow}
+use Rattle.batch.specs.inner.Groups.{TextRead, standsAt, Group, AllNear, Texts, Picked, SameLow}
 
 -- ---- where the texts of a group stand
 

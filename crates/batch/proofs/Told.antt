@@ -6,7 +6,7 @@ use native.Mathlib.Nat.{not-suc-le-zero, zero-add}
 use native.Mathlib.Omega.{arith}
 use lib.ListN.{length, getD, take, drop}
 use lib.Seq.{take-at, drop-append-add, getD-take, getD-drop}
-use Rattle.laws.specs.Lists.{splice}
+use Rattle.laws.specs.inner.Lists.{splice}
 use Rattle.le.specs.Le.{u32At, le4}
 use Rattle.le.proofs.Four.{le4-front, shifted}
 use Rattle.verdict.specs.Checks.{firstFault}
@@ -17,7 +17,7 @@ use Rattle.lookup.specs.declared.Lookup.{Lookup}
 use Rattle.lookup.proofs.ByKind.{kind-low}
 use Rattle.path.specs.Names.{namesOf, nameAt, pathChecks}
 use Rattle.batch.specs.Places.{place, places, placeChecks, answersAfter}
-use Rattle.batch.specs.Answer.{Answered}
+use Rattle.batch.specs.inner.Answer.{Answered}
 use Rattle.batch.specs.declared.Batch.{Batch}
 use Rattle.batch.proofs.Placed.{length-place}
 

@@ -1,3 +1,2 @@
 pub mod Places
-pub mod Answer
-pub mod Groups
+pub mod inner

@@ -2,16 +2,16 @@
 ghost use mathlib.Core.Path.{_≡_};
 ghost use Prim.Native.Nat.{_+_, _*_, _%_, _≤_, _<_};
 ghost use lib.ListN.{length};
-ghost use Rattle.laws.specs.Lists.{splice};
+ghost use Rattle.laws.specs.inner.Lists.{splice};
 ghost use Rattle.verdict.specs.Checks.{firstFault};
 ghost use Rattle.verdict.specs.declared.Verdict.the-variants.{Accepted};
-ghost use Rattle.hash.specs.Table.{Tables};
+ghost use Rattle.hash.specs.inner.Tables.{Tables};
 ghost use Rattle.strings.specs.Order.{stringChecks};
-ghost use Rattle.strings.specs.Held.{Held, heldTable};
+ghost use Rattle.strings.specs.inner.Held.{Held, heldTable};
 ghost use Rattle.lookup.specs.Kinds.{toldIn};
 ghost use Rattle.path.specs.Names.{namesOf, pathChecks};
 ghost use Rattle.batch.specs.Places.{place, places, answersAfter};
-ghost use Rattle.batch.specs.Answer.{Answered};
+ghost use Rattle.batch.specs.inner.Answer.{Answered};
 
 mod group;
 

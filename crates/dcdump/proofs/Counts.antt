@@ -4,7 +4,7 @@ use native.Mathlib.Omega.{arith}
 use mathlib.Core.Path.{_≡_, ap}
 use mathlib.Core.List.{List}
 use lib.ListN.{length, take, length-take}
-use Rattle.dcdump.specs.Reading.{came}
+use Rattle.dcdump.specs.inner.Reading.{came}
 use Rattle.dcdump.specs.declared.Input.{Input}
 use Rattle.dcdump.specs.declared.Input.the-variants.{Read}
 

@@ -7,7 +7,7 @@ use lib.ListN.{take}
 use Rattle.frames.specs.Frames.{fileOf, framesOf}
 use Rattle.frames.specs.declared.Frames.{Frames}
 use Rattle.frames.proofs.Cut.{cut-answer, cut-file}
-use Rattle.dcdump.specs.Reading.{readMost}
+use Rattle.dcdump.specs.inner.Reading.{readMost}
 use Rattle.dcdump.specs.Output.{reportFrames, outputOf}
 
 pub cut-output : (input : List ℕ) → outputOf (take readMost input) ≡ outputOf input

@@ -6,11 +6,11 @@ use mathlib.Core.List.{List, _++_}
 use lib.Dec.{eqb}
 use lib.ListN.{length, take, drop}
 use lib.Seq.{take-at}
-use Rattle.laws.specs.Lists.{splice}
+use Rattle.laws.specs.inner.Lists.{splice}
 use Rattle.verdict.specs.Checks.{firstFault}
 use Rattle.verdict.specs.declared.Verdict.{Verdict}
 use Rattle.verdict.specs.declared.Verdict.the-variants.{Accepted}
-use Rattle.print.specs.Put.{Put}
+use Rattle.print.specs.inner.Put.{Put}
 use Rattle.print.proofs.Puts.{put-same, put-length, put-front}
 use Rattle.accept.specs.Verdict.{verdictOf}
 use Rattle.outline.specs.Outline.{outlineOf}

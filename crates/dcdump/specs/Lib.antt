@@ -1,3 +1,3 @@
 pub mod Messages
 pub mod Output
-pub mod Reading
+pub mod inner

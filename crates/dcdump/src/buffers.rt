@@ -1,7 +1,7 @@
 // The buffers of the program (FORMAT, "Frames"). Of each only its length matters: a caller's proof is spared its zeros.
 ghost use mathlib.Core.Path.{_≡_};
 ghost use lib.ListN.{length};
-ghost use Rattle.dcdump.specs.Reading.{readMost};
+ghost use Rattle.dcdump.specs.inner.Reading.{readMost};
 
 // The most that is read of the input.
 pub fn input() -> [u8; 393217]

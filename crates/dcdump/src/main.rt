@@ -6,7 +6,7 @@ mod messages;
 ghost use mathlib.Core.Path.{_≡_};
 ghost use Prim.Native.Nat.{_+_, _≤_};
 ghost use lib.ListN.{length, take};
-ghost use Rattle.dcdump.specs.Reading.{came};
+ghost use Rattle.dcdump.specs.inner.Reading.{came};
 
 // So many bytes were read, or a call failed.
 enum Input {

@@ -1,6 +1,6 @@
 // The lines that the program writes (FORMAT, "Frames").
 ghost use mathlib.Core.List.{[], _∷_, _++_};
-ghost use Rattle.print.specs.Put.{Put};
+ghost use Rattle.print.specs.inner.Put.{Put};
 ghost use Rattle.print.specs.Text.{decimal};
 ghost use Rattle.dcdump.specs.Messages.{refusedLine};
 

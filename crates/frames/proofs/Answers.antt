@@ -8,7 +8,7 @@ use native.Mathlib.Omega.{arith}
 use lib.Dec.{eqb, eqb·suc-suc, eqb·zero-suc}
 use lib.ListN.{length, drop, length-append}
 use Rattle.frames.specs.Lines.{linesOf}
-use Rattle.frames.specs.Reading.{firstLine}
+use Rattle.frames.specs.inner.Reading.{firstLine}
 use Rattle.frames.specs.Frames.{dataOf, isFrame, framesFrom, fileOf, framesOf}
 use Rattle.frames.specs.declared.Frames.{Frames}
 use Rattle.frames.specs.declared.Frames.the-variants.{Bytes, Bad}

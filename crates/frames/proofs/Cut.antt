@@ -14,7 +14,7 @@ use Rattle.laws.proofs.Order.{le-or-lt}
 use borrow.Author.Tests.{leb-true}
 use Rattle.frames.specs.Lines.{linesOf, isDigit, areBytes}
 use Rattle.frames.specs.Frames.{most, startsAt, dataOf, isFrame, framesFrom, fileOf, framesOf}
-use Rattle.frames.specs.Reading.{firstLine}
+use Rattle.frames.specs.inner.Reading.{firstLine}
 use Rattle.frames.proofs.Tests.{by-test, and-left, and-right}
 use Rattle.frames.proofs.Lines.{line-some}
 use Rattle.frames.proofs.Framed.{frame-inv, framed-length, framed-count, framed-data}

@@ -10,7 +10,7 @@ use lib.Seq.{drop-drop, getD-drop}
 use borrow.Author.Tests.{eq-eqb, eqb-true, le-leb, leb-true}
 use Rattle.frames.specs.Lines.{digits, numberFrom, areBytes, bytesOf}
 use Rattle.frames.specs.Frames.{most, startsAt, dataOf, isFrame}
-use Rattle.frames.specs.Reading.{firstLine, offsetOf, countOf}
+use Rattle.frames.specs.inner.Reading.{firstLine, offsetOf, countOf}
 use Rattle.frames.proofs.Tests.{by-test, and-left, and-right}
 use Rattle.frames.proofs.Lines.{digits-line, take-line, drop-line, get-line, line-inside}
 use Rattle.frames.proofs.Pairs.{some-bytes, bytes-length}

@@ -8,7 +8,7 @@ use lib.Dec.{eqb}
 use lib.ListN.{length, getD, take, drop}
 use borrow.Author.Tests.{eqb-true}
 use Rattle.frames.specs.Lines.{addFirst, linesOf, isDigit, digits}
-use Rattle.frames.specs.Reading.{firstLine}
+use Rattle.frames.specs.inner.Reading.{firstLine}
 use Rattle.frames.proofs.Tests.{by-test, and-left, and-right}
 use Rattle.frames.proofs.Digits.{newline, digit-inside}
 

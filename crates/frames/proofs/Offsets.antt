@@ -11,7 +11,7 @@ use lib.ListN.{length, getD, take, drop}
 use lib.Seq.{drop-cons, getD-drop}
 use borrow.Author.Tests.{eq-eqb, ne-eqb}
 use Rattle.frames.specs.Lines.{isDigit, digitOf, digits, numberFrom}
-use Rattle.frames.specs.Reading.{offsetOf}
+use Rattle.frames.specs.inner.Reading.{offsetOf}
 use Rattle.frames.proofs.Digits.{is-digit, no-digit}
 
 -- the offset where x is the number of the digits before, and k digits are left

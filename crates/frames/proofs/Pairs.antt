@@ -11,7 +11,7 @@ use lib.ListN.{length, getD, drop, length-drop, drop-of-length-le}
 use lib.Seq.{drop-cons}
 use borrow.Author.Tests.{eq-eqb, ne-eqb, le-leb, lt-leb}
 use Rattle.frames.specs.Lines.{isDigit, digitOf, areBytes, bytesOf}
-use Rattle.frames.specs.Reading.{firstLine, byteOf, countOf}
+use Rattle.frames.specs.inner.Reading.{firstLine, byteOf, countOf}
 use Rattle.frames.proofs.Tests.{by-test, clash, and-left, and-right}
 use Rattle.frames.proofs.Digits.{is-digit, no-digit, digit-value, digit-inside}
 use Rattle.frames.proofs.Lines.{line-inside}

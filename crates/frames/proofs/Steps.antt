@@ -6,11 +6,11 @@ use Prim.Native.Nat.{ℕ, _+_, _-_, _*_, _≤_, _<_}
 use native.Mathlib.Omega.{arith}
 use lib.ListN.{length, drop, length-drop, drop-of-length-le}
 use lib.Seq.{drop-drop}
-use Rattle.laws.specs.Lists.{splice}
+use Rattle.laws.specs.inner.Lists.{splice}
 use Rattle.laws.proofs.Splice.{splice-nil, splice-append, splice-length}
 use Rattle.frames.specs.Lines.{bytesOf}
 use Rattle.frames.specs.Frames.{dataOf, isFrame, fileOf, framesOf}
-use Rattle.frames.specs.Reading.{firstLine, offsetOf, countOf, givenBy, lineAt}
+use Rattle.frames.specs.inner.Reading.{firstLine, offsetOf, countOf, givenBy, lineAt}
 use Rattle.frames.specs.declared.Frames.the-variants.{Bytes, Bad}
 use Rattle.frames.specs.declared.Line.{Line}
 use Rattle.frames.specs.declared.Line.the-variants.{Frame, Other}

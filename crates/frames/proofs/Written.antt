@@ -6,10 +6,10 @@ use Prim.Native.Nat.{ℕ, _+_, _≤_, _<_}
 use native.Mathlib.Nat.{add-zero}
 use native.Mathlib.Omega.{arith}
 use lib.ListN.{length, getD, drop, set, length-set}
-use Rattle.laws.specs.Lists.{splice}
+use Rattle.laws.specs.inner.Lists.{splice}
 use Rattle.laws.proofs.Splice.{splice-nil, splice-cons}
 use Rattle.frames.specs.Lines.{areBytes, bytesOf}
-use Rattle.frames.specs.Reading.{firstLine, byteOf}
+use Rattle.frames.specs.inner.Reading.{firstLine, byteOf}
 use Rattle.frames.proofs.Pairs.{Next, next-bytes}
 
 -- of the k bytes that the digits from p on write i stand in d, from n on, and those of the digits from at on are left

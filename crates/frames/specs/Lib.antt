@@ -1,3 +1,3 @@
 pub mod Lines
 pub mod Frames
-pub mod Reading
+pub mod inner

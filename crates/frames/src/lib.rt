@@ -3,10 +3,10 @@ ghost use mathlib.Core.Path.{_≡_};
 ghost use mathlib.Core.Bool.{true};
 ghost use Prim.Native.Nat.{_+_, _≤_, _<_};
 ghost use lib.ListN.{length, getD, drop};
-ghost use Rattle.laws.specs.Lists.{splice};
+ghost use Rattle.laws.specs.inner.Lists.{splice};
 ghost use Rattle.frames.specs.Lines.{digitOf, areBytes, bytesOf};
 ghost use Rattle.frames.specs.Frames.{fileOf, framesOf};
-ghost use Rattle.frames.specs.Reading.{firstLine, byteOf, offsetOf, countOf, givenBy, lineAt};
+ghost use Rattle.frames.specs.inner.Reading.{firstLine, byteOf, offsetOf, countOf, givenBy, lineAt};
 
 // How many bytes the frames give, or the first bad line, counted from 1.
 pub enum Frames {

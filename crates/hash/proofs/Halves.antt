@@ -8,7 +8,8 @@ use lib.Bits.{bitXor, bitAnd, bitOr, xor-lt, xor-block, and-block, and-high, and
 use lib.Dec.{eqb, eqb→eq}
 use lib.ListN.{replicate}
 use Rattle.laws.proofs.Computed.{at}
-use Rattle.hash.specs.Fold.{loses, folded, FoldedPair}
+use Rattle.hash.specs.Fold.{loses, folded}
+use Rattle.hash.specs.inner.Folded.{FoldedPair}
 use Rattle.hash.proofs.Laws.{folded-le}
 
 -- both halves are folded

@@ -9,7 +9,8 @@ use lib.Bits.{bitXor, xor-zero-r}
 use lib.ListN.{length, getD, set, length-set}
 use lib.Seq.{getD-set-same, getD-set-other}
 use Rattle.laws.proofs.Xor.{xor-assoc}
-use Rattle.hash.specs.Table.{entryOf, Entries, zeroOn, zerosOn, lentOf, Tables}
+use Rattle.hash.specs.Table.{entryOf}
+use Rattle.hash.specs.inner.Tables.{Entries, zeroOn, zerosOn, lentOf, Tables}
 use Rattle.hash.specs.Hash.{hashByte}
 use Rattle.hash.proofs.Linear.{zeros-none, zeros-more}
 

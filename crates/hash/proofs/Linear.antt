@@ -12,7 +12,8 @@ use lib.Pow.{pow-pos}
 use lib.Dec.{lit<, ltb}
 use Rattle.laws.proofs.Order.{le-or-lt}
 use Rattle.laws.proofs.Xor.{xor-assoc, xor-four, xor-times}
-use Rattle.hash.specs.Table.{T, entryOf, double, doubled, ruleOf, zeroOn, zerosOn}
+use Rattle.hash.specs.Table.{T, entryOf, double, doubled, ruleOf}
+use Rattle.hash.specs.inner.Tables.{zeroOn, zerosOn}
 use Rattle.hash.specs.Hash.{hashByte, hashChar}
 use Rattle.hash.proofs.Rule.{rule}
 

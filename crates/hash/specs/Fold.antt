@@ -1,6 +1,5 @@
 -- The value hash (FORMAT, "Value hash"): fold each character, hash, keep the low 14 bits.
-use Prim.Native.Nat.{ℕ, _-_, _/_, _%_, _^_, _<_}
-use mathlib.Core.Path.{_≡_}
+use Prim.Native.Nat.{ℕ, _-_, _%_}
 use mathlib.Core.Bool.{Bool, cond, not, _&&_, _||_}
 use mathlib.Core.List.{List, [], _∷_}
 use lib.Dec.{eqb, leb}
@@ -13,12 +12,6 @@ loses c = (leb 0x61 c && leb c 0x7a) || ((leb 0xe0 c && leb c 0xfe) && (not (eqb
 -- 009c to 008c; 00ff to 009f; those that lose 0020 lose it; others stay.
 unfoldable pub folded : ℕ → ℕ
 folded c = cond (eqb c 0x9c) 0x8c (cond (eqb c 0xff) 0x9f (cond (loses c) (c - 0x20) c))
-
--- Two characters, each in its half of the word w, are folded in r.
-pub record FoldedPair (w r : ℕ) : Type 0 where
-  pub low : r % 65536 ≡ folded (w % 65536)
-  pub high : r / 65536 ≡ folded (w / 65536)
-  pub small : r < 2 ^ 32
 
 -- Each character of a text folded.
 unfoldable pub foldText : List ℕ → List ℕ

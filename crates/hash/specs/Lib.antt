@@ -3,3 +3,4 @@ pub mod Hash
 pub mod Fold
 pub mod Parts
 pub mod OldFold
+pub mod inner

@@ -1,11 +1,10 @@
--- The table of the hash (FORMAT, "Hash": T has 256 entries), its rule, and the tables that the code lends.
-use Prim.Native.Nat.{ℕ, zero, suc, _*_, _/_, _%_, _^_, _<_}
-use mathlib.Core.Path.{_≡_}
+-- The table of the hash (FORMAT, "Hash": T has 256 entries), and its rule.
+use Prim.Native.Nat.{ℕ, zero, suc, _*_, _%_, _^_}
 use mathlib.Core.Bool.{cond}
 use mathlib.Core.List.{List, [], _∷_}
 use lib.Bits.{bitXor}
 use lib.Dec.{ltb}
-use lib.ListN.{length, getD}
+use lib.ListN.{getD}
 
 -- T, as the public description of the format prints it.
 unfoldable pub T : List ℕ
@@ -47,10 +46,6 @@ T =
 unfoldable pub entryOf : ℕ → ℕ
 entryOf i = getD T i 0
 
--- The list holds T.
-pub record Entries (t : List ℕ) : Type 0 where
-  pub at : (k : ℕ) → k < 256 → getD t k 0 ≡ entryOf k
-
 -- One step of T's rule: double modulo 2 ^ 32, and xor 04c11db7 if the top bit was set.
 unfoldable pub double : ℕ → ℕ
 double x = cond (ltb x 0x8000_0000) (x * 2) (bitXor (x * 2 % 2 ^ 32) 0x04c1_1db7)
@@ -63,21 +58,3 @@ doubled (suc n) x = doubled n (double x)
 -- T's rule: entry i starts as i times 2 ^ 24, and takes eight steps.
 unfoldable pub ruleOf : ℕ → ℕ
 ruleOf i = doubled 8 (i * 2 ^ 24)
-
--- A hash, one zero byte on.
-unfoldable pub zeroOn : ℕ → ℕ
-zeroOn h = bitXor (entryOf (h % 256)) (h / 256)
-
--- So many zero bytes on.
-unfoldable pub zerosOn : ℕ → ℕ → ℕ
-zerosOn zero h = h
-zerosOn (suc k) h = zeroOn (zerosOn k h)
-
--- What the code lends: T, then T one zero byte on, two, and so on to seven. Entry k of it.
-unfoldable pub lentOf : ℕ → ℕ
-lentOf k = zerosOn (k / 256) (entryOf (k % 256))
-
--- The list holds all eight.
-pub record Tables (t : List ℕ) : Type 0 where
-  pub long : length t ≡ 2048
-  pub at : (k : ℕ) → k < 2048 → getD t k 0 ≡ lentOf k

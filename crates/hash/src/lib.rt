@@ -1,9 +1,10 @@
 // The string hash and the value hash (FORMAT, "Hash", "Value hash").
 ghost use mathlib.Core.Path.{_≡_};
 ghost use Prim.Native.Nat.{_+_, _/_, _%_, _^_, _≤_, _<_};
-ghost use Rattle.hash.specs.Table.{Entries, zerosOn, Tables};
+ghost use Rattle.hash.specs.inner.Tables.{Entries, zerosOn, Tables};
 ghost use Rattle.hash.specs.Hash.{hashByte, hashChar, bucketOf};
-ghost use Rattle.hash.specs.Fold.{folded, FoldedPair, valueHashOf};
+ghost use Rattle.hash.specs.Fold.{folded, valueHashOf};
+ghost use Rattle.hash.specs.inner.Folded.{FoldedPair};
 
 // T, as the public description of the format prints it.
 const T: [u32; 256] = [

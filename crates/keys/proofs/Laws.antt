@@ -5,7 +5,8 @@ use mathlib.Core.Path.{_≡_, refl, ap, sym, subst, _∙_}
 use mathlib.Core.Bool.{Bool}
 use mathlib.Core.Logic.{inl, inr, ⊎-elim}
 use mathlib.Core.List.{List, [], _∷_}
-use Rattle.verdict.specs.Checks.{firstFault, each, Tells}
+use Rattle.verdict.specs.Checks.{firstFault, each}
+use Rattle.verdict.specs.inner.Tells.{Tells}
 use Rattle.verdict.specs.declared.Verdict.{Verdict}
 use Rattle.verdict.specs.declared.Verdict.the-variants.{Accepted, Refused}
 use Rattle.verdict.proofs.Laws.{Clean, never, pass, stop, fault-none}
@@ -20,7 +21,7 @@ use Rattle.strings.specs.Order.{stringChecks}
 use Rattle.strings.proofs.Spots.{Spotted}
 use Rattle.keys.specs.Names.{nameCount, nameText, rootName, valueName, Bears, Special}
 use Rattle.keys.specs.Keys.{keyName, KeyNameRule, KeyRule}
-use Rattle.keys.specs.Known.{Known, SpecialsFound}
+use Rattle.keys.specs.inner.Known.{Known, SpecialsFound}
 use Rattle.keys.specs.Order.{specialChecks, keyRuleChecks, allKeyChecks}
 use Rattle.keys.specs.declared.Names.{Names}
 use Rattle.keys.proofs.Only.{one-position}

@@ -2,4 +2,4 @@ pub mod Names
 pub mod Keys
 pub mod Decisions
 pub mod Order
-pub mod Known
+pub mod inner

@@ -1,12 +1,13 @@
 // Refusal 15.
 ghost use mathlib.Core.Path.{_≡_};
 ghost use Prim.Native.Nat.{_<_};
-ghost use Rattle.verdict.specs.Checks.{Tells, firstFault};
+ghost use Rattle.verdict.specs.Checks.{firstFault};
+ghost use Rattle.verdict.specs.inner.Tells.{Tells};
 ghost use Rattle.layout.specs.Header.{keyCount};
 ghost use Rattle.layout.specs.Layout.{LaidOut};
 ghost use Rattle.keys.specs.Keys.{KeyRule};
 ghost use Rattle.keys.specs.Order.{allKeyChecks};
-ghost use Rattle.keys.specs.Known.{Known};
+ghost use Rattle.keys.specs.inner.Known.{Known};
 use crate::Names;
 use verdict::Verdict;
 

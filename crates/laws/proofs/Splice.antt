@@ -7,7 +7,7 @@ use native.Mathlib.Omega.{arith}
 use native.Mathlib.Numerals.{add-one}
 use lib.ListN.{length, getD, take, drop, set, length-append, length-drop, take-append-drop, List·getD-append}
 use lib.Seq.{length-take-le, take-at, drop-drop, drop-append-add, getD-append-add, getD-take, getD-drop, set-split, append-snoc}
-use Rattle.laws.specs.Lists.{splice}
+use Rattle.laws.specs.inner.Lists.{splice}
 
 pub splice-nil : (d : List ℕ) (i : ℕ) → splice d i [] ≡ d
 unfolding splice

@@ -12,7 +12,7 @@ use Rattle.region.proofs.Agree.{Alike, clear-behind, clear-within, alike, end-s
 use Rattle.layout.specs.Header.{headerOf, keysAt, keyCount, keyAt}
 use Rattle.layout.specs.Table.{table, bucketAt, entries, entryAt, hashOf, lengthOf, indexOf, segmentOf, elementOf, listAt, count, positionAt, listedSegment, listedElement, tableEnd, TableLaid, BucketStarts}
 use Rattle.layout.specs.Layout.{attributeSize, nodeSize, attributesAt, nodesAt, valuesAt, values, namesAt, names, footerAt, LaidOut}
-use Rattle.layout.specs.View.{Placed, Fits}
+use Rattle.layout.specs.inner.View.{Placed, Fits}
 use Rattle.layout.specs.declared.Places.{Places}
 use Rattle.layout.specs.declared.View.{View}
 

@@ -8,13 +8,13 @@ use mathlib.Core.List.{List}
 use lib.ListN.{length, getD, set}
 use lib.Seq.{getD-set-same, getD-set-other}
 use Rattle.verdict.specs.Checks.{firstFault, each}
-use Rattle.verdict.specs.Scans.{scanned}
+use Rattle.verdict.specs.inner.Scans.{scanned}
 use Rattle.verdict.specs.declared.Verdict.the-variants.{Refused}
 use Rattle.verdict.specs.declared.Scan.the-variants.{End, Fault}
 use Rattle.verdict.proofs.Laws.{fault-none, each-none}
 use Rattle.verdict.proofs.Scans.{each-stop, told, no-end}
 use Rattle.layout.specs.Table.{Table, bucketAt, listAt, bucketChecks}
-use Rattle.layout.specs.Scanned.{BucketsScanned}
+use Rattle.layout.specs.inner.Scanned.{BucketsScanned}
 
 -- xs holds f at each place below k
 abbrev pub Filled : (ℕ → ℕ) → ℕ → List ℕ → Type 0

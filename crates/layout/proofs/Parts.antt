@@ -5,7 +5,7 @@ use mathlib.Core.List.{List, [], _∷_}
 use lib.ListN.{length}
 use Rattle.le.specs.Le.{u32At}
 use Rattle.verdict.specs.Checks.{Check, atMost, equal, firstFault}
-use Rattle.verdict.specs.Scans.{scanned}
+use Rattle.verdict.specs.inner.Scans.{scanned}
 use Rattle.verdict.specs.declared.Verdict.{Verdict}
 use Rattle.region.specs.Checks.{field}
 use Rattle.layout.specs.Header.{zeroWordChecks}

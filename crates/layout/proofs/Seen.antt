@@ -7,9 +7,9 @@ use lib.ListN.{length}
 use Rattle.verdict.specs.declared.Verdict.the-variants.{Accepted}
 use Rattle.region.specs.declared.Region.{Region}
 use Rattle.region.specs.Region.{Laid, totalOf}
-use Rattle.region.specs.Samples.{Mapped, Starts, Counts}
+use Rattle.region.specs.inner.Samples.{Mapped, Starts, Counts}
 use Rattle.layout.specs.Layout.{attributeSize, nodeSize, attributesAt, nodesAt, values, names, LaidOut}
-use Rattle.layout.specs.View.{Walked}
+use Rattle.layout.specs.inner.View.{Walked}
 use Rattle.layout.specs.declared.whole.Walk.{Walk}
 use Rattle.layout.proofs.Accepted.{layout-iff}
 

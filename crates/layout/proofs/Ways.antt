@@ -4,7 +4,7 @@ use mathlib.Core.Path.{_≡_, sym, subst, _∙_}
 use mathlib.Core.List.{List, _++_}
 use lib.ListN.{length}
 use Rattle.verdict.specs.Checks.{firstFault, each}
-use Rattle.verdict.specs.Scans.{scanned}
+use Rattle.verdict.specs.inner.Scans.{scanned}
 use Rattle.verdict.specs.declared.Verdict.the-variants.{Refused}
 use Rattle.verdict.specs.declared.Scan.{Scan}
 use Rattle.verdict.specs.declared.Scan.the-variants.{Fault}
@@ -14,8 +14,8 @@ use Rattle.region.specs.Checks.{regionChecks}
 use Rattle.layout.specs.Header.{headerChecks, keyChecks}
 use Rattle.layout.specs.Table.{Table, table, bucketChecks, listChecks, tableEnd, tableChecks}
 use Rattle.layout.specs.Layout.{attributeSize, nodeSize, attributesAt, nodesAt, valuesAt, values, valuesMost, namesAt, names, namesMost, sizeChecks, frontChecks, footerChecks, layoutChecks}
-use Rattle.layout.specs.Scanned.{FrontScanned, TableScanned}
-use Rattle.layout.specs.View.{Walked}
+use Rattle.layout.specs.inner.Scanned.{FrontScanned, TableScanned}
+use Rattle.layout.specs.inner.View.{Walked}
 use Rattle.layout.specs.declared.front.FrontScan.{FrontScan}
 use Rattle.layout.specs.declared.tables.TableScan.{TableScan}
 use Rattle.layout.specs.declared.whole.Walk.{Walk}

@@ -1,5 +1,4 @@
 pub mod Header
 pub mod Table
 pub mod Layout
-pub mod Scanned
-pub mod View
+pub mod inner

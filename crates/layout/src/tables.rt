@@ -3,9 +3,9 @@ ghost use mathlib.Core.Path.{_≡_};
 ghost use Prim.Native.Nat.{_+_, _≤_};
 ghost use lib.ListN.{length};
 ghost use Rattle.verdict.specs.Checks.{firstFault};
-ghost use Rattle.verdict.specs.Scans.{scanned};
+ghost use Rattle.verdict.specs.inner.Scans.{scanned};
 ghost use Rattle.layout.specs.Table.{table, bucketAt, listAt, tableEnd, bucketChecks, listChecks};
-ghost use Rattle.layout.specs.Scanned.{BucketsScanned, TableScanned};
+ghost use Rattle.layout.specs.inner.Scanned.{BucketsScanned, TableScanned};
 use crate::CHARACTER_SIZE;
 use verdict::Scan;
 

@@ -4,7 +4,7 @@ ghost use Prim.Native.Nat.{_≤_};
 ghost use lib.ListN.{length};
 ghost use Rattle.verdict.specs.Checks.{firstFault};
 ghost use Rattle.layout.specs.Layout.{footerAt, footerChecks};
-ghost use Rattle.layout.specs.View.{Walked, Fits, Viewed};
+ghost use Rattle.layout.specs.inner.View.{Walked, Fits, Viewed};
 use crate::ATTRIBUTE_SIZE;
 use crate::CHARACTER_SIZE;
 use crate::Checked;

@@ -8,7 +8,7 @@ use mathlib.Core.Logic.{_⊎_, inl, inr, ⊎-elim}
 use mathlib.Core.List.{List, [], _∷_}
 use lib.ListN.{length, getD}
 use lib.Seq.{ext-getD}
-use Rattle.laws.specs.Lists.{splice}
+use Rattle.laws.specs.inner.Lists.{splice}
 use Rattle.laws.proofs.Order.{le-or-lt}
 use Rattle.laws.proofs.Splice.{splice-length, splice-before, splice-in, splice-after}
 use Rattle.le.specs.Le.{u16At, u32At, u64At, le4}

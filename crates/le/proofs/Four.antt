@@ -7,7 +7,7 @@ use native.Mathlib.Numerals.{add-one, add-two, add-three}
 use native.Mathlib.Omega.{arith}
 use lib.ListN.{length, set}
 use lib.Seq.{sets-eq, getD-append-add}
-use Rattle.laws.specs.Lists.{splice}
+use Rattle.laws.specs.inner.Lists.{splice}
 use Rattle.le.specs.Le.{u32At, le4}
 
 pub four-stores : (d : List ℕ) (i a b c e : ℕ) → i + 4 ≤ length d

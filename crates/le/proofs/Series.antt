@@ -4,7 +4,7 @@ use Prim.Native.Nat.{ℕ, _+_, _^_, _≤_, _<_}
 use mathlib.Core.Path.{_≡_, refl, _∙_}
 use mathlib.Core.List.{List, [], _∷_, _++_}
 use lib.ListN.{length}
-use Rattle.laws.specs.Lists.{splice}
+use Rattle.laws.specs.inner.Lists.{splice}
 use Rattle.le.specs.Le.{u32At, le4}
 use Rattle.le.proofs.Numbers.{Bytes}
 use Rattle.le.proofs.Agree.{put-agree, put-read, put-bytes, put-back}

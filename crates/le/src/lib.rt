@@ -3,7 +3,7 @@ ghost use mathlib.Core.Path.{_≡_};
 ghost use Prim.Native.Nat.{_+_, _≤_, _<_, _^_};
 ghost use lib.ListN.{length};
 ghost use lib.Ieee.{ofBits, binary32, binary64};
-ghost use Rattle.laws.specs.Lists.{splice};
+ghost use Rattle.laws.specs.inner.Lists.{splice};
 ghost use Rattle.le.specs.Le.{u16At, u32At, u64At, le4};
 ghost use Rattle.le.specs.Floats.{singleOf, doubleAt};
 

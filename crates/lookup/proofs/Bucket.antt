@@ -8,7 +8,7 @@ use mathlib.Core.List.{List}
 use borrow.Author.Count.{below-more}
 use lib.ListN.{length}
 use Rattle.laws.proofs.Order.{le-or-lt}
-use Rattle.verdict.specs.Checks.{Tells}
+use Rattle.verdict.specs.inner.Tells.{Tells}
 use Rattle.verdict.proofs.Laws.{Clean}
 use Rattle.hash.specs.Hash.{hashText, bucketOf}
 use Rattle.region.specs.Region.{placeOf}
@@ -18,9 +18,9 @@ use Rattle.layout.proofs.Laws.{bucket-first, bucket-fits}
 use Rattle.layout.specs.Table.{Table, TableLaid, entries, entryAt, hashOf, lengthOf, segmentOf, elementOf}
 use Rattle.strings.specs.Texts.{textOf}
 use Rattle.strings.specs.Rules.{Resolved}
-use Rattle.strings.specs.Held.{Here}
+use Rattle.strings.specs.inner.Held.{Here}
 use Rattle.strings.specs.Order.{stringChecks}
-use Rattle.search.specs.Lower.{Lower}
+use Rattle.search.specs.inner.Lower.{Lower}
 use Rattle.strings.specs.declared.spot.Spot.the-variants.{At}
 use Rattle.strings.proofs.Accepted.{strings-parts, all-good}
 use Rattle.strings.proofs.Spots.{Spotted, spot-yes, spot-text}

@@ -11,7 +11,7 @@ use Rattle.text.specs.Text.{textIn, textAt}
 use Rattle.text.proofs.Laws.{chars-at, text-chars, text-live}
 use Rattle.layout.specs.Table.{Table, entryAt, indexOf, segmentOf, elementOf, count}
 use Rattle.strings.specs.Texts.{textTo, textOf, listedText}
-use Rattle.strings.specs.Held.{Here}
+use Rattle.strings.specs.inner.Held.{Here}
 use Rattle.strings.specs.Order.{allEntryChecks, stringChecks}
 use Rattle.strings.proofs.Accepted.{strings-parts, all-good, all-carried}
 use Rattle.strings.proofs.Only.{one-entry, text-of-index}

@@ -8,11 +8,11 @@ use Rattle.verdict.proofs.Laws.{Clean}
 use Rattle.le.specs.Le.{u16At, u32At}
 use Rattle.region.specs.Region.{startOf, placeOf, Resolves, Laid}
 use Rattle.layout.specs.Table.{Table, TableLaid, entryAt, segmentOf, elementOf}
-use Rattle.strings.specs.Held.{Here}
+use Rattle.strings.specs.inner.Held.{Here}
 use Rattle.strings.specs.Order.{stringChecks}
 use Rattle.strings.proofs.Places.{length-at, segment-at, element-at}
 use Rattle.lookup.specs.Kinds.{tellsAt}
-use Rattle.lookup.specs.Bears.{Bears}
+use Rattle.lookup.specs.inner.Bears.{Bears}
 use Rattle.lookup.specs.declared.Kind.{Kind}
 use Rattle.lookup.proofs.Bucket.{entry-resolved, Standing, addressed, long-some}
 

@@ -10,12 +10,12 @@ use Rattle.text.specs.Text.{chars}
 use Rattle.layout.specs.Table.{Table, TableLaid, entryAt, indexOf, segmentOf, elementOf}
 use Rattle.layout.proofs.Laws.{entry-fits}
 use Rattle.strings.specs.Texts.{textOf}
-use Rattle.strings.specs.Held.{Here}
+use Rattle.strings.specs.inner.Held.{Here}
 use Rattle.strings.specs.Order.{stringChecks}
 use Rattle.strings.proofs.Places.{index-at, segment-at, element-at}
 use Rattle.lookup.specs.Lookup.{entryOfText, indexOfText, addressOfText}
 use Rattle.lookup.specs.Kinds.{toldIn, tellsAt}
-use Rattle.lookup.specs.Bears.{Bears}
+use Rattle.lookup.specs.inner.Bears.{Bears}
 use Rattle.lookup.specs.declared.Kind.{Kind}
 use Rattle.lookup.specs.declared.Kind.the-variants.{Name, Value}
 use Rattle.lookup.specs.declared.Lookup.{Lookup}

@@ -2,15 +2,16 @@
 ghost use mathlib.Core.Path.{_≡_};
 ghost use Prim.Native.Nat.{_+_, _*_, _≤_};
 ghost use lib.ListN.{length};
-ghost use Rattle.verdict.specs.Checks.{Tells, firstFault};
+ghost use Rattle.verdict.specs.Checks.{firstFault};
+ghost use Rattle.verdict.specs.inner.Tells.{Tells};
 ghost use Rattle.verdict.specs.declared.Verdict.the-variants.{Accepted};
-ghost use Rattle.hash.specs.Table.{Tables};
+ghost use Rattle.hash.specs.inner.Tables.{Tables};
 ghost use Rattle.hash.specs.Hash.{hashText, bucketOf};
 ghost use Rattle.text.specs.Text.{chars};
 ghost use Rattle.strings.specs.Texts.{textOf};
 ghost use Rattle.strings.specs.Order.{stringChecks};
-ghost use Rattle.strings.specs.Held.{Held, heldTable, Here};
-ghost use Rattle.search.specs.Lower.{Lower};
+ghost use Rattle.strings.specs.inner.Held.{Held, heldTable, Here};
+ghost use Rattle.search.specs.inner.Lower.{Lower};
 ghost use Rattle.lookup.specs.Lookup.{entryOfText};
 ghost use Rattle.lookup.specs.Kinds.{toldIn, tellsAt};
 

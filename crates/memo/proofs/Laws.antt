@@ -7,7 +7,7 @@ use mathlib.Core.List.{List}
 use lib.ListN.{length, getD, set, replicate, length-set, length-replicate}
 use lib.Seq.{getD-set-same, getD-set-other}
 use Rattle.laws.proofs.Zeros.{zeros}
-use Rattle.memo.specs.Memo.{Remembers, Recalled, TakenOver}
+use Rattle.memo.specs.inner.Memo.{Remembers, Recalled, TakenOver}
 
 pub recalled : (memo : List ℕ) (s x n r : ℕ) → s < 1024 → getD memo s 0 ≡ x → getD memo (1024 + s) 0 ≡ n → r ≡ getD memo (2048 + s) 0 → Recalled memo x n r
 recalled memo s x n r l p q e = record { right = λ F m h. e ∙ m .slot s l ∙ ap (λ (a : ℕ). F a (getD memo (1024 + s) 0)) p ∙ ap (F x) q }

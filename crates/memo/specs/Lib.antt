@@ -1,1 +1,1 @@
-pub mod Memo
+pub mod inner

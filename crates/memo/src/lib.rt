@@ -4,7 +4,7 @@
 ghost use mathlib.Core.Path.{_≡_};
 ghost use Prim.Native.Nat.{_<_, _^_};
 ghost use lib.ListN.{length};
-ghost use Rattle.memo.specs.Memo.{Recalled, TakenOver};
+ghost use Rattle.memo.specs.inner.Memo.{Recalled, TakenOver};
 
 // The slot of x and n. Texts stand close together or far apart: the high bits of the product spread both.
 fn slot(x: usize, n: usize) -> usize

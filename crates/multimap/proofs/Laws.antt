@@ -9,7 +9,7 @@ use lib.ListN.{length, getD, set, replicate, length-set, length-replicate}
 use lib.Seq.{getD-set-same, getD-set-other}
 use Rattle.laws.proofs.Order.{le-or-lt}
 use Rattle.laws.proofs.Zeros.{zeros}
-use Rattle.multimap.specs.Multimap.{numberAt, OnSlot, Filled, LastWith, PutBehind}
+use Rattle.multimap.specs.inner.Multimap.{numberAt, OnSlot, Filled, LastWith, PutBehind}
 
 at-same : (map : List ℕ) (i j : ℕ) → i ≡ j → getD map i 0 ≡ getD map j 0
 at-same map i j e = ap (λ (k : ℕ). getD map k 0) e

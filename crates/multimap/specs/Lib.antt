@@ -1,1 +1,1 @@
-pub mod Multimap
+pub mod inner

@@ -3,7 +3,7 @@
 // place the one before it on the same slot. Place i is kept as i + 1, and 0 stands for none: so an array of zeros has no place filled.
 ghost use mathlib.Core.Path.{_≡_};
 ghost use Prim.Native.Nat.{_+_, _%_, _≤_, _<_, _^_};
-ghost use Rattle.multimap.specs.Multimap.{numberAt, Filled, OnSlot, LastWith, PutBehind};
+ghost use Rattle.multimap.specs.inner.Multimap.{numberAt, Filled, OnSlot, LastWith, PutBehind};
 
 fn wide(x: u16) -> usize
     ensures { λ r. ⌜ r ≡ x ⌝ }

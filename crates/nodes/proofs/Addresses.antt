@@ -5,11 +5,12 @@ use mathlib.Core.Path.{_≡_, refl, ap, sym, subst, _∙_}
 use mathlib.Core.Bool.{Bool, true, false}
 use mathlib.Core.List.{List}
 use lib.ListN.{length}
-use Rattle.verdict.specs.Checks.{Tells, SomeBelow}
+use Rattle.verdict.specs.Checks.{SomeBelow}
+use Rattle.verdict.specs.inner.Tells.{Tells}
 use Rattle.verdict.proofs.Laws.{Clean, tells-yes, tells-no}
 use Rattle.le.specs.Le.{u16At, u32At}
 use Rattle.le.proofs.Numbers.{Bytes, pairs, halves}
-use Rattle.search.specs.Run.{wordOf, Meets}
+use Rattle.search.specs.inner.Run.{wordOf, Meets}
 use Rattle.words.specs.Words.{typeOf, extendedOf}
 use Rattle.hash.specs.Hash.{hashText, bucketOf}
 use Rattle.hash.specs.Fold.{valueHash}

@@ -6,7 +6,7 @@ use mathlib.Core.Path.{_≡_, refl, ap, _∙_}
 use mathlib.Core.Logic.{_⊎_, inl, inr, ⊎-elim}
 use mathlib.Core.List.{List}
 use lib.ListN.{length}
-use Rattle.laws.specs.Lists.{splice}
+use Rattle.laws.specs.inner.Lists.{splice}
 use Rattle.le.specs.Le.{le4}
 use Rattle.le.proofs.Agree.{Agree, Off, u16-same, u32-same, put-agree, put-read}
 use Rattle.words.specs.Words.{typeOf, extendedOf}

@@ -6,7 +6,8 @@ use mathlib.Core.Bool.{true, false}
 use mathlib.Core.Logic.{_⊎_, inl, inr, ⊎-elim}
 use mathlib.Core.List.{List}
 use lib.Dec.{eqb}
-use Rattle.verdict.specs.Checks.{Tells, firstFault, each}
+use Rattle.verdict.specs.Checks.{firstFault, each}
+use Rattle.verdict.specs.inner.Tells.{Tells}
 use Rattle.verdict.specs.declared.Verdict.{Verdict}
 use Rattle.verdict.specs.declared.Verdict.the-variants.{Accepted, Refused}
 use Rattle.verdict.proofs.Laws.{pass, stop, fault-none, tells-yes, tells-no, tells-eqb}
@@ -16,7 +17,7 @@ use Rattle.words.specs.Words.{typeOf}
 use Rattle.region.proofs.Laws.{place-row}
 use Rattle.layout.specs.Layout.{attributeSize, attributesAt}
 use Rattle.keys.specs.Names.{valueName, Bears}
-use Rattle.keys.specs.Known.{Known}
+use Rattle.keys.specs.inner.Known.{Known}
 use Rattle.keys.specs.declared.Names.{Names}
 use Rattle.nodes.specs.Node.{attributeSegment, attributeElement, attributeCount, attributeAt}
 use Rattle.nodes.specs.Attribute.{attributeName, typeWord, Typed}

@@ -8,19 +8,20 @@ use mathlib.Core.Logic.{_⊎_, inl, inr, ⊎-elim}
 use mathlib.Core.List.{List}
 use lib.ListN.{length}
 use borrow.Author.Count.{below-none, below-more}
-use Rattle.verdict.specs.Checks.{Tells, SomeBelow}
+use Rattle.verdict.specs.Checks.{SomeBelow}
+use Rattle.verdict.specs.inner.Tells.{Tells}
 use Rattle.verdict.proofs.Laws.{tells-yes, tells-no}
 use Rattle.le.specs.Le.{u16At}
 use Rattle.region.specs.declared.Place.{Place}
 use Rattle.region.specs.declared.Place.the-variants.{At, Nowhere}
 use Rattle.region.specs.declared.Region.{Region}
 use Rattle.region.specs.Region.{Laid, rangeAt}
-use Rattle.region.specs.Samples.{Mapped}
+use Rattle.region.specs.inner.Samples.{Mapped}
 use Rattle.region.proofs.Laws.{place-row}
 use Rattle.layout.specs.Layout.{nodeSize, nodesAt}
 use Rattle.nodes.specs.Node.{nodeName, childSegment, childElement, childCount, Live, nodeAt, childAt}
 use Rattle.nodes.specs.Rules.{ChildRule}
-use Rattle.nodes.specs.Search.{Rising}
+use Rattle.nodes.specs.inner.Search.{Rising}
 use Rattle.nodes.proofs.Sought.{sought-out, sought-in, sought-at, sought-fits}
 
 -- what the first i nodes from q on leave: their live names do not fall, all are at most `last`, and `last` is one of them, or 0

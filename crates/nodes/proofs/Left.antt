@@ -10,7 +10,7 @@ use Rattle.verdict.specs.declared.Verdict.the-variants.{Refused}
 use Rattle.verdict.proofs.Laws.{pass, stop}
 use Rattle.region.specs.declared.Region.{Region}
 use Rattle.region.specs.Region.{Resolves, countOf, startOf, usedOf}
-use Rattle.region.specs.Samples.{Mapped}
+use Rattle.region.specs.inner.Samples.{Mapped}
 use Rattle.region.proofs.Samples.{start-more, used-at, place-at}
 use Rattle.layout.specs.Layout.{nodeSize, nodesAt}
 use Rattle.nodes.specs.Node.{nodeAt}

@@ -6,7 +6,7 @@ use mathlib.Core.Bool.{true, false}
 use mathlib.Core.List.{List}
 use lib.Dec.{ltb}
 use borrow.Author.Tests.{ltb-true, ltb-false}
-use Rattle.verdict.specs.Checks.{Tells}
+use Rattle.verdict.specs.inner.Tells.{Tells}
 use Rattle.verdict.proofs.Laws.{tells-yes, tells-no}
 use Rattle.le.specs.Le.{u16At}
 use Rattle.words.specs.Words.{flagsOf, keyIndexOf}
@@ -14,7 +14,7 @@ use Rattle.region.specs.Region.{startOf, placeOf}
 use Rattle.layout.specs.Header.{keyCount}
 use Rattle.layout.specs.Layout.{nodeSize, nodesAt}
 use Rattle.keys.specs.Names.{rootName, Bears}
-use Rattle.keys.specs.Known.{Known}
+use Rattle.keys.specs.inner.Known.{Known}
 use Rattle.keys.specs.declared.Names.{Names}
 use Rattle.nodes.specs.Node.{nodeName, keyWord, attributeField, nodeAt}
 use Rattle.nodes.specs.Rules.{RootRule, NodeRule}

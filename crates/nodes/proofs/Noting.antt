@@ -11,11 +11,11 @@ use Rattle.hash.specs.Hash.{hashOn, hashText}
 use Rattle.hash.specs.Fold.{foldText, valueHashOf, valueHash}
 use Rattle.hash.proofs.Laws.{hash-lt}
 use Rattle.text.specs.Text.{textIn}
-use Rattle.text.specs.Measure.{Measured}
+use Rattle.text.specs.inner.Measure.{Measured}
 use Rattle.text.specs.declared.Extent.{Extent}
 use Rattle.text.proofs.Laws.{text-none}
 use Rattle.text.proofs.Split.{ends-first}
-use Rattle.nodes.specs.Noted.{noted}
+use Rattle.nodes.specs.inner.Noted.{noted}
 
 module _ (b : List ℕ) (x n : ℕ) where
   pub value-noted : n < 65536 → noted b x n ≡ valueHash (textIn b x n)

@@ -9,7 +9,7 @@ use Rattle.region.specs.declared.Place.{Place}
 use Rattle.region.specs.declared.Place.the-variants.{At, Nowhere}
 use Rattle.region.specs.declared.Region.{Region}
 use Rattle.region.specs.Region.{Laid, Ranges, Reaches, rangeAt, placeOf}
-use Rattle.region.specs.Samples.{Mapped, Starts}
+use Rattle.region.specs.inner.Samples.{Mapped, Starts}
 use Rattle.region.proofs.Laws.{range-fits, range-at-in, range-at-out}
 use Rattle.layout.proofs.Seen.{own-mapped}
 

@@ -8,7 +8,7 @@ use mathlib.Core.Bool.{false}
 use mathlib.Core.Logic.{inl, inr, ⊎-elim, by-cases}
 use mathlib.Core.List.{List}
 use lib.Dec.{leb}
-use Rattle.verdict.specs.Checks.{Tells}
+use Rattle.verdict.specs.inner.Tells.{Tells}
 use Rattle.verdict.proofs.Laws.{tells-no, tells-leb}
 use Rattle.le.specs.Le.{u16At, u32At}
 use Rattle.words.specs.Words.{typeOf, extendedOf}

@@ -17,7 +17,7 @@ use Rattle.region.specs.declared.Place.{Place}
 use Rattle.region.specs.declared.Place.the-variants.{At, Nowhere}
 use Rattle.region.specs.declared.Region.{Region}
 use Rattle.region.specs.Region.{Laid, Resolves, rangeAt, placeOf}
-use Rattle.region.specs.Samples.{Mapped}
+use Rattle.region.specs.inner.Samples.{Mapped}
 use Rattle.region.proofs.Laws.{place-fits, range-each}
 use Rattle.layout.specs.Layout.{attributeSize, nodeSize, attributesAt, nodesAt}
 use Rattle.nodes.specs.Node.{nodeName, attributeField, childField, attributeSegment, attributeElement, attributeCount, childCount, Live, nodeAt, attributeAt}

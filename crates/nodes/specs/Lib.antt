@@ -1,10 +1,7 @@
 pub mod Node
 pub mod Attribute
 pub mod Rules
-pub mod Doubts
 pub mod Decisions
 pub mod Order
-pub mod Held
-pub mod Search
-pub mod Noted
 pub mod OldFold
+pub mod inner

@@ -18,19 +18,15 @@ use Rattle.nodes.specs.Attribute.{typeWord, textSegment, textElement}
 use Rattle.nodes.specs.Rules.{RootUsed, NodeRule, AttributesReach, AttributeRule, ChildRule}
 use Rattle.nodes.specs.Decisions.{rootUsed?, nodeRule?, attributesReach?, attributeRule?, childRule?, entryAddress?}
 
--- The text of the attribute at q.
-abbrev pub attributeText : List ℕ → ℕ → List ℕ
-attributeText b q = textTo (values b) (textSegment b q) (textElement b q)
-
 -- The attribute at q is a text to which the two folds give different value hashes.
 pub record FoldsDiffer (b : List ℕ) (q : ℕ) : Type 0 where
   pub text : typeOf (typeWord b q) ≡ 3
-  pub apart : valueHash (attributeText b q) ≡ valueHashBefore (attributeText b q) → ⊥
+  pub apart : valueHash (textTo (values b) (textSegment b q) (textElement b q)) ≡ valueHashBefore (textTo (values b) (textSegment b q) (textElement b q)) → ⊥
 
 -- 19, as it was: the text is at a values entry's address, and the extended code is its value hash by the old fold.
 pub record TextRuleBefore (b : List ℕ) (q : ℕ) : Type 0 where
   pub entry : EntryAddress (values b) (textSegment b q) (textElement b q)
-  pub hash : extendedOf (typeWord b q) ≡ valueHashBefore (attributeText b q)
+  pub hash : extendedOf (typeWord b q) ≡ valueHashBefore (textTo (values b) (textSegment b q) (textElement b q))
 
 abbrev pub TextRightBefore : List ℕ → ℕ → Type 0
 TextRightBefore b q = typeOf (typeWord b q) ≡ 3 → TextRuleBefore b q
@@ -40,7 +36,7 @@ textRightBefore? b q =
     implies? (ℕ-discrete (typeOf (typeWord b q)) 3)
     (decBy (λ w. record { entry = w .0; hash = w .1 }) (λ r. (r .entry, r .hash))
     (Dec·and (entryAddress? (values b) (textSegment b q) (textElement b q))
-    (ℕ-discrete (extendedOf (typeWord b q)) (valueHashBefore (attributeText b q)))))
+    (ℕ-discrete (extendedOf (typeWord b q)) (valueHashBefore (textTo (values b) (textSegment b q) (textElement b q))))))
 
 -- The checks of the nodes, as they were: all but 19 are those of Order.antt, in that order.
 unfoldable pub attributeChecksBefore : List ℕ → ℕ → ℕ → List Check

@@ -1,13 +1,13 @@
 // All used nodes, in the order of the file.
 ghost use mathlib.Core.Path.{_≡_};
 ghost use Rattle.verdict.specs.Checks.{firstFault};
-ghost use Rattle.hash.specs.Table.{Tables};
-ghost use Rattle.memo.specs.Memo.{Remembers};
-ghost use Rattle.nodes.specs.Doubts.{AllTrusted, NoDoubt};
-ghost use Rattle.verdict.specs.Checks.{Sure};
+ghost use Rattle.hash.specs.inner.Tables.{Tables};
+ghost use Rattle.memo.specs.inner.Memo.{Remembers};
+ghost use Rattle.nodes.specs.inner.Doubts.{AllTrusted, NoDoubt};
+ghost use Rattle.verdict.specs.inner.Tells.{Sure};
 ghost use Rattle.nodes.specs.Order.{allNodeChecks};
-ghost use Rattle.nodes.specs.Held.{Ready};
-ghost use Rattle.nodes.specs.Noted.{noted};
+ghost use Rattle.nodes.specs.inner.Held.{Ready};
+ghost use Rattle.nodes.specs.inner.Noted.{noted};
 use crate::node;
 use keys::Names;
 use layout::Places;

@@ -3,13 +3,13 @@
 ghost use mathlib.Core.Path.{_≡_};
 ghost use Prim.Native.Nat.{_+_, _*_, _≤_, _<_, _^_};
 ghost use lib.ListN.{length};
-ghost use Rattle.verdict.specs.Checks.{Sure};
-ghost use Rattle.hash.specs.Table.{Tables};
+ghost use Rattle.verdict.specs.inner.Tells.{Sure};
+ghost use Rattle.hash.specs.inner.Tables.{Tables};
 ghost use Rattle.hash.specs.Hash.{hashText};
 ghost use Rattle.hash.specs.Fold.{valueHash};
 ghost use Rattle.text.specs.Text.{textIn};
-ghost use Rattle.memo.specs.Memo.{Remembers};
-ghost use Rattle.nodes.specs.Noted.{noted};
+ghost use Rattle.memo.specs.inner.Memo.{Remembers};
+ghost use Rattle.nodes.specs.inner.Noted.{noted};
 
 // Whether a text with n characters left is worth remembering: at most 65,535 characters are left anywhere.
 fn worth(n: usize) -> bool

@@ -14,12 +14,12 @@ use Rattle.le.specs.declared.Float32.{Float32}
 use Rattle.le.specs.Le.{u16At}
 use Rattle.words.specs.Words.{typeOf, extendedOf}
 use Rattle.region.specs.Region.{Resolves}
-use Rattle.region.specs.Samples.{Mapped, Starts}
+use Rattle.region.specs.inner.Samples.{Mapped, Starts}
 use Rattle.region.specs.declared.Region.{Region}
 use Rattle.text.specs.Text.{textIn, textAt}
 use Rattle.layout.specs.Table.{table, count, positionAt, listedSegment, listedElement}
 use Rattle.layout.specs.Layout.{values, names}
-use Rattle.layout.specs.View.{Placed}
+use Rattle.layout.specs.inner.View.{Placed}
 use Rattle.layout.specs.declared.Places.{Places}
 use Rattle.layout.proofs.Laws.{position-fits}
 use Rattle.layout.proofs.Seen.{own-mapped}
@@ -34,7 +34,7 @@ use Rattle.nodes.specs.Attribute.{typeWord, valueWord, textSegment, textElement
 use Rattle.nodes.specs.Rules.{TextRule}
 use Rattle.nodes.specs.declared.value.Value.the-variants.{Whole, Truth, Float, Text}
 use Rattle.accept.specs.Rules.{FileRules}
-use Rattle.outline.specs.Ready.{ValueStarts, NameStarts, AttributeReady, TextHeld}
+use Rattle.outline.specs.inner.Ready.{ValueStarts, NameStarts, AttributeReady, TextHeld}
 
 -- the code's region is that of a table, where an address resolves
 own : {b : List ℕ} {at seg el : ℕ} {r : Region} {xs : List ℕ} → Mapped 2 b at r → Starts 2 b at (r .shift) xs → Resolves 2 b at seg el

@@ -11,12 +11,12 @@ use Rattle.layout.specs.declared.Places.{Places}
 use Rattle.nodes.specs.Node.{Live, nodeName, nodeAt}
 use Rattle.tree.specs.File.{nodeOf, Used}
 use Rattle.accept.specs.Rules.{FileRules}
-use Rattle.print.specs.Put.{Put}
+use Rattle.print.specs.inner.Put.{Put}
 use Rattle.print.proofs.Puts.{put-length, put-front}
 use Rattle.outline.specs.Outline.{block, outlineOf}
 use Rattle.outline.specs.Outlined.{outlineChecks, outlineAfter}
-use Rattle.outline.specs.Answer.{OutlineWritten}
-use Rattle.outline.specs.Ready.{OutlineReady}
+use Rattle.outline.specs.inner.Answer.{OutlineWritten}
+use Rattle.outline.specs.inner.Ready.{OutlineReady}
 use Rattle.outline.specs.declared.Outlined.{Outlined}
 use Rattle.outline.proofs.Fits.{outline-fits}
 

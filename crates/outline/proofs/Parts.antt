@@ -8,7 +8,7 @@ use mathlib.Core.List.{List, [], _++_}
 use borrow.Author.Tests.{eq-eqb, ne-eqb}
 use Rattle.le.specs.Le.{u16At}
 use Rattle.region.specs.Region.{rangeAt}
-use Rattle.region.specs.Samples.{Mapped, Starts}
+use Rattle.region.specs.inner.Samples.{Mapped, Starts}
 use Rattle.region.specs.declared.Place.{Place}
 use Rattle.region.specs.declared.Place.the-variants.{At, Nowhere}
 use Rattle.region.proofs.Laws.{place-row}
@@ -19,12 +19,12 @@ use Rattle.nodes.proofs.Sought.{lent}
 use Rattle.nodes.proofs.Ways.{attribute-count, attributes-sought, attributes-nowhere, attributes-start}
 use Rattle.tree.specs.Chain.{ranged}
 use Rattle.tree.specs.File.{nodeOf, treeOf}
-use Rattle.tree.specs.Children.{ChildrenOf}
+use Rattle.tree.specs.inner.Children.{ChildrenOf}
 use Rattle.tree.specs.declared.ranges.Children.{Children}
 use Rattle.tree.proofs.Children.{first-is, count-is}
 use Rattle.print.proofs.Puts.{Left}
 use Rattle.outline.specs.Outline.{attributeText, line, shown, block}
-use Rattle.outline.specs.Ready.{AttributeReady, NodeReady, LineReady}
+use Rattle.outline.specs.inner.Ready.{AttributeReady, NodeReady, LineReady}
 
 -- what is left of a run, with the place and the buffer by other names
 pub left-same : {d d′ d″ : List ℕ} {i p q : ℕ} {s t : List ℕ} → Left d i s p t d′ → q ≡ p → d″ ≡ d′ → Left d i s q t d″

@@ -8,19 +8,19 @@ use lib.ListN.{length}
 use Rattle.verdict.specs.declared.Verdict.the-variants.{Accepted}
 use Rattle.region.proofs.Laws.{range-each, place-fits}
 use Rattle.layout.specs.Layout.{attributeSize, attributesAt}
-use Rattle.layout.specs.View.{Fits}
+use Rattle.layout.specs.inner.View.{Fits}
 use Rattle.layout.specs.declared.View.{View}
 use Rattle.layout.specs.declared.Places.{Places}
 use Rattle.nodes.specs.Node.{Live, attributeCount, nodeAt, attributeAt}
 use Rattle.nodes.specs.Rules.{NodeRules, AttributesReach}
 use Rattle.nodes.proofs.Accepted.{nodes-iff}
 use Rattle.tree.specs.File.{nodeOf, Used}
-use Rattle.tree.specs.Outcome.{TreeReady}
+use Rattle.tree.specs.inner.Marking.{TreeReady}
 use Rattle.tree.proofs.Children.{node-fits}
 use Rattle.accept.specs.Rules.{FileRules}
 use Rattle.accept.specs.Verdict.{verdictOf}
 use Rattle.accept.proofs.Accepted.{accepted-iff}
-use Rattle.outline.specs.Ready.{NodeReady, OutlineReady}
+use Rattle.outline.specs.inner.Ready.{NodeReady, OutlineReady}
 
 -- a view that fits an accepted file
 pub outline-ready : (b : List ℕ) (room : ℕ) (v : View) → Fits b v → verdictOf b room ≡ Accepted

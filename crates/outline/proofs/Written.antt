@@ -20,11 +20,11 @@ use Rattle.nodes.specs.declared.value.Value.{Value}
 use Rattle.nodes.specs.declared.value.Value.the-variants.{Whole, Truth, Float, Text}
 use Rattle.tree.specs.Chain.{ranged}
 use Rattle.tree.proofs.Ranged.{ranged-none, ranged-open}
-use Rattle.print.specs.Put.{Put}
+use Rattle.print.specs.inner.Put.{Put}
 use Rattle.print.specs.Text.{escape, escaped, wholeText, hexOf}
 use Rattle.print.proofs.Puts.{top, put-then, put-same, length-put}
 use Rattle.outline.specs.Outline.{truthText, valueText, attributeText, line}
-use Rattle.outline.specs.Ready.{AttributeReady, NodeReady}
+use Rattle.outline.specs.inner.Ready.{AttributeReady, NodeReady}
 
 -- ---- a text, character by character
 

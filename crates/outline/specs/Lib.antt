@@ -1,5 +1,4 @@
 pub mod Outline
 pub mod Outlined
 pub mod Lined
-pub mod Answer
-pub mod Ready
+pub mod inner

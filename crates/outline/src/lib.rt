@@ -1,9 +1,9 @@
 // The outline of an accepted file (FORMAT, "Outline").
 ghost use mathlib.Core.Path.{_≡_};
 ghost use lib.ListN.{length};
-ghost use Rattle.outline.specs.Ready.{OutlineReady};
+ghost use Rattle.outline.specs.inner.Ready.{OutlineReady};
 ghost use Rattle.outline.specs.Outlined.{outlineAfter};
-ghost use Rattle.outline.specs.Answer.{OutlineWritten};
+ghost use Rattle.outline.specs.inner.Answer.{OutlineWritten};
 
 mod blocks;
 mod texts;

@@ -2,12 +2,12 @@
 ghost use Prim.Native.Nat.{_+_, _*_, _≤_};
 ghost use lib.ListN.{length};
 ghost use Rattle.text.specs.Text.{textIn, textAt};
-ghost use Rattle.layout.specs.View.{Placed};
+ghost use Rattle.layout.specs.inner.View.{Placed};
 ghost use Rattle.keys.specs.Names.{nameCount, nameText};
 ghost use Rattle.accept.specs.Rules.{FileRules};
-ghost use Rattle.print.specs.Put.{Put};
+ghost use Rattle.print.specs.inner.Put.{Put};
 ghost use Rattle.print.specs.Text.{escaped};
-ghost use Rattle.outline.specs.Ready.{NameStarts, TextHeld};
+ghost use Rattle.outline.specs.inner.Ready.{NameStarts, TextHeld};
 use layout::Places;
 use region::Region;
 use strings::spot;

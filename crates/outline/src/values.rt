@@ -1,12 +1,12 @@
 // Attributes and their values.
-ghost use Rattle.layout.specs.View.{Placed};
+ghost use Rattle.layout.specs.inner.View.{Placed};
 ghost use Rattle.nodes.specs.Node.{attributeCount, attributeAt};
 ghost use Rattle.nodes.specs.Attribute.{valueOf};
 ghost use Rattle.tree.specs.Chain.{ranged};
 ghost use Rattle.accept.specs.Rules.{FileRules};
-ghost use Rattle.print.specs.Put.{Put};
+ghost use Rattle.print.specs.inner.Put.{Put};
 ghost use Rattle.outline.specs.Outline.{truthText, valueText, attributeText};
-ghost use Rattle.outline.specs.Ready.{ValueStarts, NameStarts, AttributeReady, NodeReady, LineReady};
+ghost use Rattle.outline.specs.inner.Ready.{ValueStarts, NameStarts, AttributeReady, NodeReady, LineReady};
 use crate::texts;
 use layout::Places;
 use nodes::value;

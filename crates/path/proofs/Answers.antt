@@ -8,7 +8,7 @@ use native.Mathlib.Nat.{zero-add}
 use native.Mathlib.Omega.{arith}
 use lib.ListN.{length, drop}
 use lib.Seq.{length-take-le, getD-take}
-use Rattle.laws.specs.Lists.{splice}
+use Rattle.laws.specs.inner.Lists.{splice}
 use Rattle.verdict.specs.Checks.{firstFault}
 use Rattle.verdict.specs.declared.Verdict.the-variants.{Accepted, Refused}
 use Rattle.verdict.proofs.Laws.{Clean, never, fault-keep}
@@ -18,12 +18,12 @@ use Rattle.layout.specs.Layout.{names}
 use Rattle.strings.proofs.Accepted.{strings-iff}
 use Rattle.nodes.specs.Node.{nodeAt}
 use Rattle.tree.specs.File.{nodeOf, treeOf}
-use Rattle.tree.specs.Outcome.{TreeReady}
+use Rattle.tree.specs.inner.Marking.{TreeReady}
 use Rattle.accept.specs.Rules.{FileRules}
 use Rattle.path.specs.Names.{namesOf, pathChecks}
 use Rattle.path.specs.Listing.{pathMatches, encode, listingAfter}
-use Rattle.path.specs.Indices.{matchesAt, indicesFrom, WantedIs}
-use Rattle.path.specs.Answer.{PathListed}
+use Rattle.path.specs.inner.Indices.{matchesAt, indicesFrom, WantedIs}
+use Rattle.path.specs.inner.Answer.{PathListed}
 use Rattle.path.specs.declared.listing.Listing.{Listing}
 use Rattle.path.specs.declared.names.Wanted.{Wanted}
 use Rattle.path.proofs.Demand.{room-fits, room-over}

@@ -11,7 +11,7 @@ use Rattle.verdict.specs.declared.Verdict.the-variants.{Refused}
 use Rattle.verdict.proofs.Laws.{Clean, pass, stop, clean-inv, fault-none}
 use Rattle.le.specs.Le.{u16At}
 use Rattle.path.specs.Names.{Closed, pathChecks}
-use Rattle.path.specs.Indices.{NameEnd}
+use Rattle.path.specs.inner.Indices.{NameEnd}
 
 module _ (path : List ℕ) where
   pub path-odd : (length path % 2 ≡ 0 → ⊥) → firstFault (pathChecks path) ≡ Refused 24 (length path)

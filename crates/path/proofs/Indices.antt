@@ -18,7 +18,7 @@ use Rattle.accept.specs.Rules.{FileRules}
 use Rattle.path.specs.Names.{namesOf, nameAt}
 use Rattle.path.specs.Matches.{BearingChain}
 use Rattle.path.specs.Listing.{matches, pathMatches}
-use Rattle.path.specs.Indices.{matchesAt}
+use Rattle.path.specs.inner.Indices.{matchesAt}
 use Rattle.path.proofs.Found.{matchesBelow, bearing-yes, bearing-no, bearing-chain, bearing-length, sound}
 use Rattle.path.proofs.Listed.{parents}
 

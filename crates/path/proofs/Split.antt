@@ -15,7 +15,7 @@ use Rattle.text.specs.Text.{chars}
 use Rattle.text.proofs.Laws.{chars-none, chars-more}
 use Rattle.lookup.specs.Lookup.{textFrom}
 use Rattle.path.specs.Names.{addFirst, split, namesOf, pathChecks}
-use Rattle.path.specs.Indices.{NameEnd}
+use Rattle.path.specs.inner.Indices.{NameEnd}
 use Rattle.path.proofs.Formed.{formed-inv}
 
 pub length-add : (c : ℕ) (xs : List (List ℕ)) → length (addFirst c xs) ≡ length xs

@@ -13,7 +13,7 @@ use lib.Seq.{drop-cons, drop-length, length-take-le, getD-take}
 use Rattle.tree.specs.Chain.{ranged}
 use Rattle.tree.specs.File.{treeOf}
 use Rattle.tree.proofs.Ranged.{ranged-more}
-use Rattle.path.specs.Indices.{matchesAt, indicesFrom}
+use Rattle.path.specs.inner.Indices.{matchesAt, indicesFrom}
 
 -- a part of a range is no longer than the whole
 ranged-le : (f : ℕ → List ℕ) (a n m : ℕ) → n ≤ m → length (ranged f a n) ≤ length (ranged f a m)

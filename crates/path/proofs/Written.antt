@@ -4,11 +4,11 @@ use mathlib.Core.List.{List, [], _∷_, _++_}
 use Prim.Native.Nat.{ℕ, _+_, _*_, _/_, _≤_, _<_}
 use native.Mathlib.Omega.{arith}
 use lib.ListN.{length, length-append}
-use Rattle.laws.specs.Lists.{splice}
+use Rattle.laws.specs.inner.Lists.{splice}
 use Rattle.laws.proofs.Splice.{splice-nil, splice-length, splice-append}
 use Rattle.le.specs.Le.{le4}
 use Rattle.path.specs.Listing.{encode}
-use Rattle.path.specs.Written.{Wrote}
+use Rattle.path.specs.inner.Written.{Wrote}
 
 encode-append : (s t : List ℕ) → encode (s ++ t) ≡ encode s ++ encode t
 unfolding encode le4

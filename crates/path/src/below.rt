@@ -3,9 +3,9 @@ ghost use mathlib.Core.Path.{_≡_};
 ghost use Prim.Native.Nat.{_+_, _≤_};
 ghost use lib.ListN.{length};
 ghost use Rattle.tree.specs.File.{Used, nodeOf, treeOf};
-ghost use Rattle.tree.specs.Outcome.{TreeReady};
-ghost use Rattle.path.specs.Indices.{matchesAt, indicesFrom};
-ghost use Rattle.path.specs.Written.{Wrote};
+ghost use Rattle.tree.specs.inner.Marking.{TreeReady};
+ghost use Rattle.path.specs.inner.Indices.{matchesAt, indicesFrom};
+ghost use Rattle.path.specs.inner.Written.{Wrote};
 use region::Region;
 use tree::ranges;
 

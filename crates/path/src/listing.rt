@@ -1,13 +1,13 @@
 // The listing of a path's matches.
 ghost use mathlib.Core.Path.{_≡_};
 ghost use lib.ListN.{length};
-ghost use Rattle.hash.specs.Table.{Tables};
+ghost use Rattle.hash.specs.inner.Tables.{Tables};
 ghost use Rattle.layout.specs.Layout.{names};
-ghost use Rattle.strings.specs.Held.{Held, heldTable};
-ghost use Rattle.tree.specs.Outcome.{TreeReady};
+ghost use Rattle.strings.specs.inner.Held.{Held, heldTable};
+ghost use Rattle.tree.specs.inner.Marking.{TreeReady};
 ghost use Rattle.accept.specs.Rules.{FileRules};
 ghost use Rattle.path.specs.Listing.{listingAfter};
-ghost use Rattle.path.specs.Answer.{PathListed};
+ghost use Rattle.path.specs.inner.Answer.{PathListed};
 use crate::below;
 use crate::names;
 use region::Region;

@@ -7,12 +7,12 @@ use lib.ListN.{length, getD}
 use Rattle.verdict.proofs.Laws.{Clean}
 use Rattle.layout.specs.Table.{Table, bucketAt, entries, indexOf, listAt, count}
 use Rattle.strings.specs.Rules.{Carried}
-use Rattle.strings.specs.Held.{Held, heldTable}
+use Rattle.strings.specs.inner.Held.{Held, heldTable}
 use Rattle.strings.specs.declared.Strings.{Strings}
 use Rattle.strings.specs.Order.{allEntryChecks, allPositionChecks}
 use Rattle.strings.proofs.Accepted.{all-good, positions-clean}
 use Rattle.strings.proofs.Only.{text-of-index, one-entry}
-use Rattle.positions.specs.Total.{entriesBefore, allEntries}
+use Rattle.positions.specs.inner.Total.{entriesBefore, allEntries}
 use Rattle.positions.proofs.Numbered.{all-taken}
 
 module _ (t : Table) where

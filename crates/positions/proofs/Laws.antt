@@ -3,7 +3,8 @@ use Prim.Native.Nat.{ℕ, _+_, _-_, _≤_, _<_}
 use native.Mathlib.Omega.{arith}
 use mathlib.Core.Path.{_≡_, refl, ap, sym, subst, _∙_}
 use mathlib.Core.Bool.{Bool, false}
-use Rattle.verdict.specs.Checks.{firstFault, each, Tells}
+use Rattle.verdict.specs.Checks.{firstFault, each}
+use Rattle.verdict.specs.inner.Tells.{Tells}
 use Rattle.verdict.specs.declared.Verdict.{Verdict}
 use Rattle.verdict.specs.declared.Verdict.the-variants.{Accepted, Refused}
 use Rattle.verdict.proofs.Laws.{Clean, pass, stop, fault-none, fault-append, fault-keep}
@@ -16,7 +17,7 @@ use Rattle.strings.specs.Rules.{Carried}
 use Rattle.strings.specs.Order.{allEntryChecks, positionChecks, allPositionChecks, stringChecks}
 use Rattle.strings.proofs.Accepted.{all-good}
 use Rattle.strings.proofs.Only.{bucket-of, hash-of, text-of-index}
-use Rattle.search.specs.Run.{Meets}
+use Rattle.search.specs.inner.Run.{Meets}
 use Rattle.positions.proofs.Listed.{ListedIn}
 
 -- ---- an index stands in no bucket but that of its text

@@ -9,7 +9,7 @@ use Rattle.region.specs.Region.{Resolves}
 use Rattle.layout.specs.Table.{Table, count, positionAt, listedSegment, listedElement}
 use Rattle.layout.proofs.Laws.{position-fits}
 use Rattle.strings.specs.Texts.{spotAt}
-use Rattle.strings.specs.Held.{Held, heldTable}
+use Rattle.strings.specs.inner.Held.{Held, heldTable}
 use Rattle.strings.specs.declared.Strings.{Strings}
 use Rattle.strings.specs.declared.spot.Spot.{Spot}
 use Rattle.strings.specs.declared.spot.Spot.the-variants.{At, Nowhere}

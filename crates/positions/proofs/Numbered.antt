@@ -7,7 +7,7 @@ use mathlib.Core.List.{List, [], _∷_, _++_, List·Memᴰ, List·Memᴰ·not-ni
 use lib.ListN.{length, length-append}
 use Rattle.verdict.specs.Checks.{SomeBelow}
 use Rattle.layout.specs.Table.{Table, entries}
-use Rattle.positions.specs.Total.{entriesBefore, allEntries}
+use Rattle.positions.specs.inner.Total.{entriesBefore, allEntries}
 use Rattle.laws.proofs.Pigeon.{Once, once-none, once-more, once-append, pigeon-all}
 
 -- those of the first n entries of bucket k

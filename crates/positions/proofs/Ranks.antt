@@ -12,18 +12,18 @@ use Rattle.laws.proofs.Order.{le-or-lt}
 use Rattle.verdict.proofs.Laws.{Clean}
 use Rattle.le.specs.Le.{u16At, u32At}
 use Rattle.region.specs.Region.{countOf, startOf, usedOf, placeOf, Resolves}
-use Rattle.region.specs.Samples.{Mapped}
+use Rattle.region.specs.inner.Samples.{Mapped}
 use Rattle.region.specs.declared.Region.{Region}
 use Rattle.region.proofs.Samples.{used-at}
-use Rattle.text.specs.Zeros.{zerosIn}
+use Rattle.text.specs.inner.Zeros.{zerosIn}
 use Rattle.layout.specs.Table.{Table, segmentOf, elementOf}
-use Rattle.strings.specs.Begins.{begins, AllBegun}
+use Rattle.strings.specs.inner.Begins.{begins, AllBegun}
 use Rattle.strings.specs.Order.{allEntryChecks}
 use Rattle.strings.proofs.Accepted.{all-good}
 use Rattle.strings.proofs.Spots.{used-in}
 use Rattle.strings.proofs.Only.{text-of-address, one-entry}
-use Rattle.positions.specs.Total.{allEntries}
-use Rattle.positions.specs.Packed.{Packed, begunIn, begunBefore, allBegun}
+use Rattle.positions.specs.inner.Total.{allEntries}
+use Rattle.positions.specs.inner.Packed.{Packed, begunIn, begunBefore, allBegun}
 use Rattle.positions.proofs.Numbered.{all-taken}
 
 -- how many such places are before an address

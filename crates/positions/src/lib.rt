@@ -1,15 +1,16 @@
 // Refusal 13, and all of 7 to 13 of a string table (FORMAT, "Refusals").
 ghost use mathlib.Core.Path.{_≡_};
 ghost use Prim.Native.Nat.{_≤_, _<_, _^_};
-ghost use Rattle.verdict.specs.Checks.{Tells, Sure, firstFault};
+ghost use Rattle.verdict.specs.Checks.{firstFault};
+ghost use Rattle.verdict.specs.inner.Tells.{Tells, Sure};
 ghost use Rattle.verdict.specs.declared.Verdict.the-variants.{Accepted};
-ghost use Rattle.hash.specs.Table.{Tables};
+ghost use Rattle.hash.specs.inner.Tables.{Tables};
 ghost use Rattle.layout.specs.Table.{count};
 ghost use Rattle.strings.specs.Rules.{Carried};
 ghost use Rattle.strings.specs.Order.{allEntryChecks, allPositionChecks, stringChecks};
-ghost use Rattle.strings.specs.Held.{Held, heldTable};
-ghost use Rattle.positions.specs.Total.{allEntries};
-ghost use Rattle.positions.specs.Packed.{Packed};
+ghost use Rattle.strings.specs.inner.Held.{Held, heldTable};
+ghost use Rattle.positions.specs.inner.Total.{allEntries};
+ghost use Rattle.positions.specs.inner.Packed.{Packed};
 
 mod packing;
 

@@ -3,13 +3,14 @@
 ghost use mathlib.Core.Path.{_≡_};
 ghost use Prim.Native.Nat.{_+_, _*_, _≤_};
 ghost use lib.ListN.{length};
-ghost use Rattle.verdict.specs.Checks.{firstFault, Sure};
+ghost use Rattle.verdict.specs.Checks.{firstFault};
+ghost use Rattle.verdict.specs.inner.Tells.{Sure};
 ghost use Rattle.verdict.specs.declared.Verdict.the-variants.{Accepted};
-ghost use Rattle.region.specs.Samples.{Mapped};
-ghost use Rattle.strings.specs.Begins.{AllBegun};
+ghost use Rattle.region.specs.inner.Samples.{Mapped};
+ghost use Rattle.strings.specs.inner.Begins.{AllBegun};
 ghost use Rattle.strings.specs.Order.{allEntryChecks};
-ghost use Rattle.strings.specs.Held.{Held, heldTable};
-ghost use Rattle.positions.specs.Packed.{Packed, begunIn, allBegun};
+ghost use Rattle.strings.specs.inner.Held.{Held, heldTable};
+ghost use Rattle.positions.specs.inner.Packed.{Packed, begunIn, allBegun};
 use region::Region;
 use strings::Strings;
 

@@ -9,9 +9,9 @@ use lib.ListN.{length, getD, set, replicate, length-set}
 use lib.Seq.{getD-set-same, getD-set-other}
 use Rattle.laws.proofs.Zeros.{zeros}
 use Rattle.nodes.specs.Rules.{TextRight}
-use Rattle.nodes.specs.Doubts.{doubtOf, Trusted, NoDoubt}
-use Rattle.prefetch.specs.Batch.{AllRight}
-use Rattle.prefetch.specs.Examined.{Kept, Examined}
+use Rattle.nodes.specs.inner.Doubts.{doubtOf, Trusted, NoDoubt}
+use Rattle.prefetch.specs.inner.Batch.{AllRight}
+use Rattle.prefetch.specs.inner.Examined.{Kept, Examined}
 
 -- what was trusted still is when more is doubted
 pub still : {b d d′ : List ℕ} {q : ℕ} → Kept d d′ → Trusted b d q → Trusted b d′ q

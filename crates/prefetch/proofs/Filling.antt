@@ -6,7 +6,7 @@ use mathlib.Core.List.{List}
 use borrow.Author.Count.{below-none}
 use lib.ListN.{length, getD, set, length-set}
 use Rattle.strings.proofs.Filling.{fill, fill-both}
-use Rattle.prefetch.specs.Batch.{TextSpot, Fits, AllSpots, AllFit, AllSeen}
+use Rattle.prefetch.specs.inner.Batch.{TextSpot, Fits, AllSpots, AllFit, AllSeen}
 use Rattle.le.specs.Le.{u16At}
 
 pub spots-none : {b : List ℕ} {r : ℕ} {slots at left : List ℕ} → AllSpots b r slots 0 at left

@@ -11,7 +11,7 @@ use Rattle.le.specs.Le.{u16At, u32At}
 use Rattle.words.specs.Words.{extendedOf}
 use Rattle.hash.specs.Fold.{valueHash}
 use Rattle.region.specs.Region.{Laid, countOf, startOf, usedOf, placeOf}
-use Rattle.region.specs.Samples.{Mapped}
+use Rattle.region.specs.inner.Samples.{Mapped}
 use Rattle.region.specs.declared.Region.{Region}
 use Rattle.region.proofs.Samples.{segment-fits, start-more, used-at}
 use Rattle.text.specs.Text.{textIn}
@@ -23,18 +23,19 @@ use Rattle.strings.specs.declared.spot.Spot.{Spot}
 use Rattle.strings.specs.declared.spot.Spot.the-variants.{At}
 use Rattle.strings.proofs.Spots.{spot-in, spot-text}
 use Rattle.strings.proofs.Begun.{begins-first, begins-behind}
-use Rattle.positions.specs.Packed.{Packed}
+use Rattle.positions.specs.inner.Packed.{Packed}
 use Rattle.nodes.specs.Attribute.{typeWord, textSegment, textElement}
 use Rattle.strings.specs.Rules.{EntryAddress}
-use Rattle.nodes.specs.Doubts.{Trusted, AllTrusted}
-use Rattle.prefetch.specs.Examined.{Kept}
+use Rattle.nodes.specs.inner.Doubts.{Trusted, AllTrusted}
+use Rattle.prefetch.specs.inner.Examined.{Kept}
 use Rattle.prefetch.proofs.Doubting.{still}
-use Rattle.verdict.specs.Checks.{Sure, SomeBelow}
+use Rattle.verdict.specs.Checks.{SomeBelow}
+use Rattle.verdict.specs.inner.Tells.{Sure}
 use Rattle.nodes.proofs.Addresses.{spot-fits, address-of}
 use Rattle.le.proofs.Numbers.{Bytes}
-use Rattle.search.specs.Run.{wordOf}
+use Rattle.search.specs.inner.Run.{wordOf}
 use Rattle.nodes.proofs.Fields.{extended-is}
-use Rattle.prefetch.specs.Batch.{TextSpot, Fits, Behind, AllSpots, AllBehind, AllHashed, AllFound, AllRight}
+use Rattle.prefetch.specs.inner.Batch.{TextSpot, Fits, Behind, AllSpots, AllBehind, AllHashed, AllFound, AllRight}
 
 -- an entry in one bucket has the address of the attribute's text
 pub entry-in : (b : List ℕ) → Bytes b → (q : ℕ) (t : Table) → t .bytes ≡ b → (k w : ℕ) → k < t .buckets → w ≡ u32At b (q + 4)

@@ -13,8 +13,8 @@ use Rattle.verdict.specs.Checks.{SomeBelow}
 use Rattle.words.specs.Words.{typeOf}
 use Rattle.nodes.specs.Attribute.{typeWord}
 use Rattle.nodes.specs.Rules.{TextRight}
-use Rattle.nodes.specs.Doubts.{doubtOf, Trusted}
-use Rattle.prefetch.specs.Slots.{Each, Slotted}
+use Rattle.nodes.specs.inner.Doubts.{doubtOf, Trusted}
+use Rattle.prefetch.specs.inner.Slots.{Each, Slotted}
 
 below : (i e : ℕ) → (i ≡ e → ⊥) → i < e + 1 → i < e
 below i e y d = omega arith

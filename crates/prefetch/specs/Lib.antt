@@ -1,3 +1,1 @@
-pub mod Slots
-pub mod Batch
-pub mod Examined
+pub mod inner

@@ -2,7 +2,7 @@
 ghost use mathlib.Core.Path.{_≡_};
 ghost use Prim.Native.Nat.{_+_, _*_, _≤_, _<_, _^_};
 ghost use lib.ListN.{length};
-ghost use Rattle.prefetch.specs.Slots.{TakenFrom};
+ghost use Rattle.prefetch.specs.inner.Slots.{TakenFrom};
 
 // How many slots are taken, and the element to go on with.
 pub struct Taken {

@@ -8,7 +8,7 @@ use native.Mathlib.Nat.{not-suc-le-zero, le-of-suc-le-suc, suc-add, add-zero, ze
 use native.Mathlib.Omega.{arith}
 use lib.ListN.{length, drop, set, length-append}
 use Rattle.laws.proofs.Order.{le-or-lt}
-use Rattle.print.specs.Put.{overlay, sat, Put}
+use Rattle.print.specs.inner.Put.{overlay, sat, Put}
 
 abbrev pub top : ℕ
 top = 18446744073709551615

@@ -1,7 +1,7 @@
 // Bytes as they are.
 ghost use mathlib.Core.List.{_∷_, []};
 ghost use lib.ListN.{replicate};
-ghost use Rattle.print.specs.Put.{Put};
+ghost use Rattle.print.specs.inner.Put.{Put};
 
 // One byte; answers the next place, which stops at the largest number.
 pub fn put(out: &mut [u8], at: usize, c: u8) -> usize

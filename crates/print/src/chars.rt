@@ -1,7 +1,7 @@
 // Characters.
 ghost use mathlib.Core.Path.{_≡_};
 ghost use Prim.Native.Nat.{_<_};
-ghost use Rattle.print.specs.Put.{Put};
+ghost use Rattle.print.specs.inner.Put.{Put};
 ghost use Rattle.print.specs.Text.{plain, escape};
 use crate::bytes::put;
 use crate::numbers::put_hex;

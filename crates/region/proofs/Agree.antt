@@ -11,7 +11,7 @@ use Rattle.laws.proofs.Order.{le-or-lt}
 use Rattle.le.specs.Le.{u32At}
 use Rattle.le.proofs.Agree.{Agree, Off, u32-same}
 use Rattle.region.specs.Region.{countOf, startOf, fullOf, usedOf, endOf, beforeOf, totalOf, placeOf, Resolves, Ranges, Reaches, Laid, usedFrom, allUsed}
-use Rattle.region.specs.Samples.{Mapped, Starts, Counts}
+use Rattle.region.specs.inner.Samples.{Mapped, Starts, Counts}
 use Rattle.region.specs.declared.Region.{Region}
 use Rattle.region.proofs.Laws.{start-next}
 

@@ -1,4 +1,4 @@
--- Laws of specs/Samples.antt. Assumes nothing.
+-- Laws of specs/inner/Samples.antt. Assumes nothing.
 use Prim.Native.Nat.{ℕ, zero, suc, _+_, _-_, _*_, _/_, _%_, _^_, _≤_, _<_}
 use native.Mathlib.Nat.{mul-mod-left, div-add-mod', mul-div-cancel, div-lt-iff-lt-mul, mod-le, mul-le-mul, not-suc-le-zero, lt-of-le-of-lt, pow-suc, pow-le-pow-right}
 use native.Mathlib.Numerals.{add-one}
@@ -13,7 +13,7 @@ use lib.Dec.{lit<}
 use lib.Pow.{pow-pos}
 use Rattle.le.specs.Le.{u32At}
 use Rattle.region.specs.Region.{startOf, fullOf, usedOf, beforeOf, placeOf}
-use Rattle.region.specs.Samples.{Sampled, Stride, Mapped}
+use Rattle.region.specs.inner.Samples.{Sampled, Stride, Mapped}
 use Rattle.region.specs.declared.Region.{Region}
 use Rattle.laws.proofs.Order.{le-or-lt}
 use Rattle.region.proofs.Laws.{start-next, before-next, before-low}

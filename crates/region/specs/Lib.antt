@@ -1,4 +1,4 @@
 pub mod Region
 pub mod Checks
-pub mod Samples
 pub mod Decisions
+pub mod inner

@@ -4,10 +4,10 @@ ghost use Prim.Native.Nat.{_+_, _*_, _≤_, _<_, _^_};
 ghost use lib.ListN.{length};
 ghost use Rattle.le.specs.Le.{u32At};
 ghost use Rattle.verdict.specs.Checks.{firstFault};
-ghost use Rattle.verdict.specs.Scans.{scanned};
+ghost use Rattle.verdict.specs.inner.Scans.{scanned};
 ghost use Rattle.region.specs.Region.{Laid, startOf, endOf, totalOf, rangeAt, numberOf};
 ghost use Rattle.region.specs.Checks.{segmentChecks, regionChecks};
-ghost use Rattle.region.specs.Samples.{Mapped, Starts, Counts};
+ghost use Rattle.region.specs.inner.Samples.{Mapped, Starts, Counts};
 use verdict::Scan;
 
 // A region of the file: its offset, its segment count, and how its samples are spaced.

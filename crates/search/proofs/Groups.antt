@@ -9,10 +9,10 @@ use Rattle.hash.specs.Hash.{bucketOf}
 use Rattle.layout.specs.Table.{Table, bucketAt, listAt}
 use Rattle.layout.proofs.Laws.{bucket-order}
 use Rattle.strings.proofs.Filling.{fill}
-use Rattle.strings.specs.Held.{Held, heldTable}
+use Rattle.strings.specs.inner.Held.{Held, heldTable}
 use Rattle.strings.specs.declared.Strings.{Strings}
-use Rattle.search.specs.Lower.{Lower}
-use Rattle.search.specs.Group.{AllLow, Within, Aimed}
+use Rattle.search.specs.inner.Lower.{Lower}
+use Rattle.search.specs.inner.Group.{AllLow, Within, Aimed}
 
 -- ---- where the buckets stand
 

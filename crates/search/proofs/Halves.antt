@@ -7,7 +7,7 @@ use borrow.Author.Count.{below-none}
 use Rattle.verdict.proofs.Laws.{Clean}
 use Rattle.layout.specs.Table.{Table, entries, hashOf}
 use Rattle.strings.specs.Order.{allEntryChecks}
-use Rattle.search.specs.Lower.{Lower}
+use Rattle.search.specs.inner.Lower.{Lower}
 use Rattle.strings.proofs.Only.{rises}
 
 -- hashes below lo are below h, from hi on they are not

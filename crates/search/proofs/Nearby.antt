@@ -11,7 +11,7 @@ use Rattle.layout.specs.Table.{Table, entries, hashOf}
 use Rattle.strings.specs.Texts.{textOf}
 use Rattle.strings.specs.Order.{allEntryChecks}
 use Rattle.strings.proofs.Only.{rises, hash-of}
-use Rattle.search.specs.Lower.{Lower, Below, Capped, Settled}
+use Rattle.search.specs.inner.Lower.{Lower, Below, Capped, Settled}
 
 -- in a bucket by another name
 pub lower-in : {t : Table} {k m h r : ℕ} → k ≡ m → Lower t k h r → Lower t m h r

@@ -11,8 +11,8 @@ use Rattle.le.specs.Le.{u32At}
 use Rattle.layout.specs.Table.{Table, entries, entryAt, hashOf}
 use Rattle.strings.specs.Order.{allEntryChecks}
 use Rattle.strings.proofs.Only.{rises}
-use Rattle.search.specs.Lower.{Lower}
-use Rattle.search.specs.Run.{wordOf, Meets}
+use Rattle.search.specs.inner.Lower.{Lower}
+use Rattle.search.specs.inner.Run.{wordOf, Meets}
 
 -- a field, by where its entry stands
 pub word-at : (t : Table) (k j field e x : ℕ) → e ≡ entryAt t k j → x ≡ u32At (t .bytes) (e + field) → x ≡ wordOf t k j field

@@ -1,3 +1,1 @@
-pub mod Lower
-pub mod Run
-pub mod Group
+pub mod inner

@@ -7,8 +7,8 @@ ghost use Rattle.verdict.specs.Checks.{firstFault};
 ghost use Rattle.verdict.specs.declared.Verdict.the-variants.{Accepted};
 ghost use Rattle.layout.specs.Table.{entries};
 ghost use Rattle.strings.specs.Order.{allEntryChecks};
-ghost use Rattle.strings.specs.Held.{Held, heldTable};
-ghost use Rattle.search.specs.Lower.{Lower};
+ghost use Rattle.strings.specs.inner.Held.{Held, heldTable};
+ghost use Rattle.search.specs.inner.Lower.{Lower};
 
 pub mod group;
 mod near;

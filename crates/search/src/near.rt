@@ -2,12 +2,13 @@
 ghost use mathlib.Core.Path.{_≡_};
 ghost use Prim.Native.Nat.{_+_, _≤_, _<_};
 ghost use lib.ListN.{length};
-ghost use Rattle.verdict.specs.Checks.{firstFault, Tells};
+ghost use Rattle.verdict.specs.Checks.{firstFault};
+ghost use Rattle.verdict.specs.inner.Tells.{Tells};
 ghost use Rattle.verdict.specs.declared.Verdict.the-variants.{Accepted};
 ghost use Rattle.layout.specs.Table.{entries};
 ghost use Rattle.strings.specs.Order.{allEntryChecks};
-ghost use Rattle.strings.specs.Held.{Held, heldTable};
-ghost use Rattle.search.specs.Lower.{Lower, Below, Capped, Settled};
+ghost use Rattle.strings.specs.inner.Held.{Held, heldTable};
+ghost use Rattle.search.specs.inner.Lower.{Lower, Below, Capped, Settled};
 use strings::Strings;
 use strings::entry;
 

@@ -5,9 +5,9 @@ ghost use lib.ListN.{length};
 ghost use Rattle.verdict.specs.Checks.{firstFault};
 ghost use Rattle.verdict.specs.declared.Verdict.the-variants.{Accepted};
 ghost use Rattle.strings.specs.Order.{allEntryChecks};
-ghost use Rattle.strings.specs.Held.{Held, heldTable};
-ghost use Rattle.search.specs.Lower.{Lower};
-ghost use Rattle.search.specs.Run.{Meets};
+ghost use Rattle.strings.specs.inner.Held.{Held, heldTable};
+ghost use Rattle.search.specs.inner.Lower.{Lower};
+ghost use Rattle.search.specs.inner.Run.{Meets};
 use strings::Strings;
 use strings::entry;
 

@@ -9,7 +9,7 @@ use Rattle.verdict.specs.declared.Verdict.the-variants.{Accepted}
 use Rattle.verdict.proofs.Laws.{Clean, pass, clean-inv, fault-none, fault-append, append-inv, each-inv, each-clean}
 use Rattle.layout.specs.Table.{Table, entries, hashOf, count}
 use Rattle.strings.specs.Rules.{Resolved, Sized, Hashed, Placed, Indexed, Twin, Carried, TableRules}
-use Rattle.strings.specs.Held.{TextRight}
+use Rattle.strings.specs.inner.Held.{TextRight}
 use Rattle.strings.specs.Order.{entryChecks, bucketEntryChecks, allEntryChecks, positionChecks, allPositionChecks, stringChecks}
 
 -- an entry's six checks hold

@@ -1,4 +1,4 @@
--- Laws of specs/Begins.antt: what the code reads to tell that a text can begin. Assumes nothing.
+-- Laws of specs/inner/Begins.antt: what the code reads to tell that a text can begin. Assumes nothing.
 use Prim.Native.Nat.{ℕ, zero, suc, _+_, _-_, _%_, _<_, _≤_}
 use native.Mathlib.Omega.{arith}
 use mathlib.Core.Path.{_≡_, refl, ap, sym, _∙_}
@@ -10,8 +10,8 @@ use Rattle.verdict.proofs.Laws.{Clean}
 use Rattle.le.specs.Le.{u16At}
 use Rattle.region.specs.Region.{placeOf}
 use Rattle.layout.specs.Table.{Table, entries, elementOf}
-use Rattle.strings.specs.Begins.{begins, Begun, AllBegun}
-use Rattle.strings.specs.Ahead.{Glanced}
+use Rattle.strings.specs.inner.Begins.{begins, Begun, AllBegun}
+use Rattle.strings.specs.inner.Ahead.{Glanced}
 use Rattle.strings.specs.Order.{entryChecks}
 use Rattle.strings.proofs.Spots.{spot-in}
 use Rattle.strings.proofs.Accepted.{entry-good}

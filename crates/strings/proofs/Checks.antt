@@ -6,18 +6,19 @@ use mathlib.Core.Path.{_≡_, ap, sym, _∙_}
 use mathlib.Core.Bool.{true, false}
 use lib.ListN.{length}
 use lib.Dec.{eqb, leb}
-use Rattle.verdict.specs.Checks.{firstFault, Tells}
+use Rattle.verdict.specs.Checks.{firstFault}
+use Rattle.verdict.specs.inner.Tells.{Tells}
 use Rattle.verdict.specs.declared.Verdict.{Verdict}
 use Rattle.verdict.specs.declared.Verdict.the-variants.{Accepted, Refused}
 use Rattle.verdict.proofs.Laws.{pass, stop, tells-yes, tells-no, tells-eqb, tells-leb}
 use Rattle.hash.specs.Hash.{hashText, bucketOf}
-use Rattle.text.specs.Measure.{Measured}
+use Rattle.text.specs.inner.Measure.{Measured}
 use Rattle.text.specs.declared.Extent.{Extent}
 use Rattle.text.proofs.Laws.{text-length-le}
 use Rattle.layout.specs.Table.{Table, entryAt, hashOf, lengthOf, indexOf, segmentOf, elementOf, count, listedSegment, listedElement}
 use Rattle.strings.specs.Texts.{textOf}
 use Rattle.strings.specs.Rules.{Resolved, Sized, Hashed, Placed, Indexed, Twin}
-use Rattle.strings.specs.Held.{TextRight}
+use Rattle.strings.specs.inner.Held.{TextRight}
 use Rattle.strings.specs.Order.{entryChecks}
 use Rattle.strings.proofs.Accepted.{entry-clean}
 use Rattle.strings.proofs.Spots.{Spotted}

@@ -1,4 +1,4 @@
--- Entries whose texts are known to differ (specs/Apart.antt). Assumes nothing.
+-- Entries whose texts are known to differ (specs/inner/Apart.antt). Assumes nothing.
 use Prim.Native.Nat.{ℕ, _+_, _-_, _≤_, _<_, _^_}
 use native.Mathlib.Omega.{arith}
 use mathlib.Core.Path.{_≡_, ap, sym, subst, _∙_}
@@ -7,15 +7,15 @@ use mathlib.Core.Logic.{⊎-elim}
 use mathlib.Core.List.{List}
 use lib.ListN.{length}
 use Rattle.laws.proofs.Order.{le-or-lt}
-use Rattle.verdict.specs.Checks.{Tells}
-use Rattle.multimap.specs.Multimap.{numberAt, Filled, LastWith, PutBehind}
+use Rattle.verdict.specs.inner.Tells.{Tells}
+use Rattle.multimap.specs.inner.Multimap.{numberAt, Filled, LastWith, PutBehind}
 use Rattle.text.specs.Text.{chars, textIn}
-use Rattle.text.specs.Fingerprint.{fingerprintOf}
+use Rattle.text.specs.inner.Fingerprint.{fingerprintOf}
 use Rattle.text.proofs.Laws.{text-chars, text-length-le}
 use Rattle.layout.specs.Table.{Table, lengthOf, segmentOf, elementOf}
 use Rattle.strings.specs.Texts.{textOf}
-use Rattle.strings.specs.Held.{TextRight, Sorted}
-use Rattle.strings.specs.Apart.{Differ, Compared, Away, Apart, Fingerprinted, Collected, Met, Sifted, Clear, AwayWithin}
+use Rattle.strings.specs.inner.Held.{TextRight, Sorted}
+use Rattle.strings.specs.inner.Apart.{Differ, Compared, Away, Apart, Fingerprinted, Collected, Met, Sifted, Clear, AwayWithin}
 use Rattle.strings.proofs.Spots.{Spotted}
 use Rattle.strings.proofs.Runs.{Alone}
 

@@ -1,4 +1,4 @@
--- What is read ahead of an entry (specs/Ahead.antt), and what it tells of the entry's text. Assumes nothing.
+-- What is read ahead of an entry (specs/inner/Ahead.antt), and what it tells of the entry's text. Assumes nothing.
 use Prim.Native.Nat.{ℕ, _+_, _-_, _%_, _<_, _≤_}
 use native.Mathlib.Omega.{arith}
 use mathlib.Core.Path.{_≡_, refl, sym, subst}
@@ -9,7 +9,7 @@ use Rattle.region.specs.Region.{Laid}
 use Rattle.layout.specs.Table.{Table, entries, segmentOf, elementOf}
 use Rattle.strings.specs.Texts.{spotAt}
 use Rattle.strings.specs.Rules.{Resolved}
-use Rattle.strings.specs.Ahead.{Standing, Seen, Glanced, Stood, SeenBefore, Room, ReadAhead, Ahead}
+use Rattle.strings.specs.inner.Ahead.{Standing, Seen, Glanced, Stood, SeenBefore, Room, ReadAhead, Ahead}
 use Rattle.strings.specs.declared.spot.Spot.the-variants.{At}
 use Rattle.strings.proofs.Filling.{fill, fill-both}
 use Rattle.strings.proofs.Spots.{Spotted, spot-text}

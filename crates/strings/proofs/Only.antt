@@ -11,7 +11,7 @@ use Rattle.verdict.proofs.Laws.{Clean}
 use Rattle.hash.specs.Hash.{hashText, bucketOf}
 use Rattle.layout.specs.Table.{Table, entries, hashOf, indexOf, segmentOf, elementOf, listedSegment, listedElement}
 use Rattle.strings.specs.Texts.{textTo, textOf, listedText}
-use Rattle.strings.specs.Held.{Sorted}
+use Rattle.strings.specs.inner.Held.{Sorted}
 use Rattle.strings.specs.Order.{allEntryChecks}
 use Rattle.strings.proofs.Accepted.{all-good, good-text}
 use Rattle.strings.proofs.Runs.{up}

@@ -1,4 +1,4 @@
--- What the code holds of a table (specs/Held.antt): its entries and list positions lie in the file. Assumes nothing.
+-- What the code holds of a table (specs/inner/Held.antt): its entries and list positions lie in the file. Assumes nothing.
 use Prim.Native.Nat.{ℕ, _+_, _-_, _*_, _≤_, _<_}
 use native.Mathlib.Omega.{arith}
 use mathlib.Core.Path.{_≡_, refl, ap, _∙_}
@@ -7,7 +7,7 @@ use lib.ListN.{length, getD}
 use Rattle.le.specs.Le.{u16At, u32At}
 use Rattle.layout.specs.Table.{Table, bucketAt, entries, entryAt, hashOf, lengthOf, indexOf, segmentOf, elementOf, count, positionAt, listedSegment, listedElement, listAt}
 use Rattle.layout.proofs.Laws.{bucket-next, bucket-fits, entry-fits, position-fits}
-use Rattle.strings.specs.Held.{Held, heldTable, Here}
+use Rattle.strings.specs.inner.Held.{Held, heldTable, Here}
 use Rattle.strings.specs.declared.Strings.{Strings}
 
 -- an entry in the file, by its bucket's start

@@ -11,7 +11,7 @@ use Rattle.hash.specs.Hash.{hashText}
 use Rattle.layout.specs.Table.{Table, hashOf, lengthOf}
 use Rattle.strings.specs.Texts.{textOf}
 use Rattle.strings.specs.Rules.{Placed, Twin}
-use Rattle.strings.specs.Held.{TextRight, Sorted}
+use Rattle.strings.specs.inner.Held.{TextRight, Sorted}
 use Rattle.strings.specs.Order.{entryChecks}
 use Rattle.strings.proofs.Accepted.{entry-good, good-text}
 

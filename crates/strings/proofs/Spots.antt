@@ -8,10 +8,10 @@ use mathlib.Core.List.{List}
 use lib.ListN.{length}
 use borrow.Author.Tests.{lt-ltb, le-ltb}
 use Rattle.laws.proofs.Order.{le-or-lt}
-use Rattle.verdict.specs.Checks.{Tells}
+use Rattle.verdict.specs.inner.Tells.{Tells}
 use Rattle.le.specs.Le.{u16At, u32At}
 use Rattle.region.specs.Region.{countOf, startOf, usedOf, placeOf, endOf, Resolves, Laid}
-use Rattle.region.specs.Samples.{Mapped}
+use Rattle.region.specs.inner.Samples.{Mapped}
 use Rattle.region.specs.Decisions.{resolves?}
 use Rattle.region.specs.declared.Region.{Region}
 use Rattle.text.specs.Text.{roomAt, textIn, textAt}

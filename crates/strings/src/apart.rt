@@ -4,10 +4,10 @@
 ghost use mathlib.Core.Path.{_≡_};
 ghost use Prim.Native.Nat.{_+_, _≤_, _<_};
 ghost use lib.ListN.{length};
-ghost use Rattle.multimap.specs.Multimap.{Filled};
+ghost use Rattle.multimap.specs.inner.Multimap.{Filled};
 ghost use Rattle.layout.specs.Table.{entries};
-ghost use Rattle.strings.specs.Held.{Held, heldTable, Here};
-ghost use Rattle.strings.specs.Apart.{Apart, Fingerprinted, Collected, Met, Sifted, Clear, AwayWithin};
+ghost use Rattle.strings.specs.inner.Held.{Held, heldTable, Here};
+ghost use Rattle.strings.specs.inner.Apart.{Apart, Fingerprinted, Collected, Met, Sifted, Clear, AwayWithin};
 use crate::Strings;
 use crate::ahead;
 use crate::entry;

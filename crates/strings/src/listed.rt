@@ -2,9 +2,9 @@
 // list stays near, where between texts it would be read from afar each time.
 ghost use Prim.Native.Nat.{_<_};
 ghost use lib.ListN.{length};
-ghost use Rattle.verdict.specs.Checks.{Sure};
-ghost use Rattle.strings.specs.Held.{Held, heldTable};
-ghost use Rattle.strings.specs.Ahead.{BucketIndexed, AllIndexed};
+ghost use Rattle.verdict.specs.inner.Tells.{Sure};
+ghost use Rattle.strings.specs.inner.Held.{Held, heldTable};
+ghost use Rattle.strings.specs.inner.Ahead.{BucketIndexed, AllIndexed};
 use crate::Strings;
 use crate::entry;
 

@@ -3,7 +3,7 @@ ghost use mathlib.Core.Path.{_≡_};
 ghost use Prim.Native.Nat.{_+_, _≤_, _<_};
 ghost use lib.ListN.{length};
 ghost use Rattle.le.specs.Le.{u16At};
-ghost use Rattle.region.specs.Samples.{Mapped, Starts};
+ghost use Rattle.region.specs.inner.Samples.{Mapped, Starts};
 ghost use Rattle.strings.specs.Texts.{spotAt};
 use region::Region;
 

@@ -1,13 +1,14 @@
 // All entries of a table.
 ghost use mathlib.Core.Path.{_≡_};
 ghost use mathlib.Core.Bool.{true};
-ghost use Rattle.verdict.specs.Checks.{firstFault, Sure};
+ghost use Rattle.verdict.specs.Checks.{firstFault};
+ghost use Rattle.verdict.specs.inner.Tells.{Sure};
 ghost use Rattle.verdict.specs.declared.Verdict.the-variants.{Accepted};
-ghost use Rattle.hash.specs.Table.{Tables};
+ghost use Rattle.hash.specs.inner.Tables.{Tables};
 ghost use Rattle.strings.specs.Order.{entryChecks, allEntryChecks};
-ghost use Rattle.strings.specs.Begins.{Begun, AllBegun};
-ghost use Rattle.strings.specs.Ahead.{Glanced};
-ghost use Rattle.strings.specs.Held.{Held, heldTable, Here};
+ghost use Rattle.strings.specs.inner.Begins.{Begun, AllBegun};
+ghost use Rattle.strings.specs.inner.Ahead.{Glanced};
+ghost use Rattle.strings.specs.inner.Held.{Held, heldTable, Here};
 use crate::Strings;
 use crate::ahead;
 use crate::ahead::Glance;

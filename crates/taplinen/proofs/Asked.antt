@@ -4,20 +4,20 @@ use mathlib.Core.List.{List}
 use Prim.Native.Nat.{ℕ}
 use lib.ListN.{length}
 use Rattle.verdict.specs.declared.Verdict.the-variants.{Accepted}
-use Rattle.hash.specs.Table.{Tables}
+use Rattle.hash.specs.inner.Tables.{Tables}
 use Rattle.layout.specs.Layout.{names}
-use Rattle.layout.specs.View.{Fits}
-use Rattle.strings.specs.Held.{Held, heldTable}
+use Rattle.layout.specs.inner.View.{Fits}
+use Rattle.strings.specs.inner.Held.{Held, heldTable}
 use Rattle.nodes.proofs.Accepted.{nodes-iff}
-use Rattle.tree.specs.Outcome.{TreeReady}
+use Rattle.tree.specs.inner.Marking.{TreeReady}
 use Rattle.accept.specs.Verdict.{verdictOf}
 use Rattle.accept.specs.Rules.{FileRules}
-use Rattle.accept.specs.Held.{nameStrings}
-use Rattle.accept.specs.Accepted.{Judged}
+use Rattle.accept.specs.inner.Held.{nameStrings}
+use Rattle.accept.specs.inner.Accepted.{Judged}
 use Rattle.accept.specs.declared.Acceptance.{Acceptance}
 use Rattle.accept.proofs.Accepted.{accepted-iff}
 use Rattle.accept.proofs.Held.{names-table, names-held, tree-ready}
-use Rattle.outline.specs.Ready.{OutlineReady}
+use Rattle.outline.specs.inner.Ready.{OutlineReady}
 use Rattle.outline.proofs.Rules.{outline-ready}
 
 module _ {b ws : List ℕ} {a : Acceptance} (j : Judged b ws a) (e : a .answer ≡ Accepted) where

@@ -9,7 +9,7 @@ use Rattle.verdict.specs.declared.Verdict.the-variants.{Accepted, Refused}
 use Rattle.verdict.proofs.Laws.{never, fault-append, fault-keep}
 use Rattle.tree.specs.Outcome.{workspaceAfter}
 use Rattle.accept.specs.Verdict.{acceptChecks, verdictOf}
-use Rattle.accept.specs.Accepted.{Judged}
+use Rattle.accept.specs.inner.Accepted.{Judged}
 use Rattle.accept.specs.declared.Acceptance.{Acceptance}
 use Rattle.taplinen.specs.Answers.{answered}
 use Rattle.taplinen.specs.Questions.{workspaceLeft}

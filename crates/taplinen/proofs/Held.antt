@@ -5,11 +5,11 @@ use mathlib.Core.Path.{_≡_, refl, sym, ap, _∙_}
 use mathlib.Core.List.{List}
 use lib.ListN.{length}
 use Rattle.verdict.specs.declared.Verdict.the-variants.{Accepted}
-use Rattle.layout.specs.View.{Fits}
+use Rattle.layout.specs.inner.View.{Fits}
 use Rattle.layout.specs.declared.View.{View}
 use Rattle.layout.specs.Table.{Table}
-use Rattle.strings.specs.Held.{heldTable}
-use Rattle.nodes.specs.Held.{valueStrings}
+use Rattle.strings.specs.inner.Held.{heldTable}
+use Rattle.nodes.specs.inner.Held.{valueStrings}
 use Rattle.lookup.specs.Lookup.{textFrom}
 use Rattle.lookup.specs.Asked.{textChecks}
 use Rattle.lookup.specs.Kinds.{toldIn, tableOf, kindOf, numberOf}
@@ -17,16 +17,16 @@ use Rattle.lookup.specs.declared.Kind.{Kind}
 use Rattle.lookup.specs.declared.Kind.the-variants.{Name, Value}
 use Rattle.lookup.specs.declared.Lookup.{Lookup}
 use Rattle.path.specs.Listing.{listingAfter}
-use Rattle.path.specs.Answer.{PathListed}
+use Rattle.path.specs.inner.Answer.{PathListed}
 use Rattle.path.specs.declared.listing.Listing.{Listing}
 use Rattle.batch.specs.Places.{answersAfter}
-use Rattle.batch.specs.Answer.{Answered}
+use Rattle.batch.specs.inner.Answer.{Answered}
 use Rattle.batch.specs.declared.Batch.{Batch}
 use Rattle.outline.specs.Outlined.{outlineAfter}
-use Rattle.outline.specs.Answer.{OutlineWritten}
+use Rattle.outline.specs.inner.Answer.{OutlineWritten}
 use Rattle.outline.specs.declared.Outlined.{Outlined}
 use Rattle.accept.specs.Verdict.{verdictOf}
-use Rattle.accept.specs.Held.{nameStrings}
+use Rattle.accept.specs.inner.Held.{nameStrings}
 use Rattle.taplinen.specs.Answers.{answered}
 use Rattle.taplinen.specs.Questions.{textVerdict, textAnswer, nameAnswer, valueAnswer, pathVerdict, pathAnswer, pathListing, outlineVerdict, outlineAnswer, outlineBuffer}
 use Rattle.taplinen.specs.Batches.{batchVerdict, batchAnswer, batchPlaces, namePlaces, valuePlaces}

@@ -7,19 +7,19 @@ use Rattle.verdict.specs.declared.Verdict.{Verdict}
 use Rattle.verdict.specs.declared.Verdict.the-variants.{Accepted}
 use Rattle.layout.specs.Table.{Table}
 use Rattle.layout.specs.Layout.{values, names}
-use Rattle.layout.specs.View.{Fits}
+use Rattle.layout.specs.inner.View.{Fits}
 use Rattle.layout.specs.declared.View.{View}
-use Rattle.strings.specs.Held.{heldTable}
+use Rattle.strings.specs.inner.Held.{heldTable}
 use Rattle.strings.specs.Order.{stringChecks}
 use Rattle.strings.proofs.Accepted.{strings-iff}
-use Rattle.nodes.specs.Held.{valueStrings}
+use Rattle.nodes.specs.inner.Held.{valueStrings}
 use Rattle.lookup.specs.Kinds.{toldIn, tableOf}
 use Rattle.lookup.specs.declared.Kind.{Kind}
 use Rattle.lookup.specs.declared.Kind.the-variants.{Name, Value}
 use Rattle.lookup.specs.declared.Lookup.{Lookup}
 use Rattle.batch.specs.Places.{answersAfter}
 use Rattle.accept.specs.Rules.{FileRules}
-use Rattle.accept.specs.Held.{nameStrings}
+use Rattle.accept.specs.inner.Held.{nameStrings}
 use Rattle.accept.proofs.Held.{values-table, names-table}
 
 module _ (b : List ℕ) (v : View) (f : Fits b v) where

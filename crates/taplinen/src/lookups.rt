@@ -3,11 +3,11 @@
 ghost use mathlib.Core.Path.{_≡_};
 ghost use Prim.Native.Nat.{_%_};
 ghost use lib.ListN.{length};
-ghost use Rattle.layout.specs.View.{Fits};
+ghost use Rattle.layout.specs.inner.View.{Fits};
 ghost use Rattle.lookup.specs.Lookup.{textFrom};
 ghost use Rattle.lookup.specs.Kinds.{toldIn, tableOf};
 ghost use Rattle.batch.specs.Places.{answersAfter};
-ghost use Rattle.batch.specs.Answer.{Answered};
+ghost use Rattle.batch.specs.inner.Answer.{Answered};
 ghost use Rattle.accept.specs.Rules.{FileRules};
 use batch::Batch;
 use layout::View;

@@ -8,7 +8,8 @@ use lib.ListN.{length, getD, drop}
 use lib.Seq.{drop-cons}
 use Rattle.le.specs.Le.{u16At}
 use Rattle.hash.specs.Hash.{hashByte, hashChar, hashBytes, hashOn}
-use Rattle.hash.specs.Fold.{folded, FoldedPair, foldText, valueHashOf}
+use Rattle.hash.specs.Fold.{folded, foldText, valueHashOf}
+use Rattle.hash.specs.inner.Folded.{FoldedPair}
 use Rattle.text.specs.Text.{chars}
 use Rattle.text.proofs.Walk.{charsFrom, chars-start, chars-over, chars-next, chars-rest, hash-end, hash-next}
 use Rattle.text.proofs.Passed.{fold-end, fold-next}

@@ -7,7 +7,7 @@ use mathlib.Core.Bool.{Bool, cond}
 use mathlib.Core.List.{List}
 use borrow.Author.Tests.{eq-eqb, ne-eqb}
 use Rattle.le.specs.Le.{u16At}
-use Rattle.text.specs.Zeros.{zerosIn}
+use Rattle.text.specs.inner.Zeros.{zerosIn}
 
 module _ (b : List ℕ) (p : ℕ) where
   pub zeros-none : zerosIn b p 0 ≡ 0

@@ -8,7 +8,7 @@ use Rattle.hash.specs.Hash.{hashChar, hashOn}
 use Rattle.hash.specs.Fold.{folded, foldText, valueHashOf}
 use Rattle.text.specs.declared.Extent.{Extent}
 use Rattle.text.specs.Text.{textIn}
-use Rattle.text.specs.Measure.{MeasuredOn, ValueRun}
+use Rattle.text.specs.inner.Measure.{MeasuredOn, ValueRun}
 use Rattle.text.proofs.Walk.{textFrom, text-start, text-rest, text-over, hash-end, hash-next}
 
 pub fold-end : (xs : List ℕ) → xs ≡ [] → foldText xs ≡ []

@@ -10,7 +10,7 @@ use Rattle.hash.specs.Hash.{hashOn, hashText}
 use Rattle.hash.specs.Fold.{foldText, valueHashOf, valueHash}
 use Rattle.hash.proofs.Parts.{hash-laws}
 use Rattle.text.specs.Text.{chars, upToZero, textIn}
-use Rattle.text.specs.Measure.{ValueRun}
+use Rattle.text.specs.inner.Measure.{ValueRun}
 use Rattle.text.proofs.Laws.{up-stop, up-more, text-none}
 
 -- characters up to a 0, where the first is one and where it is not

@@ -6,7 +6,7 @@ use mathlib.Core.List.{List, _∷_}
 use lib.ListN.{getD}
 use Rattle.le.specs.Le.{u16At, u32At}
 use Rattle.text.specs.Text.{chars}
-use Rattle.text.specs.Fingerprint.{stirred, fingerprintOn, fingerprintOf}
+use Rattle.text.specs.inner.Fingerprint.{stirred, fingerprintOn, fingerprintOf}
 use Rattle.text.proofs.Walk.{charsFrom, chars-start, chars-over, chars-next}
 use Rattle.text.proofs.Words.{two}
 

@@ -8,12 +8,12 @@ use native.Mathlib.Decide.{ℕ-discrete}
 use lib.Dec.{eqb}
 use lib.ListN.{getD}
 use Rattle.laws.proofs.Order.{le-or-lt}
-use Rattle.verdict.specs.Checks.{Tells}
+use Rattle.verdict.specs.inner.Tells.{Tells}
 use Rattle.verdict.proofs.Laws.{tells-eqb}
 use Rattle.le.specs.Le.{u16At}
 use Rattle.hash.specs.Hash.{hashChar, hashOn}
 use Rattle.text.specs.Text.{chars, upToZero, textIn}
-use Rattle.text.specs.Measure.{CharOrEnd}
+use Rattle.text.specs.inner.Measure.{CharOrEnd}
 use Rattle.text.proofs.Laws.{chars-none, chars-more, up-stop, up-more}
 
 -- what is left of n characters after i, and of the text in them

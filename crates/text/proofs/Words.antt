@@ -7,12 +7,13 @@ use lib.Bits.{bitAnd, and-mask}
 use lib.ListN.{getD}
 use Rattle.le.specs.Le.{u16At, u32At}
 use Rattle.hash.specs.Hash.{hashChar, hashOn}
-use Rattle.hash.specs.Fold.{folded, FoldedPair, valueHashOf}
+use Rattle.hash.specs.Fold.{folded, valueHashOf}
+use Rattle.hash.specs.inner.Folded.{FoldedPair}
 use Rattle.hash.proofs.Laws.{char-lt}
 use Rattle.hash.proofs.Halves.{fold-one}
 use Rattle.text.specs.declared.Extent.{Extent}
 use Rattle.text.specs.Text.{chars}
-use Rattle.text.specs.Measure.{MeasuredOn, ValueRun}
+use Rattle.text.specs.inner.Measure.{MeasuredOn, ValueRun}
 use Rattle.text.proofs.Laws.{chars-none, chars-more}
 use Rattle.text.proofs.Walk.{charsFrom, textFrom, chars-start, chars-rest, chars-next, text-shut, text-next, hash-end, hash-next}
 use Rattle.text.proofs.Passed.{Passed, PassedFolded, passed-next, folded-next, measured, value-met}

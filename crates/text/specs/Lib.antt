@@ -1,4 +1,2 @@
 pub mod Text
-pub mod Zeros
-pub mod Measure
-pub mod Fingerprint
+pub mod inner

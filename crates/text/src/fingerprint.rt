@@ -4,7 +4,7 @@ ghost use mathlib.Core.Path.{_≡_};
 ghost use Prim.Native.Nat.{_+_, _*_, _≤_, _<_, _^_};
 ghost use lib.ListN.{length};
 ghost use Rattle.text.specs.Text.{chars};
-ghost use Rattle.text.specs.Fingerprint.{stirred, fingerprintOf};
+ghost use Rattle.text.specs.inner.Fingerprint.{stirred, fingerprintOf};
 
 // Goes on from g with one character, or with two as one number.
 fn stir(g: usize, v: usize) -> usize

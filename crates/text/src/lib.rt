@@ -2,13 +2,13 @@
 ghost use mathlib.Core.Path.{_≡_};
 ghost use Prim.Native.Nat.{_+_, _*_, _≤_, _<_, _^_};
 ghost use lib.ListN.{length};
-ghost use Rattle.verdict.specs.Checks.{Tells};
-ghost use Rattle.hash.specs.Table.{Tables};
+ghost use Rattle.verdict.specs.inner.Tells.{Tells};
+ghost use Rattle.hash.specs.inner.Tables.{Tables};
 ghost use Rattle.hash.specs.Hash.{hashOn};
 ghost use Rattle.hash.specs.Fold.{foldText, valueHashOf};
 ghost use Rattle.text.specs.Text.{chars, textIn};
-ghost use Rattle.text.specs.Zeros.{zerosIn};
-ghost use Rattle.text.specs.Measure.{MeasuredOn, Measured, ValueRun, CharOrEnd};
+ghost use Rattle.text.specs.inner.Zeros.{zerosIn};
+ghost use Rattle.text.specs.inner.Measure.{MeasuredOn, Measured, ValueRun, CharOrEnd};
 
 pub mod fingerprint;
 pub mod parts;

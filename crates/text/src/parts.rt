@@ -2,7 +2,7 @@
 ghost use mathlib.Core.Path.{_≡_};
 ghost use Prim.Native.Nat.{_+_, _*_, _/_, _≤_, _<_, _^_};
 ghost use lib.ListN.{length, drop};
-ghost use Rattle.hash.specs.Table.{Tables};
+ghost use Rattle.hash.specs.inner.Tables.{Tables};
 ghost use Rattle.hash.specs.Hash.{hashBytes, hashOn};
 ghost use Rattle.hash.specs.Fold.{foldText, valueHash};
 ghost use Rattle.text.specs.Text.{chars};

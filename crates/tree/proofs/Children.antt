@@ -8,7 +8,7 @@ use borrow.Author.Tests.{eq-eqb, ne-eqb}
 use lib.ListN.{length}
 use Rattle.le.specs.Le.{u16At}
 use Rattle.region.specs.Region.{rangeAt}
-use Rattle.region.specs.Samples.{Mapped, Starts}
+use Rattle.region.specs.inner.Samples.{Mapped, Starts}
 use Rattle.region.specs.declared.Region.{Region}
 use Rattle.region.specs.declared.Place.the-variants.{At, Nowhere}
 use Rattle.region.proofs.Laws.{place-fits, range-at-in, range-at-out}
@@ -17,8 +17,8 @@ use Rattle.nodes.specs.Node.{nodeName, childField, childSegment, childElement, 
 use Rattle.nodes.specs.Rules.{NodesRules}
 use Rattle.nodes.proofs.Accepted.{nodes-iff}
 use Rattle.tree.specs.File.{nodeOf, Used, treeOf}
-use Rattle.tree.specs.Outcome.{TreeReady, Reached}
-use Rattle.tree.specs.Children.{Row, ChildrenOf}
+use Rattle.tree.specs.inner.Marking.{TreeReady, Reached}
+use Rattle.tree.specs.inner.Children.{Row, ChildrenOf}
 use Rattle.tree.specs.declared.ranges.Children.{Children}
 use Rattle.tree.proofs.Addresses.{child-used, child-place}
 

@@ -15,7 +15,7 @@ use Rattle.tree.specs.File.{nodeOf, treeOf}
 use Rattle.tree.specs.Rules.{FirstDeep}
 use Rattle.tree.specs.Chain.{firstOr}
 use Rattle.tree.specs.Order.{depthChecks}
-use Rattle.tree.specs.Outcome.{firstPlace}
+use Rattle.tree.specs.inner.Marking.{firstPlace}
 use Rattle.tree.proofs.Ranged.{not-cons, ranged-none, ranged-open}
 use Rattle.tree.proofs.Chains.{endsBelow, below-live, below-nameless, ends-none, ends-first}
 

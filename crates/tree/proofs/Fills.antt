@@ -5,7 +5,7 @@ use mathlib.Core.Path.{_≡_, sym, ap, _∙_}
 use mathlib.Core.List.{List, [], _∷_, _++_}
 use lib.ListN.{length, drop, take, getD, set, replicate, length-append, length-replicate, getD-replicate, replicate-append-replicate}
 use lib.Seq.{length-take-le, drop-append-add, drop-drop}
-use Rattle.laws.specs.Lists.{splice}
+use Rattle.laws.specs.inner.Lists.{splice}
 use Rattle.laws.proofs.Splice.{splice-length, splice-append, splice-in, set-splice}
 
 -- one byte more

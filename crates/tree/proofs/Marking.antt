@@ -7,7 +7,7 @@ use mathlib.Core.Logic.{_⊎_, inl, inr, ⊎-elim}
 use mathlib.Core.List.{List, [], _∷_, _++_}
 use lib.ListN.{length, drop, take, getD, replicate, length-replicate, take-append-drop}
 use lib.Seq.{ext-getD, length-take-le, getD-take, drop-at}
-use Rattle.laws.specs.Lists.{splice}
+use Rattle.laws.specs.inner.Lists.{splice}
 use Rattle.laws.proofs.Order.{le-or-lt}
 use Rattle.laws.proofs.Splice.{splice-nil, splice-length, splice-before, splice-after}
 use Rattle.region.specs.Region.{Resolves, Laid, countOf, usedOf, numberOf, allUsed}
@@ -18,7 +18,7 @@ use Rattle.tree.specs.Chain.{child}
 use Rattle.tree.specs.File.{address, nodeOf, Used, treeOf, usedNodes}
 use Rattle.tree.specs.Rules.{RangeRule}
 use Rattle.tree.specs.Marks.{InRange, IsChild, isChild?, markBy, marksOf, cleared, marked}
-use Rattle.tree.specs.Outcome.{Free, firstNumber}
+use Rattle.tree.specs.inner.Marking.{Free, firstNumber}
 use Rattle.tree.proofs.Fills.{fill-in, splice-drop}
 use Rattle.tree.proofs.Addresses.{address-of, small-element, used-of}
 use Rattle.tree.proofs.Numbers.{root-number, range-room, reached, child-number, number-child, at-child}

@@ -11,7 +11,7 @@ use Rattle.nodes.specs.Node.{childSegment, childElement, childCount}
 use Rattle.nodes.specs.Rules.{NodesRules}
 use Rattle.tree.specs.Chain.{child}
 use Rattle.tree.specs.File.{address, nodeOf, Used, treeOf, usedNodes}
-use Rattle.tree.specs.Outcome.{Reached, firstNumber}
+use Rattle.tree.specs.inner.Marking.{Reached, firstNumber}
 use Rattle.tree.proofs.Addresses.{small-element, range-of}
 
 -- number 0 is node 0:0

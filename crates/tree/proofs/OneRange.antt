@@ -7,17 +7,17 @@ use mathlib.Core.Logic.{⊎-elim}
 use mathlib.Core.List.{List}
 use lib.ListN.{length, replicate}
 use Rattle.le.specs.Le.{u16At}
-use Rattle.laws.specs.Lists.{splice}
+use Rattle.laws.specs.inner.Lists.{splice}
 use Rattle.laws.proofs.Splice.{splice-nil}
-use Rattle.verdict.specs.Checks.{Tells}
+use Rattle.verdict.specs.inner.Tells.{Tells}
 use Rattle.verdict.proofs.Laws.{tells-yes, tells-no}
 use Rattle.region.specs.Region.{countOf, numberOf}
-use Rattle.region.specs.Samples.{Mapped, Starts, Counts}
+use Rattle.region.specs.inner.Samples.{Mapped, Starts, Counts}
 use Rattle.region.specs.declared.Region.{Region}
 use Rattle.layout.specs.Layout.{nodeSize, nodesAt}
 use Rattle.nodes.specs.Node.{childSegment, childElement, childCount}
 use Rattle.tree.specs.File.{usedNodes}
-use Rattle.tree.specs.Outcome.{TreeReady, Free, Reached, firstNumber, MarkedOne}
+use Rattle.tree.specs.inner.Marking.{TreeReady, Free, Reached, firstNumber, MarkedOne}
 use Rattle.tree.proofs.Children.{own-region}
 use Rattle.tree.proofs.Numbers.{range-room}
 

@@ -4,7 +4,7 @@ use native.Mathlib.Omega.{arith}
 use mathlib.Core.Path.{_≡_, refl, sym, ap, _∙_}
 use mathlib.Core.List.{List}
 use lib.ListN.{length, drop, replicate}
-use Rattle.laws.specs.Lists.{splice}
+use Rattle.laws.specs.inner.Lists.{splice}
 use Rattle.verdict.specs.Checks.{firstFault}
 use Rattle.verdict.specs.declared.Verdict.{Verdict}
 use Rattle.verdict.specs.declared.Verdict.the-variants.{Accepted, Refused}
@@ -17,7 +17,8 @@ use Rattle.tree.specs.declared.depth.Found.the-variants.{At, Nothing}
 use Rattle.tree.specs.Chain.{ends}
 use Rattle.tree.specs.File.{nodeOf, treeOf, usedNodes}
 use Rattle.tree.specs.Order.{roomChecks, allRangeChecks, depthChecks}
-use Rattle.tree.specs.Outcome.{treeChecks, workspaceAfter, firstPlace}
+use Rattle.tree.specs.Outcome.{treeChecks, workspaceAfter}
+use Rattle.tree.specs.inner.Marking.{firstPlace}
 use Rattle.tree.proofs.Deepest.{depth-clean, depth-fault}
 use Rattle.tree.proofs.Marking.{clear-same, marked-rest}
 

@@ -6,7 +6,7 @@ use mathlib.Core.Bool.{Bool, true, false}
 use mathlib.Core.Logic.{_⊎_, inl, inr, ⊎-elim}
 use mathlib.Core.List.{List}
 use lib.ListN.{length, drop, replicate}
-use Rattle.laws.specs.Lists.{splice}
+use Rattle.laws.specs.inner.Lists.{splice}
 use Rattle.le.specs.Le.{u32At}
 use Rattle.verdict.specs.Checks.{firstFault}
 use Rattle.verdict.specs.declared.Verdict.{Verdict}
@@ -20,7 +20,8 @@ use Rattle.nodes.specs.Rules.{NodesRules}
 use Rattle.tree.specs.File.{address, nodeOf, treeOf, usedNodes}
 use Rattle.tree.specs.Order.{allRangeChecks}
 use Rattle.tree.specs.Marks.{marked}
-use Rattle.tree.specs.Outcome.{MarkedOne, workspaceAfter}
+use Rattle.tree.specs.Outcome.{workspaceAfter}
+use Rattle.tree.specs.inner.Marking.{MarkedOne}
 use Rattle.tree.proofs.Addresses.{node-of, small-element, used-of}
 use Rattle.tree.proofs.Left.{segmentsLeft, nodesLeft, left-start, left-none, left-open, left-next, left-more, left-stop}
 use Rattle.tree.proofs.Marking.{Marks, marks-start, marks-segment, free-rule, rule-free, marks-node, marks-end, marked-same, clear-same, clear-rest}

@@ -5,4 +5,4 @@ pub mod Decisions
 pub mod Order
 pub mod Marks
 pub mod Outcome
-pub mod Children
+pub mod inner

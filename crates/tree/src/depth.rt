@@ -3,7 +3,7 @@ ghost use mathlib.Core.Path.{_≡_};
 ghost use Prim.Native.Nat.{_≤_};
 ghost use Rattle.tree.specs.Chain.{ends};
 ghost use Rattle.tree.specs.File.{Used, nodeOf, treeOf};
-ghost use Rattle.tree.specs.Outcome.{TreeReady, firstPlace};
+ghost use Rattle.tree.specs.inner.Marking.{TreeReady, firstPlace};
 use crate::ranges;
 use region::Region;
 

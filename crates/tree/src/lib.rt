@@ -2,10 +2,11 @@
 ghost use mathlib.Core.Path.{_≡_};
 ghost use lib.ListN.{length};
 ghost use Rattle.verdict.specs.Checks.{firstFault};
-ghost use Rattle.region.specs.Samples.{Counts};
+ghost use Rattle.region.specs.inner.Samples.{Counts};
 ghost use Rattle.layout.specs.Layout.{nodeSize, nodesAt};
 ghost use Rattle.tree.specs.File.{usedNodes};
-ghost use Rattle.tree.specs.Outcome.{TreeReady, treeChecks, workspaceAfter};
+ghost use Rattle.tree.specs.Outcome.{treeChecks, workspaceAfter};
+ghost use Rattle.tree.specs.inner.Marking.{TreeReady};
 
 mod depth;
 mod marks;

@@ -2,13 +2,15 @@
 ghost use mathlib.Core.Path.{_≡_};
 ghost use Prim.Native.Nat.{_+_, _≤_, _<_};
 ghost use lib.ListN.{length, replicate};
-ghost use Rattle.laws.specs.Lists.{splice};
-ghost use Rattle.verdict.specs.Checks.{Tells, firstFault};
-ghost use Rattle.region.specs.Samples.{Counts};
+ghost use Rattle.laws.specs.inner.Lists.{splice};
+ghost use Rattle.verdict.specs.Checks.{firstFault};
+ghost use Rattle.verdict.specs.inner.Tells.{Tells};
+ghost use Rattle.region.specs.inner.Samples.{Counts};
 ghost use Rattle.layout.specs.Layout.{nodeSize, nodesAt};
 ghost use Rattle.tree.specs.File.{usedNodes};
 ghost use Rattle.tree.specs.Order.{allRangeChecks};
-ghost use Rattle.tree.specs.Outcome.{TreeReady, Free, Reached, MarkedOne, workspaceAfter};
+ghost use Rattle.tree.specs.Outcome.{workspaceAfter};
+ghost use Rattle.tree.specs.inner.Marking.{TreeReady, Free, Reached, MarkedOne};
 use region::Region;
 use verdict::Verdict;
 

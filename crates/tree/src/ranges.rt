@@ -1,8 +1,8 @@
 // A node's child range, as the walks down the tree find it.
 ghost use Prim.Native.Nat.{_+_, _≤_};
 ghost use lib.ListN.{length};
-ghost use Rattle.tree.specs.Outcome.{TreeReady, Reached};
-ghost use Rattle.tree.specs.Children.{ChildrenOf};
+ghost use Rattle.tree.specs.inner.Marking.{TreeReady, Reached};
+ghost use Rattle.tree.specs.inner.Children.{ChildrenOf};
 use region::Place;
 use region::Region;
 

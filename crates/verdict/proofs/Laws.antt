@@ -11,7 +11,8 @@ use Rattle.verdict.specs.declared.Verdict.the-variants.{Accepted, Refuse
 use mathlib.Core.Bool.{true, false, true≢false, false≢true}
 use lib.Dec.{eqb, leb}
 use borrow.Author.Tests.{eqb-true, eqb-false, leb-true, leb-false}
-use Rattle.verdict.specs.Checks.{Check, check, firstFault, each, Tells, Sure}
+use Rattle.verdict.specs.Checks.{Check, check, firstFault, each}
+use Rattle.verdict.specs.inner.Tells.{Tells, Sure}
 
 -- none of the checks fails
 abbrev pub Clean : List Check → Type 0

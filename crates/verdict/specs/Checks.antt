@@ -1,6 +1,5 @@
 -- Refusals (FORMAT, "Refusals"): checks as data, in the order in which they are to run, and the first that does not hold.
 use mathlib.Core.Path.{_≡_}
-use mathlib.Core.Bool.{Bool, true, false}
 use Prim.Native.Nat.{ℕ, zero, suc, _+_, _≤_, _<_}
 use native.Mathlib.Decide.{decLe, ℕ-discrete}
 use mathlib.Core.List.{List, [], _∷_, _++_}
@@ -47,12 +46,3 @@ equal n p a b = check n p (a ≡ b) (ℕ-discrete a b)
 -- There is one below n for which P.
 abbrev pub SomeBelow : ℕ → (ℕ → Type 0) → Type 0
 SomeBelow n P = (i : ℕ) × (i < n) × P i
-
--- A truth that the code answers tells whether P.
-pub record Tells (P : Type 0) (r : Bool) : Type 0 where
-  pub so : r ≡ true → P
-  pub not : r ≡ false → P → ⊥
-
--- Where r is true, P holds; where it is not, nothing is told.
-abbrev pub Sure : Type 0 → Bool → Type 0
-Sure P r = r ≡ true → P

@@ -1,3 +1,3 @@
 pub mod Checks
 pub mod Decide
-pub mod Scans
+pub mod inner

@@ -10,8 +10,8 @@ use Rattle.strings.specs.Order.{stringChecks}
 use Rattle.keys.specs.Order.{specialChecks, allKeyChecks}
 use Rattle.nodes.specs.Order.{allNodeChecks}
 use Rattle.tree.specs.Outcome.{workspaceAfter}
-use Rattle.nodes.specs.Held.{valueStrings}
-use Rattle.accept.specs.Held.{nameStrings}
+use Rattle.nodes.specs.inner.Held.{valueStrings}
+use Rattle.accept.specs.inner.Held.{nameStrings}
 use Rattle.accept.proofs.Numbers.{calm-strings, calm-special, calm-keys, calm-nodes}
 use Rattle.accept.proofs.Groups.{left-values, left-names, left-special, left-keys, left-nodes, left-tree, settled}
 use Rattle.accept.proofs.Held.{values-held, values-long, values-told, values-packed, names-table, names-held, names-long, names-told, nodes-ready, tree-ready, used-told}

@@ -1,9 +1,9 @@
 use Prim.Native.Nat.{_-_}
 use mathlib.Core.Path.{_≡_, refl, ap, _∙_}
 use lib.ListN.{length}
-use Rattle.strings.specs.Held.{heldTable}
+use Rattle.strings.specs.inner.Held.{heldTable}
 use Rattle.lookup.specs.Kinds.{toldIn}
-use Rattle.search.specs.Group.{Lengths}
+use Rattle.search.specs.inner.Group.{Lengths}
 use Rattle.batch.proofs.Placed.{Writing, writing-start, place-room, writing-all}
 use Rattle.batch.proofs.Slots.{near-read, picked-read}
 use Rattle.batch.proofs.Groupwise.{Going, going-start, going-text, going-more, going-on}

@@ -3,7 +3,7 @@ use Rattle.dcdump.proofs.Counts.{came-read}
 use mathlib.Core.Path.{_≡_}
 use Prim.Native.Nat.{_-_, _≤_}
 use lib.ListN.{length}
-use Rattle.dcdump.specs.Reading.{came}
+use Rattle.dcdump.specs.inner.Reading.{came}
 use borrow.Author.Needs.{needs}
 use Rattle.dcdump.proofs.read_input.Statement.{statement}
 use Rattle.dcdump.proofs.read_input.Tie as tie

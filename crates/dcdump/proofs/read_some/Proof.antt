@@ -1,7 +1,7 @@
 use Prim.Native.Nat.{_-_}
 use lib.ListN.{length}
 use borrow.Rule.Slice.PartMut.{take-put}
-use Rattle.dcdump.specs.Reading.{came}
+use Rattle.dcdump.specs.inner.Reading.{came}
 use native.Mathlib.Omega.{arith}
 use borrow.Author.Needs.{needs}
 use Rattle.dcdump.proofs.read_some.Statement.{statement}

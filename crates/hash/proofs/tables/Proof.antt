@@ -2,7 +2,8 @@ use Prim.Native.Nat.{_-_, _≤_}
 use native.Mathlib.Omega.{arith}
 use mathlib.Core.Path.{refl}
 use borrow.Author.Needs.{needs}
-use Rattle.hash.specs.Table.{T, entryOf, Entries}
+use Rattle.hash.specs.Table.{T, entryOf}
+use Rattle.hash.specs.inner.Tables.{Entries}
 use Rattle.hash.proofs.Lent.{Filled, filled-none, filled-more, filled-all, first-made, next-made}
 use Rattle.hash.proofs.tables.Statement.{statement}
 use Rattle.hash.proofs.tables.Tie as tie

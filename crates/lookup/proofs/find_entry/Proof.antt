@@ -1,7 +1,7 @@
 use Prim.Native.Nat.{_-_}
 use borrow.Author.Needs.{needs}
 use Rattle.text.specs.Text.{chars}
-use Rattle.strings.specs.Held.{heldTable}
+use Rattle.strings.specs.inner.Held.{heldTable}
 use Rattle.strings.proofs.Places.{here-in, hash-at}
 use Rattle.lookup.proofs.Bucket.{Searched, searched-start, searched-more, searched-over, searched-end, searched-found}
 use Rattle.lookup.proofs.find_entry.Statement.{statement}

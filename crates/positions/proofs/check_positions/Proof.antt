@@ -5,7 +5,7 @@ use borrow.Author.Needs.{needs}
 use borrow.Author.Tests.{not-true, not-false}
 use Rattle.verdict.specs.Checks.{firstFault}
 use Rattle.layout.specs.Table.{count}
-use Rattle.strings.specs.Held.{heldTable}
+use Rattle.strings.specs.inner.Held.{heldTable}
 use Rattle.strings.specs.Order.{allPositionChecks}
 use Rattle.strings.proofs.Places.{list-is}
 use Rattle.positions.proofs.Listed.{listed-is}

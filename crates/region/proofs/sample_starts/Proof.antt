@@ -7,7 +7,7 @@ use mathlib.Core.Logic.{inl, inr, ⊎-elim}
 use lib.ListN.{length}
 use Rattle.le.specs.Le.{u32At}
 use Rattle.region.specs.Region.{countOf, startOf}
-use Rattle.region.specs.Samples.{Sampled}
+use Rattle.region.specs.inner.Samples.{Sampled}
 use Rattle.region.proofs.Samples.{segment-fits, sample-in, sampled-none, sample-turn, start-more, start-zero}
 use Rattle.region.proofs.sample_starts.Statement.{statement}
 use Rattle.region.proofs.sample_starts.Tie as tie

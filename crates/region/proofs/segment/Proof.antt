@@ -2,7 +2,7 @@ use Prim.Native.Nat.{ℕ, _+_, _*_}
 use borrow.Author.Needs.{needs}
 use native.Mathlib.Omega.{arith}
 use mathlib.Core.Path.{ap, _∙_}
-use Rattle.verdict.specs.Scans.{scanned}
+use Rattle.verdict.specs.inner.Scans.{scanned}
 use Rattle.verdict.specs.declared.Scan.the-variants.{End}
 use Rattle.verdict.proofs.Laws.{pass, stop, fault-none}
 use Rattle.region.proofs.Accepted.{segment-told}

@@ -2,7 +2,7 @@ use Prim.Native.Nat.{_-_, _<_}
 use native.Mathlib.Omega.{arith}
 use mathlib.Core.Path.{refl}
 use borrow.Author.Needs.{needs}
-use Rattle.strings.specs.Held.{heldTable}
+use Rattle.strings.specs.inner.Held.{heldTable}
 use Rattle.search.proofs.Halves.{Halved, halved-start, halved-up, halved-down, halved-end}
 use Rattle.strings.proofs.Places.{few-entries, here-in, hash-at}
 use Rattle.search.proofs.lower.Statement.{statement}

@@ -1,7 +1,7 @@
 use Prim.Native.Nat.{_-_}
 use mathlib.Core.Path.{refl}
-use Rattle.strings.specs.Held.{heldTable}
-use Rattle.batch.specs.Groups.{Texts, Picked}
+use Rattle.strings.specs.inner.Held.{heldTable}
+use Rattle.batch.specs.inner.Groups.{Texts, Picked}
 use Rattle.batch.proofs.Slots.{texts-none, texts-more, texts-upto, picked-none, picked-more, picked-upto}
 use native.Mathlib.Omega.{arith}
 use borrow.Author.Needs.{needs}

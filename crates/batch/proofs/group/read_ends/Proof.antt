@@ -1,6 +1,6 @@
 use Prim.Native.Nat.{_-_}
 use mathlib.Core.Path.{refl}
-use Rattle.batch.specs.Groups.{SameLow}
+use Rattle.batch.specs.inner.Groups.{SameLow}
 use Rattle.batch.proofs.Slots.{same-start, same-more}
 use native.Mathlib.Omega.{arith}
 use borrow.Author.Needs.{needs}

@@ -1,7 +1,7 @@
 use Prim.Native.Nat.{_-_}
 use mathlib.Core.Path.{_≡_, sym}
 use lib.ListN.{length}
-use Rattle.batch.specs.Groups.{standsAt, Group}
+use Rattle.batch.specs.inner.Groups.{standsAt, Group}
 use Rattle.batch.proofs.Placed.{TextAt, text-measured}
 use Rattle.batch.proofs.Slots.{stands-first, stands-even, stands-more, some-taken, read-of, read-small, group-none, group-more}
 use native.Mathlib.Omega.{arith}

@@ -2,7 +2,7 @@ use native.Mathlib.Omega.{arith}
 use mathlib.Core.Path.{refl, _∙_}
 use borrow.Author.Needs.{needs}
 use Rattle.verdict.proofs.Laws.{pass, stop}
-use Rattle.verdict.specs.Scans.{scanned}
+use Rattle.verdict.specs.inner.Scans.{scanned}
 use Rattle.layout.specs.Header.{headerChecks}
 use Rattle.verdict.proofs.Scans.{told}
 use Rattle.layout.proofs.front.header.Statement.{statement}

@@ -6,7 +6,7 @@ use borrow.Author.Needs.{needs}
 use Rattle.verdict.specs.declared.Scan.the-variants.{End}
 use Rattle.verdict.proofs.Laws.{each-none, pass, stop, fault-none}
 use Rattle.verdict.specs.Checks.{firstFault, each}
-use Rattle.verdict.specs.Scans.{scanned}
+use Rattle.verdict.specs.inner.Scans.{scanned}
 use Rattle.verdict.proofs.Scans.{each-more, each-stop, told}
 use Rattle.layout.specs.Header.{keysAt, zeroWordChecks}
 use Rattle.layout.proofs.Parts.{zero-told}

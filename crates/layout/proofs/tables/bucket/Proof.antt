@@ -4,7 +4,7 @@ use mathlib.Core.Path.{ap, _∙_}
 use borrow.Author.Needs.{needs}
 use Rattle.verdict.specs.declared.Scan.the-variants.{End}
 use Rattle.verdict.proofs.Laws.{pass, stop, fault-none}
-use Rattle.verdict.specs.Scans.{scanned}
+use Rattle.verdict.specs.inner.Scans.{scanned}
 use Rattle.layout.proofs.Parts.{bucket-told}
 use Rattle.layout.proofs.tables.bucket.Statement.{statement}
 use Rattle.layout.proofs.tables.bucket.Tie as tie

@@ -1,4 +1,4 @@
-use Rattle.strings.specs.Held.{Here, heldTable}
+use Rattle.strings.specs.inner.Held.{Here, heldTable}
 use Rattle.strings.proofs.Places.{here-in}
 use Rattle.lookup.proofs.Bucket.{Standing}
 use Rattle.lookup.proofs.Picked.{not-picked, resolved-at, long-read, stands, picked}

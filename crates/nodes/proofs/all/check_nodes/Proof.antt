@@ -7,12 +7,12 @@ use Rattle.le.specs.Le.{u32At}
 use Rattle.verdict.specs.Checks.{firstFault}
 use Rattle.verdict.specs.declared.Verdict.the-variants.{Accepted}
 use Rattle.region.specs.Region.{Resolves, startOf}
-use Rattle.region.specs.Samples.{Mapped}
+use Rattle.region.specs.inner.Samples.{Mapped}
 use Rattle.region.proofs.Samples.{segment-fits, used-at}
 use Rattle.layout.specs.Layout.{nodeSize, nodesAt}
-use Rattle.memo.specs.Memo.{Remembers}
+use Rattle.memo.specs.inner.Memo.{Remembers}
 use Rattle.nodes.specs.Node.{nodeAt}
-use Rattle.nodes.specs.Noted.{noted}
+use Rattle.nodes.specs.inner.Noted.{noted}
 use Rattle.nodes.specs.Order.{allNodeChecks}
 use Rattle.nodes.proofs.Left.{segmentsLeft, nodesLeft, no-segment, no-node, first-start, next-start, nodes-start, node-in, node-at}
 use Rattle.nodes.proofs.Rows.{left-open, left-more, left-stop, left-next, left-none}

@@ -4,10 +4,10 @@ use mathlib.Core.Path.{_≡_, sym, subst, _∙_}
 use borrow.Author.Needs.{needs}
 use borrow.Author.Tests.{not-true, not-false}
 use Rattle.verdict.specs.Checks.{firstFault}
-use Rattle.memo.specs.Memo.{Remembers}
-use Rattle.nodes.specs.Doubts.{Trusted}
+use Rattle.memo.specs.inner.Memo.{Remembers}
+use Rattle.nodes.specs.inner.Doubts.{Trusted}
 use Rattle.nodes.specs.Order.{nodeAttributeChecks}
-use Rattle.nodes.specs.Noted.{noted}
+use Rattle.nodes.specs.inner.Noted.{noted}
 use Rattle.nodes.proofs.Attributes.{attributesLeft, attribute-is, attributes-start, attributes-none, attributes-more, refused-18, refused-19}
 use Rattle.nodes.proofs.attribute.check_attributes.Statement.{statement}
 use Rattle.nodes.proofs.attribute.check_attributes.Tie as tie

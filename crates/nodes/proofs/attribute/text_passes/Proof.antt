@@ -1,6 +1,6 @@
 use borrow.Author.Needs.{needs}
 use Rattle.verdict.proofs.Laws.{tells-yes}
-use Rattle.nodes.specs.Doubts.{doubtOf}
+use Rattle.nodes.specs.inner.Doubts.{doubtOf}
 use Rattle.nodes.proofs.attribute.text_passes.Statement.{statement}
 use Rattle.nodes.proofs.attribute.text_passes.Tie as tie
 

@@ -3,7 +3,7 @@ use borrow.Author.Needs.{needs}
 use Rattle.region.specs.Region.{rangeAt}
 use Rattle.layout.specs.Layout.{attributeSize, attributesAt}
 use Rattle.nodes.specs.Node.{attributeSegment, attributeElement, attributeCount}
-use Rattle.nodes.specs.Doubts.{Trusted}
+use Rattle.nodes.specs.inner.Doubts.{Trusted}
 use Rattle.nodes.proofs.Sought.{lent}
 use Rattle.nodes.proofs.Ways.{attribute-count, attributes-sought, attributes-fit, attributes-start, attributes-known, range-none, range-nowhere, range-told}
 use Rattle.nodes.proofs.node.check_attribute_range.Statement.{statement}

@@ -4,7 +4,7 @@ use mathlib.Core.Path.{sym, _∙_}
 use lib.ListN.{length}
 use borrow.Author.Needs.{needs}
 use borrow.Author.Tests.{not-true, not-false}
-use Rattle.nodes.specs.Held.{valueStrings}
+use Rattle.nodes.specs.inner.Held.{valueStrings}
 use Rattle.nodes.specs.Node.{Live}
 use Rattle.nodes.specs.Rules.{NodeRule}
 use Rattle.nodes.proofs.Ways.{node-fits, live-node, refused-16, refused-range, refused-23, node-passes, nameless-passes}

@@ -8,7 +8,7 @@ use lib.ListN.{length}
 use Rattle.tree.specs.Chain.{ranged}
 use Rattle.tree.specs.File.{treeOf}
 use Rattle.tree.proofs.Children.{node-fits, node-reached, child-name, child-fits, first-is, count-is}
-use Rattle.path.specs.Written.{Wrote}
+use Rattle.path.specs.inner.Written.{Wrote}
 use Rattle.path.proofs.Turns.{passed, at-end, whole, range-hit, range-skip, hit-le}
 use Rattle.path.proofs.Written.{wrote-none, wrote-one, wrote-not, wrote-same, wrote-then}
 use borrow.Fn.Kinds.{In}

@@ -9,7 +9,7 @@ use Rattle.strings.proofs.Accepted.{strings-iff}
 use Rattle.tree.specs.File.{treeOf}
 use Rattle.path.specs.Names.{pathChecks}
 use Rattle.path.specs.Listing.{pathMatches}
-use Rattle.path.specs.Indices.{matchesAt, indicesFrom}
+use Rattle.path.specs.inner.Indices.{matchesAt, indicesFrom}
 use Rattle.path.proofs.Few.{few}
 use Rattle.path.proofs.Answers.{path-refused, too-many, all-listed, none-match, matches-unknown, matches-known, root-place}
 use Rattle.path.proofs.listing.list_path.Statement.{statement}

@@ -6,7 +6,7 @@ use borrow.Author.Needs.{needs}
 use Rattle.region.specs.Region.{startOf}
 use Rattle.region.proofs.Samples.{segment-fits, start-more, used-at}
 use Rattle.strings.proofs.Spots.{segment-in}
-use Rattle.positions.specs.Packed.{begunBefore}
+use Rattle.positions.specs.inner.Packed.{begunBefore}
 use Rattle.positions.proofs.Ranks.{start-first, begun-start, begun-next, begun-all, begun-fits}
 use Rattle.positions.proofs.packing.count_begun.Statement.{statement}
 use Rattle.positions.proofs.packing.count_begun.Tie as tie

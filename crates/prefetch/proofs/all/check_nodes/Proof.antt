@@ -2,7 +2,7 @@ use Prim.Native.Nat.{ℕ}
 use lib.ListN.{length-replicate}
 use borrow.Author.Needs.{needs}
 use Rattle.memo.proofs.Laws.{blank}
-use Rattle.nodes.specs.Held.{valueStrings}
+use Rattle.nodes.specs.inner.Held.{valueStrings}
 use Rattle.nodes.proofs.Noting.{blank-noted}
 use Rattle.prefetch.proofs.Doubting.{no-doubt}
 use Rattle.prefetch.proofs.all.check_nodes.Statement.{statement}

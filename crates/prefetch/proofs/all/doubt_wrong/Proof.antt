@@ -1,9 +1,9 @@
 use Prim.Native.Nat.{_-_}
 use mathlib.Core.Path.{_≡_, _∙_}
 use lib.ListN.{length}
-use Rattle.memo.specs.Memo.{Remembers}
-use Rattle.nodes.specs.Noted.{noted}
-use Rattle.prefetch.specs.Examined.{Examined}
+use Rattle.memo.specs.inner.Memo.{Remembers}
+use Rattle.nodes.specs.inner.Noted.{noted}
+use Rattle.prefetch.specs.inner.Examined.{Examined}
 use Rattle.prefetch.proofs.Doubting.{examined-none, examined-more, examined-upto}
 use native.Mathlib.Omega.{arith}
 use borrow.Author.Needs.{needs}

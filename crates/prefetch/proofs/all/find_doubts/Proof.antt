@@ -1,7 +1,7 @@
 use borrow.Author.Count.{below-none}
 use Rattle.le.specs.Le.{u32At}
 use Rattle.region.proofs.Samples.{used-at}
-use Rattle.verdict.specs.Checks.{Sure}
+use Rattle.verdict.specs.inner.Tells.{Sure}
 use Rattle.prefetch.proofs.Rights.{rows-start, segment-in, rows-next, row-in, RowsTrusted, rows-none, rows-still, rows-more, rows-all}
 use Rattle.prefetch.proofs.Doubting.{still}
 use Prim.Native.Nat.{ℕ, _+_, _-_, _*_, _≤_, _<_}
@@ -9,9 +9,9 @@ use mathlib.Core.Path.{_≡_, refl, _∙_}
 use lib.ListN.{length}
 use Rattle.region.specs.Region.{startOf}
 use Rattle.layout.specs.Layout.{attributeSize, attributesAt}
-use Rattle.memo.specs.Memo.{Remembers}
-use Rattle.nodes.specs.Doubts.{Trusted, NoDoubt}
-use Rattle.nodes.specs.Noted.{noted}
+use Rattle.memo.specs.inner.Memo.{Remembers}
+use Rattle.nodes.specs.inner.Doubts.{Trusted, NoDoubt}
+use Rattle.nodes.specs.inner.Noted.{noted}
 use Rattle.prefetch.proofs.Taking.{passed-trusted}
 use native.Mathlib.Omega.{arith}
 use borrow.Author.Needs.{needs}

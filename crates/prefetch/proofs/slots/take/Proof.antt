@@ -1,7 +1,7 @@
 use mathlib.Core.Path.{sym}
 use Rattle.nodes.proofs.Fields.{kind-is}
 use Prim.Native.Nat.{_-_, _≤_}
-use Rattle.prefetch.specs.Slots.{Slotted}
+use Rattle.prefetch.specs.inner.Slots.{Slotted}
 use Rattle.prefetch.proofs.Taking.{slotted-start, slotted-step}
 use native.Mathlib.Omega.{arith}
 use borrow.Author.Needs.{needs}

@@ -1,8 +1,8 @@
-use Rattle.verdict.specs.Checks.{Sure}
+use Rattle.verdict.specs.inner.Tells.{Sure}
 use Rattle.verdict.proofs.Laws.{unsure}
-use Rattle.memo.specs.Memo.{Remembers}
-use Rattle.prefetch.specs.Batch.{AllHashed, AllBehind}
-use Rattle.nodes.specs.Noted.{noted}
+use Rattle.memo.specs.inner.Memo.{Remembers}
+use Rattle.prefetch.specs.inner.Batch.{AllHashed, AllBehind}
+use Rattle.nodes.specs.inner.Noted.{noted}
 use Rattle.prefetch.proofs.Filling.{fit-read, seen-read}
 use Rattle.prefetch.proofs.Rights.{passed-more}
 use Prim.Native.Nat.{_-_}

@@ -2,7 +2,7 @@ use mathlib.Core.Path.{refl, sym, subst}
 use borrow.Author.Tests.{not-false}
 use Rattle.verdict.proofs.Laws.{unsure}
 use Rattle.layout.specs.Table.{Table}
-use Rattle.positions.specs.Packed.{Packed}
+use Rattle.positions.specs.inner.Packed.{Packed}
 use Rattle.nodes.proofs.Addresses.{clean-entries}
 use Rattle.prefetch.proofs.Rights.{all-found, all-right}
 use native.Mathlib.Omega.{arith}

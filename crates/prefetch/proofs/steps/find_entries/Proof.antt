@@ -1,7 +1,7 @@
 use mathlib.Core.Path.{refl}
-use Rattle.prefetch.specs.Batch.{AllFound}
+use Rattle.prefetch.specs.inner.Batch.{AllFound}
 use Rattle.search.proofs.Groups.{low-read}
-use Rattle.strings.specs.Held.{heldTable}
+use Rattle.strings.specs.inner.Held.{heldTable}
 use Prim.Native.Nat.{_-_}
 use borrow.Author.Count.{below-none, below-more}
 use Rattle.verdict.proofs.Laws.{unsure}

@@ -1,4 +1,4 @@
-use Rattle.prefetch.specs.Batch.{AllSpots, AllFit}
+use Rattle.prefetch.specs.inner.Batch.{AllSpots, AllFit}
 use Rattle.verdict.proofs.Laws.{unsure}
 use Rattle.prefetch.proofs.Rights.{spot-of, fits-of}
 use Rattle.prefetch.proofs.Filling.{spots-none, spots-more, spots-upto, fit-none, fit-more, fit-upto}

@@ -1,5 +1,5 @@
-use Rattle.memo.specs.Memo.{Remembers}
-use Rattle.nodes.specs.Noted.{noted}
+use Rattle.memo.specs.inner.Memo.{Remembers}
+use Rattle.nodes.specs.inner.Noted.{noted}
 use Rattle.nodes.proofs.Noting.{hash-small}
 use Rattle.prefetch.proofs.Filling.{fit-read, length-kept}
 use Prim.Native.Nat.{_-_}

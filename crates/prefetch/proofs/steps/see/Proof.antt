@@ -1,4 +1,4 @@
-use Rattle.prefetch.specs.Batch.{AllSeen}
+use Rattle.prefetch.specs.inner.Batch.{AllSeen}
 use Rattle.prefetch.proofs.Filling.{seen-none, seen-more, seen-upto, fit-read}
 use lib.ListN.{length, length-set}
 use mathlib.Core.Path.{_≡_}

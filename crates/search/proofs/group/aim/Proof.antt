@@ -1,5 +1,5 @@
 use Prim.Native.Nat.{_-_}
-use Rattle.search.specs.Group.{Aimed}
+use Rattle.search.specs.inner.Group.{Aimed}
 use Rattle.search.proofs.Groups.{aimed-none, aimed-more, aimed-upto}
 use native.Mathlib.Omega.{arith}
 use borrow.Author.Needs.{needs}

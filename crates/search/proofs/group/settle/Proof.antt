@@ -1,6 +1,6 @@
 use Prim.Native.Nat.{_-_}
-use Rattle.strings.specs.Held.{heldTable}
-use Rattle.search.specs.Group.{AllLow}
+use Rattle.strings.specs.inner.Held.{heldTable}
+use Rattle.search.specs.inner.Group.{AllLow}
 use Rattle.search.proofs.Groups.{low-none, low-more, low-upto}
 use native.Mathlib.Omega.{arith}
 use borrow.Author.Needs.{needs}

@@ -1,8 +1,8 @@
 use Prim.Native.Nat.{_-_, _≤_}
 use mathlib.Core.Logic.{⊎-elim}
-use Rattle.strings.specs.Held.{heldTable}
+use Rattle.strings.specs.inner.Held.{heldTable}
 use Rattle.strings.proofs.Places.{few-entries, hash-at}
-use Rattle.search.specs.Lower.{Below}
+use Rattle.search.specs.inner.Lower.{Below}
 use Rattle.search.proofs.Nearby.{below-start, below-upto, below-one, below-other}
 use native.Mathlib.Omega.{arith}
 use borrow.Author.Needs.{needs}

@@ -1,6 +1,6 @@
 use Prim.Native.Nat.{_-_}
 use mathlib.Core.Logic.{⊎-elim}
-use Rattle.strings.specs.Held.{heldTable}
+use Rattle.strings.specs.inner.Held.{heldTable}
 use Rattle.strings.proofs.Places.{here-in, hash-at}
 use Rattle.search.proofs.Nearby.{Filled, filled-start, filled-one, filled-other, lower-some, lower-every}
 use native.Mathlib.Omega.{arith}

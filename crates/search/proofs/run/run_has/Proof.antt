@@ -1,5 +1,5 @@
 use Prim.Native.Nat.{_-_}
-use Rattle.strings.specs.Held.{heldTable}
+use Rattle.strings.specs.inner.Held.{heldTable}
 use Rattle.strings.proofs.Places.{here-in, hash-at}
 use Rattle.search.proofs.Runs.{Read, read-start, read-more, read-found, read-none, read-over, word-at}
 use borrow.Author.Needs.{needs}

@@ -1,8 +1,8 @@
 use Prim.Native.Nat.{_-_}
 use native.Mathlib.Omega.{arith}
 use borrow.Author.Needs.{needs}
-use Rattle.strings.specs.Held.{heldTable}
-use Rattle.strings.specs.Ahead.{Stood}
+use Rattle.strings.specs.inner.Held.{heldTable}
+use Rattle.strings.specs.inner.Ahead.{Stood}
 use Rattle.strings.proofs.Glances.{stood-none, stood-more, stood-upto}
 use Rattle.strings.proofs.Places.{few-entries}
 use Rattle.strings.proofs.ahead.find_stretches.Statement.{statement}

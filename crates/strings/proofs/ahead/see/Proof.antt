@@ -2,7 +2,7 @@ use Prim.Native.Nat.{_-_}
 use native.Mathlib.Omega.{arith}
 use mathlib.Core.Path.{refl}
 use borrow.Author.Needs.{needs}
-use Rattle.strings.specs.Ahead.{SeenBefore}
+use Rattle.strings.specs.inner.Ahead.{SeenBefore}
 use Rattle.strings.proofs.Glances.{stands-spot, seen-none, seen-more, seen-upto}
 use Rattle.strings.proofs.Places.{few-entries}
 use Rattle.strings.proofs.ahead.see.Statement.{statement}

@@ -1,6 +1,6 @@
 use Prim.Native.Nat.{_-_}
 use native.Mathlib.Omega.{arith}
-use Rattle.strings.specs.Held.{heldTable}
+use Rattle.strings.specs.inner.Held.{heldTable}
 use Rattle.strings.proofs.Places.{few-entries}
 use Rattle.strings.proofs.Differing.{Rounds, rounds-start, rounds-next, rounds-end}
 use Rattle.strings.proofs.apart.apart_until.Statement.{statement}

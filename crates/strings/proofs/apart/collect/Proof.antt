@@ -2,7 +2,7 @@ use Prim.Native.Nat.{_-_}
 use native.Mathlib.Nat.{le-refl}
 use native.Mathlib.Omega.{arith}
 use borrow.Author.Needs.{needs}
-use Rattle.strings.specs.Held.{heldTable}
+use Rattle.strings.specs.inner.Held.{heldTable}
 use Rattle.strings.proofs.Places.{few-entries}
 use Rattle.strings.proofs.Differing.{Collecting, collecting-start, collecting-next, sifted}
 use Rattle.strings.proofs.apart.collect.Statement.{statement}

@@ -1,6 +1,6 @@
 use native.Mathlib.Omega.{arith}
 use borrow.Author.Needs.{needs}
-use Rattle.strings.specs.Held.{heldTable}
+use Rattle.strings.specs.inner.Held.{heldTable}
 use Rattle.strings.proofs.Places.{earlier, few-entries}
 use Rattle.strings.proofs.Differing.{Meeting, meeting-start, meeting-next, met-some, met-none}
 use Rattle.strings.proofs.apart.met.Statement.{statement}

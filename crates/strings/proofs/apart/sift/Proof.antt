@@ -3,8 +3,8 @@ use native.Mathlib.Nat.{le-refl}
 use native.Mathlib.Omega.{arith}
 use mathlib.Core.Path.{_≡_, subst}
 use borrow.Author.Needs.{needs}
-use Rattle.strings.specs.Held.{heldTable}
-use Rattle.strings.specs.Apart.{Clear}
+use Rattle.strings.specs.inner.Held.{heldTable}
+use Rattle.strings.specs.inner.Apart.{Clear}
 use Rattle.strings.proofs.Places.{few-entries}
 use Rattle.strings.proofs.Differing.{clear-start, clear-next}
 use Rattle.strings.proofs.apart.sift.Statement.{statement}

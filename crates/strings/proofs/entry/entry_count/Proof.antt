@@ -3,7 +3,7 @@ use mathlib.Core.Path.{_≡_, _∙_}
 use native.Mathlib.Omega.{arith}
 use borrow.Author.Needs.{needs}
 use Rattle.layout.specs.Table.{entries}
-use Rattle.strings.specs.Held.{heldTable}
+use Rattle.strings.specs.inner.Held.{heldTable}
 use Rattle.strings.proofs.Places.{ends-at, last-end}
 use Rattle.strings.proofs.entry.entry_count.Statement.{statement}
 use Rattle.strings.proofs.entry.entry_count.Tie as tie

@@ -2,7 +2,7 @@ use Prim.Native.Nat.{_≤_}
 use native.Mathlib.Omega.{arith}
 use borrow.Author.Needs.{needs}
 use Rattle.verdict.proofs.Laws.{tells-yes, tells-no}
-use Rattle.strings.specs.Held.{heldTable}
+use Rattle.strings.specs.inner.Held.{heldTable}
 use Rattle.strings.proofs.Places.{earlier, hash-at}
 use Rattle.strings.proofs.Differing.{away-alone}
 use Rattle.strings.proofs.Runs.{Alone, alone-more, alone-none, alone-over, twin-found}

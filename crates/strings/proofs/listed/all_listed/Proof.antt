@@ -5,8 +5,8 @@ use borrow.Author.Count.{below-none, below-more}
 use borrow.Author.Needs.{needs}
 use borrow.Author.Tests.{not-false}
 use Rattle.verdict.proofs.Laws.{unsure}
-use Rattle.strings.specs.Held.{heldTable}
-use Rattle.strings.specs.Ahead.{BucketIndexed}
+use Rattle.strings.specs.inner.Held.{heldTable}
+use Rattle.strings.specs.inner.Ahead.{BucketIndexed}
 use Rattle.strings.proofs.listed.all_listed.Statement.{statement}
 use Rattle.strings.proofs.listed.all_listed.Tie as tie
 

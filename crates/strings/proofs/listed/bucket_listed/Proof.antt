@@ -4,7 +4,7 @@ use borrow.Author.Count.{below-none, below-more}
 use borrow.Author.Needs.{needs}
 use borrow.Author.Tests.{not-false}
 use Rattle.verdict.proofs.Laws.{unsure}
-use Rattle.strings.specs.Held.{heldTable}
+use Rattle.strings.specs.inner.Held.{heldTable}
 use Rattle.strings.specs.Rules.{Indexed}
 use Rattle.strings.proofs.Places.{here-in}
 use Rattle.strings.proofs.listed.bucket_listed.Statement.{statement}

@@ -4,14 +4,15 @@ use mathlib.Core.Path.{_≡_, refl, sym, _∙_}
 use lib.ListN.{length}
 use borrow.Author.Count.{below-none, below-more}
 use borrow.Author.Needs.{needs}
-use Rattle.verdict.specs.Checks.{firstFault, Sure}
+use Rattle.verdict.specs.Checks.{firstFault}
+use Rattle.verdict.specs.inner.Tells.{Sure}
 use Rattle.verdict.specs.declared.Verdict.the-variants.{Accepted}
 use Rattle.verdict.proofs.Laws.{unsure}
 use Rattle.layout.specs.Table.{entries}
-use Rattle.strings.specs.Held.{heldTable}
-use Rattle.strings.specs.Ahead.{Room, Ahead}
-use Rattle.strings.specs.Apart.{Apart}
-use Rattle.strings.specs.Begins.{Begun}
+use Rattle.strings.specs.inner.Held.{heldTable}
+use Rattle.strings.specs.inner.Ahead.{Room, Ahead}
+use Rattle.strings.specs.inner.Apart.{Apart}
+use Rattle.strings.specs.inner.Begins.{Begun}
 use Rattle.strings.specs.Order.{entryChecks, allEntryChecks}
 use Rattle.strings.proofs.Left.{bucketsLeft, entriesLeft, left-start, left-open, left-more, left-stop, left-next, left-none}
 use Rattle.strings.proofs.Glances.{near-next, near-at, ahead-none}

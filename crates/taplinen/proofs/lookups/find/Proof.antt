@@ -1,6 +1,6 @@
-use Rattle.nodes.specs.Held.{valueStrings}
+use Rattle.nodes.specs.inner.Held.{valueStrings}
 use Rattle.lookup.specs.Lookup.{textFrom}
-use Rattle.accept.specs.Held.{nameStrings}
+use Rattle.accept.specs.inner.Held.{nameStrings}
 use Rattle.accept.proofs.Held.{names-held, values-held}
 use Rattle.taplinen.proofs.Tables.{name-table, name-table-clean, value-table, value-table-clean, told-same}
 use native.Mathlib.Omega.{arith}

@@ -1,5 +1,5 @@
-use Rattle.nodes.specs.Held.{valueStrings}
-use Rattle.accept.specs.Held.{nameStrings}
+use Rattle.nodes.specs.inner.Held.{valueStrings}
+use Rattle.accept.specs.inner.Held.{nameStrings}
 use Rattle.accept.proofs.Held.{names-held, values-held}
 use Rattle.taplinen.proofs.Tables.{name-table, name-table-clean, value-table, value-table-clean, answers-same}
 use borrow.Author.Needs.{needs}

@@ -1,5 +1,5 @@
 use mathlib.Core.Path.{refl}
-use Rattle.accept.specs.Held.{nameStrings}
+use Rattle.accept.specs.inner.Held.{nameStrings}
 use Rattle.path.specs.Listing.{listingAfter}
 use Rattle.taplinen.specs.Questions.{pathVerdict, pathAnswer, pathListing}
 use Rattle.taplinen.proofs.Asked.{to-list}

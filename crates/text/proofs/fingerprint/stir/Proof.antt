@@ -1,4 +1,4 @@
-use Rattle.text.specs.Fingerprint.{stirred}
+use Rattle.text.specs.inner.Fingerprint.{stirred}
 use mathlib.Core.Path.{refl}
 use native.Mathlib.Omega.{arith}
 use borrow.Author.Needs.{needs}

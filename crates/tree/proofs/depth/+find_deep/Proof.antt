@@ -7,7 +7,7 @@ use lib.ListN.{length}
 use Rattle.tree.specs.Chain.{ends}
 use Rattle.tree.specs.File.{treeOf}
 use Rattle.tree.specs.declared.depth.Found.the-variants.{At}
-use Rattle.tree.specs.Outcome.{firstPlace}
+use Rattle.tree.specs.inner.Marking.{firstPlace}
 use Rattle.tree.proofs.Deepest.{deepFrom, deep-here, deep-open, deep-end, deep-hit, deep-miss, deep-skip}
 use Rattle.tree.proofs.Children.{node-fits, node-reached, child-name, child-fits, first-is, count-is}
 use borrow.Fn.Kinds.{In}

@@ -3,7 +3,7 @@ use mathlib.Core.Path.{_≡_, sym, _∙_}
 use native.Mathlib.Omega.{arith}
 use borrow.Author.Needs.{needs}
 use Rattle.nodes.specs.Node.{childCount}
-use Rattle.tree.specs.Outcome.{firstNumber}
+use Rattle.tree.specs.inner.Marking.{firstNumber}
 use Rattle.tree.proofs.Children.{none-nameless, count-field}
 use Rattle.tree.proofs.OneRange.{own-counts, marked-none, segment-there, first-number, range-there, marked-now, marked-not}
 use Rattle.tree.proofs.marks.mark_node.Statement.{statement}

@@ -3,7 +3,7 @@ use Prim.Native.Nat.{ℕ, _-_, _≤_, _<_}
 use mathlib.Core.Path.{_≡_}
 use mathlib.Core.List.{List}
 use lib.ListN.{length}
-use Rattle.region.specs.Samples.{Mapped, Starts}
+use Rattle.region.specs.inner.Samples.{Mapped, Starts}
 use Rattle.layout.specs.Table.{Table, table, entries, hashOf, listAt, TableLaid, BucketStarts}
 use Rattle.layout.specs.Layout.{valuesMost}
 use Rattle.strings.specs.Rules.{Resolved, Sized, Hashed}

@@ -5,7 +5,7 @@ use lib.ListN.{length}
 use Rattle.text.specs.Text.{chars}
 use Rattle.layout.specs.Table.{Table, entryAt}
 use Rattle.strings.specs.Texts.{textOf}
-use Rattle.strings.specs.Held.{Here}
+use Rattle.strings.specs.inner.Held.{Here}
 use Rattle.lookup.specs.Kinds.{tellsAt}
 use Rattle.lookup.specs.declared.Kind.{Kind}
 

@@ -3,10 +3,10 @@ use Prim.Native.Nat.{ℕ, _+_, _≤_, _<_}
 use mathlib.Core.List.{List}
 use lib.ListN.{length}
 use Rattle.region.specs.Region.{Resolves}
-use Rattle.region.specs.Samples.{Mapped, Starts}
+use Rattle.region.specs.inner.Samples.{Mapped, Starts}
 use Rattle.region.specs.declared.Region.{Region}
 use Rattle.layout.specs.Layout.{attributeSize, nodeSize, attributesAt, nodesAt, values, names}
-use Rattle.layout.specs.View.{Placed}
+use Rattle.layout.specs.inner.View.{Placed}
 use Rattle.layout.specs.declared.Places.{Places}
 use Rattle.keys.specs.Names.{nameCount}
 use Rattle.nodes.specs.Node.{Live, nodeName, attributeCount, attributeAt}

@@ -5,7 +5,7 @@ use mathlib.Core.List.{List}
 use Rattle.verdict.specs.Checks.{firstFault}
 use Rattle.verdict.specs.declared.Verdict.the-variants.{Accepted}
 use Rattle.region.specs.Region.{totalOf}
-use Rattle.region.specs.Samples.{Mapped, Starts, Counts}
+use Rattle.region.specs.inner.Samples.{Mapped, Starts, Counts}
 use Rattle.layout.specs.Header.{headerOf, keyCount}
 use Rattle.layout.specs.Table.{listAt, BucketStarts}
 use Rattle.layout.specs.Layout.{attributeSize, nodeSize, attributesAt, nodesAt, valuesAt, namesAt, values, names, layoutChecks, LaidOut}

@@ -3,8 +3,8 @@ use Prim.Native.Nat.{ℕ}
 use mathlib.Core.Path.{_≡_}
 use mathlib.Core.List.{List}
 use lib.ListN.{length, getD}
-use Rattle.nodes.specs.Doubts.{Trusted}
-use Rattle.prefetch.specs.Slots.{Each}
+use Rattle.nodes.specs.inner.Doubts.{Trusted}
+use Rattle.prefetch.specs.inner.Slots.{Each}
 
 -- No doubt is taken back.
 pub record Kept (before after : List ℕ) : Type 0 where

@@ -6,8 +6,8 @@ use lib.ListN.{length, getD}
 use Rattle.hash.specs.Hash.{hashText, bucketOf}
 use Rattle.text.specs.Text.{textIn}
 use Rattle.layout.specs.Table.{Table}
-use Rattle.search.specs.Lower.{Lower}
-use Rattle.lookup.specs.Bears.{Bears}
+use Rattle.search.specs.inner.Lower.{Lower}
+use Rattle.lookup.specs.inner.Bears.{Bears}
 use Rattle.lookup.specs.declared.Kind.{Kind}
 
 -- The text at an offset of the texts has k characters and hash h.

@@ -3,11 +3,11 @@ use Prim.Native.Nat.{ℕ, _+_, _≤_, _<_, _^_}
 use mathlib.Core.Path.{_≡_}
 use mathlib.Core.Bool.{Bool, true, false}
 use mathlib.Core.List.{List}
-use Rattle.multimap.specs.Multimap.{numberAt, Filled}
-use Rattle.text.specs.Fingerprint.{fingerprintOf}
+use Rattle.multimap.specs.inner.Multimap.{numberAt, Filled}
+use Rattle.text.specs.inner.Fingerprint.{fingerprintOf}
 use Rattle.layout.specs.Table.{Table}
 use Rattle.strings.specs.Texts.{textOf}
-use Rattle.strings.specs.Held.{TextRight}
+use Rattle.strings.specs.inner.Held.{TextRight}
 
 -- The texts of entries i and j differ, if both are right.
 pub record Differ (t : Table) (k i j : ℕ) : Type 0 where

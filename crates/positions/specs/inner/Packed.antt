@@ -4,9 +4,9 @@ use mathlib.Core.Path.{_≡_}
 use mathlib.Core.Bool.{true}
 use mathlib.Core.List.{List}
 use Rattle.region.specs.Region.{countOf, usedOf, placeOf, Resolves}
-use Rattle.text.specs.Zeros.{zerosIn}
+use Rattle.text.specs.inner.Zeros.{zerosIn}
 use Rattle.layout.specs.Table.{Table}
-use Rattle.strings.specs.Begins.{begins}
+use Rattle.strings.specs.inner.Begins.{begins}
 use Rattle.strings.specs.Rules.{EntryAddress}
 
 -- Wherever one can begin, an entry's does.

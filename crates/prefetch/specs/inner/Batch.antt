@@ -14,7 +14,7 @@ use Rattle.strings.specs.Rules.{EntryAddress}
 use Rattle.strings.specs.declared.spot.Spot.the-variants.{At}
 use Rattle.nodes.specs.Attribute.{typeWord, textSegment, textElement}
 use Rattle.nodes.specs.Rules.{TextRight}
-use Rattle.prefetch.specs.Slots.{Each}
+use Rattle.prefetch.specs.inner.Slots.{Each}
 
 -- The text of the attribute at q stands at x, with n characters left there.
 pub record TextSpot (b : List ℕ) (r q x n : ℕ) : Type 0 where

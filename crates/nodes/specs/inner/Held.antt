@@ -4,14 +4,14 @@ use mathlib.Core.Path.{_≡_}
 use mathlib.Core.List.{List}
 use Rattle.verdict.specs.Checks.{firstFault}
 use Rattle.verdict.specs.declared.Verdict.the-variants.{Accepted}
-use Rattle.region.specs.Samples.{Starts}
+use Rattle.region.specs.inner.Samples.{Starts}
 use Rattle.layout.specs.Layout.{LaidOut, attributeSize, nodeSize, attributesAt, nodesAt, values}
-use Rattle.layout.specs.View.{Placed}
+use Rattle.layout.specs.inner.View.{Placed}
 use Rattle.layout.specs.declared.Places.{Places}
 use Rattle.strings.specs.Order.{stringChecks}
-use Rattle.strings.specs.Held.{Held, heldTable}
+use Rattle.strings.specs.inner.Held.{Held, heldTable}
 use Rattle.strings.specs.declared.Strings.{Strings}
-use Rattle.keys.specs.Known.{Known}
+use Rattle.keys.specs.inner.Known.{Known}
 use Rattle.keys.specs.declared.Names.{Names}
 
 -- The values table as the strings layer holds it.

@@ -5,7 +5,7 @@ use mathlib.Core.Path.{_≡_}
 use mathlib.Core.List.{List}
 use lib.ListN.{length}
 use Rattle.verdict.specs.Checks.{firstFault, each}
-use Rattle.verdict.specs.Scans.{scanned}
+use Rattle.verdict.specs.inner.Scans.{scanned}
 use Rattle.verdict.specs.declared.Scan.{Scan}
 use Rattle.verdict.specs.declared.Scan.the-variants.{End}
 use Rattle.layout.specs.Table.{Table, bucketChecks, listAt, tableEnd, tableChecks, BucketStarts}

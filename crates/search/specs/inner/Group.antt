@@ -5,7 +5,7 @@ use mathlib.Core.List.{List}
 use lib.ListN.{length, getD}
 use Rattle.hash.specs.Hash.{bucketOf}
 use Rattle.layout.specs.Table.{Table}
-use Rattle.search.specs.Lower.{Lower}
+use Rattle.search.specs.inner.Lower.{Lower}
 
 -- Each of the first n hashes stands at its place in its bucket, or would.
 pub record AllLow (t : Table) (hashes : List ℕ) (n : ℕ) (low : List ℕ) : Type 0 where

@@ -1,0 +1,4 @@
+pub mod Doubts
+pub mod Held
+pub mod Noted
+pub mod Search

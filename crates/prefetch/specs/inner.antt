@@ -1,0 +1,3 @@
+pub mod Batch
+pub mod Examined
+pub mod Slots

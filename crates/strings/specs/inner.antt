@@ -1,0 +1,4 @@
+pub mod Ahead
+pub mod Apart
+pub mod Begins
+pub mod Held

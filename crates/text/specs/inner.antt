@@ -1,0 +1,3 @@
+pub mod Fingerprint
+pub mod Measure
+pub mod Zeros
