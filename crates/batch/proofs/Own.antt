@@ -13,7 +13,7 @@ use Rattle.le.specs.Le.{u16At}
 use Rattle.text.specs.Text.{chars}
 use Rattle.text.proofs.OneByOne.{chars-same}
 use Rattle.lookup.specs.Lookup.{textFrom}
-use Rattle.path.specs.Names.{addFirst, split, namesOf, nameAt}
+use Rattle.path.specs.Names.{addChar, split, namesOf, nameAt}
 use Rattle.path.proofs.Split.{length-add}
 
 -- text i of the n characters at p: m characters from offset `at` on, with its 0 behind them; the first starts at p
@@ -25,8 +25,8 @@ record Stands (b : List ℕ) (p n i : ℕ) (xs : List (List ℕ)) : Type 0 where
   is : chars b at many ≡ nameAt xs i
 
 -- with one character more in front, which is not 0
-stands-more : (b : List ℕ) (p n i : ℕ) (xs : List (List ℕ)) → i < length xs → Stands b (p + 2) n i xs → Stands b p (suc n) i (addFirst (u16At b p) xs)
-unfolding addFirst nameAt chars
+stands-more : (b : List ℕ) (p n i : ℕ) (xs : List (List ℕ)) → i < length xs → Stands b (p + 2) n i xs → Stands b p (suc n) i (addChar (u16At b p) xs)
+unfolding addChar nameAt chars
 stands-more b p n i [] h w = absurd (not-suc-le-zero h)
 stands-more b p n zero (x ∷ xs) h w = record {
   at = p;

@@ -18,10 +18,10 @@ use Rattle.hash.specs.Hash.{hashText}
 use Rattle.text.specs.Text.{chars, textIn}
 use Rattle.text.specs.inner.Zeros.{zerosIn}
 use Rattle.text.proofs.Laws.{chars-more, text-chars, text-live, text-end}
-use Rattle.lookup.specs.Kinds.{kindOf, numberOf}
+use Rattle.lookup.specs.Kinds.{kindOf, foundNumber}
 use Rattle.lookup.specs.declared.Lookup.{Lookup}
 use Rattle.lookup.specs.declared.Lookup.the-variants.{Found, Absent}
-use Rattle.path.specs.Names.{addFirst, split, namesOf, pathChecks}
+use Rattle.path.specs.Names.{addChar, split, namesOf, pathChecks}
 use Rattle.path.specs.inner.Indices.{NameEnd}
 use Rattle.path.proofs.Split.{length-add, namesFrom, names-start, names-end, names-more}
 use Rattle.path.proofs.Formed.{formed-inv}
@@ -47,11 +47,11 @@ put-two d at k n h p q = q ∙ ap (λ (x : List ℕ). splice x (at + 4) (le4 n))
 
 module _ (d : List ℕ) (at : ℕ) {l : Lookup} {d₁ d₂ : List ℕ} (h : at + 8 ≤ length d) where
   pub put-found : (n : ℕ) → l ≡ Found n → d₁ ≡ splice d at (le4 0) → d₂ ≡ splice d₁ (at + 4) (le4 n) → d₂ ≡ splice d at (place l)
-  unfolding place kindOf numberOf
+  unfolding place kindOf foundNumber
   put-found n e p q = rw e (put-two d at 0 n h p q)
 
   pub put-absent : l ≡ Absent → d₁ ≡ splice d at (le4 1) → d₂ ≡ splice d₁ (at + 4) (le4 0) → d₂ ≡ splice d at (place l)
-  unfolding place kindOf numberOf
+  unfolding place kindOf foundNumber
   put-absent e p q = rw e (put-two d at 1 0 h p q)
 
 -- ---- the loop that counts
@@ -59,7 +59,7 @@ module _ (d : List ℕ) (at : ℕ) {l : Lookup} {d₁ d₂ : List ℕ} (h : at +
 -- a character in front of the others ends a text where it is 0, and otherwise only makes the first longer
 module _ (texts : List ℕ) (at : ℕ) (even : length texts % 2 ≡ 0) (h : at % 2 ≡ 0) (l : at < length texts) where
   first-char : namesFrom texts at
-      ≡ cond (eqb (u16At texts at) 0) ([] ∷ namesFrom texts (at + 2)) (addFirst (u16At texts at) (namesFrom texts (at + 2)))
+      ≡ cond (eqb (u16At texts at) 0) ([] ∷ namesFrom texts (at + 2)) (addChar (u16At texts at) (namesFrom texts (at + 2)))
   unfolding namesFrom split
   first-char = ap split (chars-more texts at _ ((length texts - (at + 2)) / 2) (omega arith))
 

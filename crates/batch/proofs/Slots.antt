@@ -20,7 +20,7 @@ use Rattle.search.specs.inner.Group.{AllLow}
 use Rattle.strings.specs.inner.Held.{Held, heldTable}
 use Rattle.strings.specs.declared.Strings.{Strings}
 use Rattle.strings.proofs.Places.{few-entries}
-use Rattle.lookup.specs.inner.Bears.{Bears}
+use Rattle.lookup.specs.inner.PickedEntry.{PickedEntry}
 use Rattle.lookup.specs.declared.Kind.{Kind}
 use Rattle.batch.specs.inner.Groups.{TextRead, standsAt, Group, AllNear, Texts, Picked, SameLow}
 
@@ -170,13 +170,13 @@ pub picked-none : (kind : Kind) (t : Table) (lengths text told : List ℕ) → l
 picked-none kind t lengths text told e f = record { text-long = e; told-long = f; each = below-none _ }
 
 pub picked-more : {kind : Kind} {t : Table} {lengths text told : List ℕ} {j : ℕ} (x y : ℕ) → Picked kind t lengths j text told → j < 64 → {n : ℕ} → n ≡ getD lengths j 0
-    → ((x ≡ 0 → ⊥) → Bears kind t n x y) → Picked kind t lengths (j + 1) (set text j x) (set told j y)
+    → ((x ≡ 0 → ⊥) → PickedEntry kind t n x y) → Picked kind t lengths (j + 1) (set text j x) (set told j y)
 picked-more {kind} {t} {lengths} {text} {told} {j} x y w l e f = record {
   text-long = length-set text j x ∙ w .text-long;
   told-long = length-set told j y ∙ w .told-long;
   each =
       below-more
-      (λ (i : ℕ). (getD (set text j x) i 0 ≡ 0 → ⊥) → Bears kind t (getD lengths i 0) (getD (set text j x) i 0) (getD (set told j y) i 0)) j
+      (λ (i : ℕ). (getD (set text j x) i 0 ≡ 0 → ⊥) → PickedEntry kind t (getD lengths i 0) (getD (set text j x) i 0) (getD (set told j y) i 0)) j
       (λ i c. rw (getD-set-other text j i x 0 (omega arith), getD-set-other told j i y 0 (omega arith)) (w .each i c))
       (rw (getD-set-same text j x 0 (omega (arith, w .text-long)), getD-set-same told j y 0 (omega (arith, w .told-long)), sym e) f);
 }
@@ -190,5 +190,5 @@ pub near-read : {t : Table} {hashes low : List ℕ} {n : ℕ} → AllNear t hash
 near-read a j l e f = rw (e, f) (a .each j l)
 
 pub picked-read : {kind : Kind} {t : Table} {lengths text told : List ℕ} {n : ℕ} → Picked kind t lengths n text told → (j : ℕ) → j < n → {k x y : ℕ} → k ≡ getD lengths j 0
-    → x ≡ getD text j 0 → y ≡ getD told j 0 → (x ≡ 0 → ⊥) → Bears kind t k x y
+    → x ≡ getD text j 0 → y ≡ getD told j 0 → (x ≡ 0 → ⊥) → PickedEntry kind t k x y
 picked-read w j l e f g = rw (e, f, g) (w .each j l)

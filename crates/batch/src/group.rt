@@ -17,7 +17,7 @@ use search::group;
 use strings::Strings;
 
 // Measures the texts from offset `at` on, until the slots are full or the texts end. One pass finds a text's end and its hash.
-pub fn take(
+pub fn measure_group(
     texts: &[u8],
     t: &[u32; 2048],
     at: usize,

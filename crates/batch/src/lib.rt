@@ -92,7 +92,7 @@ fn put_places(
     let mut i = 0usize;
     let mut at = 0;
     while at < texts.len() {
-        let n = group::take(texts, t, at, &mut lengths, &mut hashes);
+        let n = group::measure_group(texts, t, at, &mut lengths, &mut hashes);
         group::bring_near(
             b,
             s,

@@ -3,7 +3,7 @@ use mathlib.Core.Path.{_≡_, refl}
 use mathlib.Core.List.{List, [], _∷_, _++_, flatten}
 use Prim.Native.Nat.{ℕ}
 use lib.ListN.{replicate}
-use Rattle.frames.specs.Lines.{addFirst, linesOf, digitOf, isDigit, digits, numberFrom, areBytes, bytesOf}
+use Rattle.frames.specs.Lines.{addByte, linesOf, digitOf, isDigit, digits, numberFrom, areBytes, bytesOf}
 use Rattle.frames.specs.Frames.{most, startsAt, dataOf, isFrame, framesFrom, fileOf, framesOf}
 use Rattle.frames.specs.declared.Frames.the-variants.{Bytes, Bad}
 
@@ -31,7 +31,7 @@ pub record Examples : Type 0 where
   pub no-byte : framesOf (line 48 (10 ∷ [])) ≡ Bad 1
 
 pub examples : Examples
-unfolding addFirst linesOf digitOf isDigit digits numberFrom areBytes bytesOf most startsAt dataOf isFrame framesFrom fileOf framesOf flatten
+unfolding addByte linesOf digitOf isDigit digits numberFrom areBytes bytesOf most startsAt dataOf isFrame framesFrom fileOf framesOf flatten
 examples =
     record {
       no-lines = refl;

@@ -10,7 +10,7 @@ use lib.Seq.{drop-drop, getD-drop}
 use borrow.Author.Tests.{eq-eqb, eqb-true, le-leb, leb-true}
 use Rattle.frames.specs.Lines.{digits, numberFrom, areBytes, bytesOf}
 use Rattle.frames.specs.Frames.{most, startsAt, dataOf, isFrame}
-use Rattle.frames.specs.inner.Reading.{firstLine, offsetOf, countOf}
+use Rattle.frames.specs.inner.Reading.{firstLine, offsetOf, bytesWritten}
 use Rattle.frames.proofs.Tests.{by-test, and-left, and-right}
 use Rattle.frames.proofs.Lines.{digits-line, take-line, drop-line, get-line, line-inside}
 use Rattle.frames.proofs.Pairs.{some-bytes, bytes-length}
@@ -90,28 +90,28 @@ offset-framed n s b h =
     rw (x, y, eq-eqb (numberFrom 0 (take 8 s)) n (simp e at h)))
     (λ e. absurd (omega (arith, simp e at h)))
 
-pub framed-count : {n : ℕ} {s : List ℕ} → Framed n s → countOf (drop 9 s) ≡ length (bytesOf (firstLine (drop 9 s)))
-unfolding countOf
+pub framed-count : {n : ℕ} {s : List ℕ} → Framed n s → bytesWritten (drop 9 s) ≡ length (bytesOf (firstLine (drop 9 s)))
+unfolding bytesWritten
 framed-count {n} {s} f = rw (f .bytes, le-leb _ _ (f .few))
 
 framed-long : {n : ℕ} {s : List ℕ} → Framed n s → 9 < length s
 framed-long {n} {s} f = omega (arith, some-bytes (drop 9 s) (f .bytes) (f .some), length-drop 9 s)
 
-count-inv : (s : List ℕ) → (countOf s ≡ 0 → ⊥) → (areBytes (firstLine s) && leb (length (bytesOf (firstLine s))) 32) ≡ true
-unfolding countOf
+count-inv : (s : List ℕ) → (bytesWritten s ≡ 0 → ⊥) → (areBytes (firstLine s) && leb (length (bytesOf (firstLine s))) 32) ≡ true
+unfolding bytesWritten
 count-inv s h = by-test (areBytes (firstLine s) && leb (length (bytesOf (firstLine s))) 32) (λ e. e) (λ e. absurd (h (simp e)))
 
-count-value : (s : List ℕ) → (areBytes (firstLine s) && leb (length (bytesOf (firstLine s))) 32) ≡ true → countOf s ≡ length (bytesOf (firstLine s))
-unfolding countOf
+count-value : (s : List ℕ) → (areBytes (firstLine s) && leb (length (bytesOf (firstLine s))) 32) ≡ true → bytesWritten s ≡ length (bytesOf (firstLine s))
+unfolding bytesWritten
 count-value s h = simp h
 
 -- some bytes were counted, so they stand there
 pub record Counted (s : List ℕ) : Type 0 where
   pub bytes : areBytes (firstLine s) ≡ true
   pub few : length (bytesOf (firstLine s)) ≤ 32
-  pub count : countOf s ≡ length (bytesOf (firstLine s))
+  pub count : bytesWritten s ≡ length (bytesOf (firstLine s))
 
-pub counted : (s : List ℕ) → (countOf s ≡ 0 → ⊥) → Counted s
+pub counted : (s : List ℕ) → (bytesWritten s ≡ 0 → ⊥) → Counted s
 counted s h =
     let e = count-inv s h in
     record {
@@ -122,8 +122,8 @@ counted s h =
 
 -- each test of the line at p, where it is no frame; and all of them passed
 module _ (s : List ℕ) (p n : ℕ) where
-  rest-count : countOf (drop 9 (drop p s)) ≡ countOf (drop (p + 9) s)
-  rest-count = ap countOf (drop-drop 9 p s)
+  rest-count : bytesWritten (drop 9 (drop p s)) ≡ bytesWritten (drop (p + 9) s)
+  rest-count = ap bytesWritten (drop-drop 9 p s)
 
   pub too-short : length s - p < 9 → isFrame n (firstLine (drop p s)) ≡ false
   too-short h = no-frame n (drop p s) (λ f. omega (arith, framed-long f, length-drop p s))
@@ -131,13 +131,13 @@ module _ (s : List ℕ) (p n : ℕ) where
   pub offset-off : (offsetOf (drop p s) ≡ n → ⊥) → isFrame n (firstLine (drop p s)) ≡ false
   offset-off h = no-frame n (drop p s) (λ f. h (framed-offset n (drop p s) (f .starts)))
 
-  pub bytes-off : countOf (drop (p + 9) s) ≡ 0 → isFrame n (firstLine (drop p s)) ≡ false
+  pub bytes-off : bytesWritten (drop (p + 9) s) ≡ 0 → isFrame n (firstLine (drop p s)) ≡ false
   bytes-off h = no-frame n (drop p s) (λ f. omega (arith, rest-count, framed-count f, f .some))
 
-  pub room-off : 32768 < n + countOf (drop (p + 9) s) → isFrame n (firstLine (drop p s)) ≡ false
+  pub room-off : 32768 < n + bytesWritten (drop (p + 9) s) → isFrame n (firstLine (drop p s)) ≡ false
   room-off h = no-frame n (drop p s) (λ f. omega (arith, rest-count, framed-count f, f .room))
 
-  pub all-pass : offsetOf (drop p s) ≡ n → (countOf (drop (p + 9) s) ≡ 0 → ⊥) → n + countOf (drop (p + 9) s) ≤ 32768
+  pub all-pass : offsetOf (drop p s) ≡ n → (bytesWritten (drop (p + 9) s) ≡ 0 → ⊥) → n + bytesWritten (drop (p + 9) s) ≤ 32768
       → Framed n (drop p s)
   all-pass o h r =
       let c = counted (drop 9 (drop p s)) (λ e. h (sym rest-count ∙ e)) in
@@ -149,7 +149,7 @@ module _ (s : List ℕ) (p n : ℕ) where
         room = omega (arith, rest-count, c .count);
       }
 
-pub framed-length : {n : ℕ} {s : List ℕ} → Framed n s → length (firstLine s) ≡ 10 + 2 * countOf (drop 9 s)
+pub framed-length : {n : ℕ} {s : List ℕ} → Framed n s → length (firstLine s) ≡ 10 + 2 * bytesWritten (drop 9 s)
 framed-length {n} {s} f =
     let a = bytes-length (firstLine (drop 9 s)) (f .bytes) in
     let b = ap length (body-line n s (f .starts)) in

@@ -7,17 +7,17 @@ use native.Mathlib.Omega.{arith}
 use lib.Dec.{eqb}
 use lib.ListN.{length, getD, take, drop}
 use borrow.Author.Tests.{eqb-true}
-use Rattle.frames.specs.Lines.{addFirst, linesOf, isDigit, digits}
+use Rattle.frames.specs.Lines.{addByte, linesOf, isDigit, digits}
 use Rattle.frames.specs.inner.Reading.{firstLine}
 use Rattle.frames.proofs.Tests.{by-test, and-left, and-right}
 use Rattle.frames.proofs.Digits.{newline, digit-inside}
 
 pub lines-open : (s : List ℕ) → 0 < length s → linesOf s ≡ firstLine s ∷ linesOf (drop (length (firstLine s)) s)
-unfolding linesOf firstLine addFirst
+unfolding linesOf firstLine addByte
 lines-open [] h = absurd (omega arith)
 lines-open (c ∷ []) h = by-test (eqb c 10) (λ e. simp e) (λ e. simp e)
 lines-open (c ∷ d ∷ ds) h =
-    by-test (eqb c 10) (λ e. simp e) (λ e. simp e (ap (addFirst c) (lines-open (d ∷ ds) (omega arith))))
+    by-test (eqb c 10) (λ e. simp e) (λ e. simp e (ap (addByte c) (lines-open (d ∷ ds) (omega arith))))
 
 pub line-fits : (s : List ℕ) → length (firstLine s) ≤ length s
 unfolding firstLine

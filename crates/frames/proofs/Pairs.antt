@@ -11,7 +11,7 @@ use lib.ListN.{length, getD, drop, length-drop, drop-of-length-le}
 use lib.Seq.{drop-cons}
 use borrow.Author.Tests.{eq-eqb, ne-eqb, le-leb, lt-leb}
 use Rattle.frames.specs.Lines.{isDigit, digitOf, areBytes, bytesOf}
-use Rattle.frames.specs.inner.Reading.{firstLine, byteOf, countOf}
+use Rattle.frames.specs.inner.Reading.{firstLine, byteOf, bytesWritten}
 use Rattle.frames.proofs.Tests.{by-test, clash, and-left, and-right}
 use Rattle.frames.proofs.Digits.{is-digit, no-digit, digit-value, digit-inside}
 use Rattle.frames.proofs.Lines.{line-inside}
@@ -103,29 +103,29 @@ no-line k = count-none k [] refl
 pub record Counting (s : List ℕ) (p k i : ℕ) : Type 0 where
   pub inside : i ≤ length s
   pub few : k ≤ 33
-  pub whole : countOf (drop p s) ≡ countFrom k (drop i s)
+  pub whole : bytesWritten (drop p s) ≡ countFrom k (drop i s)
 
 module _ {s : List ℕ} {p : ℕ} where
   pub count-start : p ≤ length s → Counting s p 0 p
-  unfolding countOf countFrom
+  unfolding bytesWritten countFrom
   count-start h = record { inside = h; few = omega arith; whole = rw zero-add }
 
   module _ {k i : ℕ} (h : Counting s p k i) where
-    pub count-end : length s ≤ i → 0 ≡ countOf (drop p s)
+    pub count-end : length s ≤ i → 0 ≡ bytesWritten (drop p s)
     count-end b = sym (h .whole ∙ ap (countFrom k) (drop-of-length-le s b) ∙ no-line k)
 
-    pub count-newline : i < length s → getD s i 0 ≡ 10 → k ≤ 32 → k ≡ countOf (drop p s)
+    pub count-newline : i < length s → getD s i 0 ≡ 10 → k ≤ 32 → k ≡ bytesWritten (drop p s)
     count-newline b e f =
         sym (h .whole ∙ ap (countFrom k) (drop-cons s i 0 b) ∙ front-newline k (getD s i 0) (drop (suc i) s) e f)
 
-    pub count-single : i < length s → length s - i < 2 → (getD s i 0 ≡ 10 → ⊥) → 0 ≡ countOf (drop p s)
+    pub count-single : i < length s → length s - i < 2 → (getD s i 0 ≡ 10 → ⊥) → 0 ≡ bytesWritten (drop p s)
     count-single b f e =
         let q : length s ≤ suc i = omega arith in
         let z : drop i s ≡ getD s i 0 ∷ [] = drop-cons s i 0 b ∙ ap (λ (r : List ℕ). getD s i 0 ∷ r) (drop-of-length-le s q) in
         sym (h .whole ∙ ap (countFrom k) z ∙ front-single k (getD s i 0) e)
 
     pub count-other : {b : ℕ} → 2 ≤ length s - i → (getD s i 0 ≡ 10 → ⊥) → b ≡ byteOf (getD s i 0) (getD s (i + 1) 0) → b ≡ 256
-        → 0 ≡ countOf (drop p s)
+        → 0 ≡ bytesWritten (drop p s)
     count-other f e g v =
         let z = drop-two s i (omega arith) in
         sym (h .whole ∙ ap (countFrom k) z ∙ front-other k (getD s i 0) (getD s (i + 1) 0) (drop (i + 2) s) e (sym g ∙ v))
@@ -137,7 +137,7 @@ module _ {s : List ℕ} {p : ℕ} where
         let w = front-more k (getD s i 0) (getD s (i + 1) 0) (drop (i + 2) s) (λ e. v (g ∙ e)) in
         record { inside = omega arith; few = omega arith; whole = h .whole ∙ ap (countFrom k) z ∙ w }
 
-    pub count-all : 32 < k → 0 ≡ countOf (drop p s)
+    pub count-all : 32 < k → 0 ≡ bytesWritten (drop p s)
     count-all b = sym (h .whole ∙ count-over k (drop i s) b)
 
 -- what stands where the digits of at least one byte more are known to follow

@@ -10,7 +10,7 @@ use Rattle.laws.specs.inner.Lists.{splice}
 use Rattle.laws.proofs.Splice.{splice-nil, splice-append, splice-length}
 use Rattle.frames.specs.Lines.{bytesOf}
 use Rattle.frames.specs.Frames.{dataOf, isFrame, fileOf, framesOf}
-use Rattle.frames.specs.inner.Reading.{firstLine, offsetOf, countOf, givenBy, lineAt}
+use Rattle.frames.specs.inner.Reading.{firstLine, offsetOf, bytesWritten, givenBy, lineAt}
 use Rattle.frames.specs.declared.Frames.the-variants.{Bytes, Bad}
 use Rattle.frames.specs.declared.Line.{Line}
 use Rattle.frames.specs.declared.Line.the-variants.{Frame, Other}
@@ -35,7 +35,7 @@ module _ (s : List ℕ) (p n : ℕ) (d : List ℕ) where
     pub line-offset : (x ≡ n → ⊥) → Gives s p n d Other d
     line-offset h = line-other s p n d (offset-off s p n (λ e. h (o ∙ e)))
 
-  module _ {k : ℕ} (c : k ≡ countOf (drop (p + 9) s)) where
+  module _ {k : ℕ} (c : k ≡ bytesWritten (drop (p + 9) s)) where
     pub line-bytes : k ≡ 0 → Gives s p n d Other d
     line-bytes h = line-other s p n d (bytes-off s p n (sym c ∙ h))
 
@@ -50,8 +50,8 @@ module _ (s : List ℕ) (p n : ℕ) (d : List ℕ) where
         let f = all-pass s p n (sym o ∙ h) (λ e. z (c ∙ e)) (omega arith) in
         let e = drop-drop 9 p s in
         let v = framed-data f in
-        let q : p + 10 + 2 * k ≡ p + length (firstLine (drop p s)) = omega (arith, framed-length f, ap countOf e) in
-        let m : n + k ≡ n + length (dataOf (firstLine (drop p s))) = omega (arith, framed-count f, ap length v, ap countOf e) in
+        let q : p + 10 + 2 * k ≡ p + length (firstLine (drop p s)) = omega (arith, framed-length f, ap bytesWritten e) in
+        let m : n + k ≡ n + length (dataOf (firstLine (drop p s))) = omega (arith, framed-count f, ap length v, ap bytesWritten e) in
         let u : d' ≡ splice d n (dataOf (firstLine (drop p s))) =
         w ∙ ap (λ (t : List ℕ). splice d n (bytesOf (firstLine t))) (sym e) ∙ ap (splice d n) (sym v) in
         (simp (framed f) (cc), simp (framed f) u)

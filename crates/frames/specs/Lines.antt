@@ -5,14 +5,14 @@ use mathlib.Core.List.{List, [], _∷_}
 use lib.Dec.{eqb, leb}
 
 -- A byte in front of the first of some lines, or a line by itself where there are none.
-unfoldable pub addFirst : ℕ → List (List ℕ) → List (List ℕ)
-addFirst c [] = (c ∷ []) ∷ []
-addFirst c (l ∷ ls) = (c ∷ l) ∷ ls
+unfoldable pub addByte : ℕ → List (List ℕ) → List (List ℕ)
+addByte c [] = (c ∷ []) ∷ []
+addByte c (l ∷ ls) = (c ∷ l) ∷ ls
 
 -- The lines, each with the newline that ends it. Only the last may lack its newline.
 unfoldable pub linesOf : List ℕ → List (List ℕ)
 linesOf [] = []
-linesOf (c ∷ cs) = cond (eqb c 10) ((c ∷ []) ∷ linesOf cs) (addFirst c (linesOf cs))
+linesOf (c ∷ cs) = cond (eqb c 10) ((c ∷ []) ∷ linesOf cs) (addByte c (linesOf cs))
 
 -- The value of a digit, or 16 where it is none. Digits are lower case.
 unfoldable pub digitOf : ℕ → ℕ

@@ -6,7 +6,7 @@ ghost use lib.ListN.{length, getD, drop};
 ghost use Rattle.laws.specs.inner.Lists.{splice};
 ghost use Rattle.frames.specs.Lines.{digitOf, areBytes, bytesOf};
 ghost use Rattle.frames.specs.Frames.{fileOf, framesOf};
-ghost use Rattle.frames.specs.inner.Reading.{firstLine, byteOf, offsetOf, countOf, givenBy, lineAt};
+ghost use Rattle.frames.specs.inner.Reading.{firstLine, byteOf, offsetOf, bytesWritten, givenBy, lineAt};
 
 // How many bytes the frames give, or the first bad line, counted from 1.
 pub enum Frames {
@@ -41,7 +41,7 @@ fn digit(c: u8) -> usize
 }
 
 // The byte that the two digits at p write, or 256.
-fn byte(input: &[u8], p: usize) -> usize
+fn digit_pair(input: &[u8], p: usize) -> usize
     requires { ⌜ p + 2 ≤ length (now input) ⌝ }
     ensures { λ r. ⌜ r ≡ byteOf (getD (now (input .entry)) p 0) (getD (now (input .entry)) (p + 1) 0) ⌝ }
 {
@@ -78,9 +78,9 @@ fn offset(input: &[u8], p: usize) -> usize
 }
 
 // How many bytes the digits from p up to a newline write; 0 where other bytes stand there, or digits for more than 32.
-fn count(input: &[u8], p: usize) -> usize
+fn count_bytes(input: &[u8], p: usize) -> usize
     requires { ⌜ p ≤ length (now input) ⌝ }
-    ensures { λ r. ⌜ r ≡ countOf (drop p (now (input .entry))) ⌝ }
+    ensures { λ r. ⌜ r ≡ bytesWritten (drop p (now (input .entry))) ⌝ }
 {
     let mut k = 0;
     let mut at = p;
@@ -94,7 +94,7 @@ fn count(input: &[u8], p: usize) -> usize
         if input.len() - at < 2 {
             return 0;
         }
-        if byte(input, at) == 256 {
+        if digit_pair(input, at) == 256 {
             return 0;
         }
         k += 1;
@@ -104,7 +104,7 @@ fn count(input: &[u8], p: usize) -> usize
 }
 
 // The k bytes that the digits from p up to a newline write, to out from n on.
-fn put(input: &[u8], p: usize, k: usize, out: &mut [u8], n: usize)
+fn write_bytes(input: &[u8], p: usize, k: usize, out: &mut [u8], n: usize)
     requires { ⌜ areBytes (firstLine (drop p (now input))) ≡ true ⌝ }
     requires { ⌜ length (bytesOf (firstLine (drop p (now input)))) ≡ k ⌝ }
     requires { ⌜ n + k ≤ length (now out) ⌝ }
@@ -113,7 +113,7 @@ fn put(input: &[u8], p: usize, k: usize, out: &mut [u8], n: usize)
     let mut i = 0;
     let mut at = p;
     while i < k {
-        out[n + i] = byte(input, at) as u8;
+        out[n + i] = digit_pair(input, at) as u8;
         i += 1;
         at += 2;
     }
@@ -133,14 +133,14 @@ fn read_line(input: &[u8], p: usize, n: usize, out: &mut [u8]) -> Line
     if offset(input, p) != n {
         return Line::Other;
     }
-    let k = count(input, p + 9);
+    let k = count_bytes(input, p + 9);
     if k == 0 {
         return Line::Other;
     }
     if 32768 - n < k {
         return Line::Other;
     }
-    put(input, p + 9, k, out, n);
+    write_bytes(input, p + 9, k, out, n);
     Line::Frame(p + 10 + 2 * k, n + k)
 }
 

@@ -454,7 +454,7 @@ pub fn fold_quad(v: usize, w: usize) -> Quad
 }
 
 // What is kept of the hash of a folded text.
-pub fn value_hash(h: usize) -> usize
+pub fn low_14(h: usize) -> usize
     ensures { λ r. ⌜ r ≡ valueHashOf h ⌝ }
 {
     h & 16383

@@ -12,7 +12,7 @@ use Rattle.region.proofs.Agree.{Alike, clear-behind, clear-within, alike, end-s
 use Rattle.layout.specs.Header.{headerOf, keysAt, keyCount, keyAt}
 use Rattle.layout.specs.Table.{table, bucketAt, entries, entryAt, hashOf, lengthOf, indexOf, segmentOf, elementOf, listAt, count, positionAt, listedSegment, listedElement, tableEnd, TableLaid, BucketStarts}
 use Rattle.layout.specs.Layout.{attributeSize, nodeSize, attributesAt, nodesAt, valuesAt, values, namesAt, names, footerAt, LaidOut}
-use Rattle.layout.specs.inner.View.{Placed, Fits}
+use Rattle.layout.specs.inner.View.{PlacesFit, Fits}
 use Rattle.layout.specs.declared.Places.{Places}
 use Rattle.layout.specs.declared.View.{View}
 
@@ -205,7 +205,7 @@ module _ {b c : List ℕ} {x : ℕ} (a : Agree b c x) (h : Inside b x) where
   header-same =
       rw (u32-same a 0 (inl (omega (arith, front))), u64-same a 4 (inl (omega (arith, front))), u32-same a 12 (inl (omega (arith, front))))
 
-  placed-same : {p : Places} → Placed b p → Placed c p
+  placed-same : {p : Places} → PlacesFit b p → PlacesFit c p
   unfolding values names
   placed-same g =
       record {

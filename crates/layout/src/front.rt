@@ -119,7 +119,7 @@ pub fn scan_front(b: &[u8]) -> FrontScan
 }
 
 // The header report.
-pub fn report(b: &[u8]) -> Header
+pub fn header_report(b: &[u8]) -> Header
     requires { ⌜ 32 ≤ length (now b) ⌝ }
     ensures { λ r. ⌜ r ≡ headerOf (now (b .entry)) ⌝ }
 {

@@ -65,7 +65,7 @@ pub struct View {
 }
 
 // What layout answers: the view means something only where nothing is refused.
-pub struct Checked {
+pub struct CheckedLayout {
     pub answer: Verdict,
     pub view: View,
 }

@@ -10,7 +10,7 @@ use crate::CHARACTER_SIZE;
 use verdict::Scan;
 
 // Bucket k of n, which starts at p.
-fn bucket(b: &[u8], at: usize, n: usize, k: usize, p: usize) -> Scan
+fn check_bucket(b: &[u8], at: usize, n: usize, k: usize, p: usize) -> Scan
     requires { ⌜ (p ≡ bucketAt (table (now b) at n) k) × (p ≤ length (now b)) ⌝ }
     ensures { λ r. ⌜ r ≡ scanned (firstFault (bucketChecks (table (now (b .entry)) at n) k)) (bucketAt (table (now (b .entry)) at n) (k + 1)) ⌝ }
 {
@@ -34,7 +34,7 @@ fn buckets(b: &[u8], at: usize, from: usize, starts: &mut [u32]) -> Scan
     let mut p = from;
     let mut k = 0;
     while k < n {
-        match bucket(b, at, n, k, p) {
+        match check_bucket(b, at, n, k, p) {
             Scan::End(q) => {
                 starts[k] = p as u32;
                 p = q;

@@ -7,7 +7,7 @@ ghost use Rattle.layout.specs.Layout.{footerAt, footerChecks};
 ghost use Rattle.layout.specs.inner.View.{Walked, Fits, Viewed};
 use crate::ATTRIBUTE_SIZE;
 use crate::CHARACTER_SIZE;
-use crate::Checked;
+use crate::CheckedLayout;
 use crate::Header;
 use crate::KEYS_AT;
 use crate::MOST_NAMES;
@@ -118,7 +118,7 @@ fn view_of(b: &[u8], w: Walk, value_buckets: [u32; 1024], name_buckets: [u32; 51
     let mut name_starts = [0u32; 1024];
     region::sample_starts(b, name_chars, CHARACTER_SIZE, &mut name_starts);
     View {
-        header: front::report(b),
+        header: front::header_report(b),
         places: Places {
             keys: le::u32_at(b, KEYS_AT),
             attributes,
@@ -177,7 +177,7 @@ fn no_view() -> View {
 }
 
 // Refusals 1 to 6, and the view of a file that passes them.
-pub fn check_layout(b: &[u8]) -> Checked
+pub fn check_layout(b: &[u8]) -> CheckedLayout
     ensures { λ r. ⌜ Viewed (now (b .entry)) r ⌝ }
 {
     let mut value_buckets = [0u32; 1024];
@@ -185,12 +185,12 @@ pub fn check_layout(b: &[u8]) -> Checked
     let w = along(b, &mut value_buckets, &mut name_buckets);
     let answer = w.answer;
     if let Verdict::Refused(_, _) = answer {
-        return Checked {
+        return CheckedLayout {
             answer,
             view: no_view(),
         };
     }
-    Checked {
+    CheckedLayout {
         answer,
         view: view_of(b, w, value_buckets, name_buckets),
     }

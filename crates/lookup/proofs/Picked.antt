@@ -12,7 +12,7 @@ use Rattle.strings.specs.inner.Held.{Here}
 use Rattle.strings.specs.Order.{stringChecks}
 use Rattle.strings.proofs.Places.{length-at, segment-at, element-at}
 use Rattle.lookup.specs.Kinds.{tellsAt}
-use Rattle.lookup.specs.inner.Bears.{Bears}
+use Rattle.lookup.specs.inner.PickedEntry.{PickedEntry}
 use Rattle.lookup.specs.declared.Kind.{Kind}
 use Rattle.lookup.proofs.Bucket.{entry-resolved, Standing, addressed, long-some}
 
@@ -30,7 +30,7 @@ module _ (b : List ℕ) (r e s p : ℕ) (laid : Laid 2 b r) (h : Resolves 2 b r 
 
 -- nothing picked
 pub not-picked : (kind : Kind) (t : Table) (most n w : ℕ) {x y : ℕ} → TableLaid t most → x ≡ 0 → y ≡ 0
-    → ((x + 2 ≤ length (t .bytes)) × (y + 2 ≤ length (t .bytes))) × ((x ≡ 0 → ⊥) → Bears kind t n x w)
+    → ((x + 2 ≤ length (t .bytes)) × (y + 2 ≤ length (t .bytes))) × ((x ≡ 0 → ⊥) → PickedEntry kind t n x w)
 not-picked kind t most n w laid e f = ((omega (arith, laid .list), omega (arith, laid .list)), λ g. absurd (g e))
 
 -- entry j of bucket k, which stands at e
@@ -50,7 +50,7 @@ module _ (t : Table) (k j e : ℕ) (ok : Clean (stringChecks t)) (here : Here t 
           let c = element-at t k j e _ q refl in
           addressed t k j x w n ok laid here (p ∙ cc) (length-at t k j e w q d) (omega (arith, long-read))
 
-      pub picked : (kind : Kind) (v : ℕ) → v ≡ tellsAt kind (t .bytes) e → Bears kind t n x v
+      pub picked : (kind : Kind) (v : ℕ) → v ≡ tellsAt kind (t .bytes) e → PickedEntry kind t n x v
       picked kind v g = record {
         bucket = k;
         entry = j;

@@ -15,7 +15,7 @@ use Rattle.strings.specs.Order.{stringChecks}
 use Rattle.strings.proofs.Places.{index-at, segment-at, element-at}
 use Rattle.lookup.specs.Lookup.{entryOfText, indexOfText, addressOfText}
 use Rattle.lookup.specs.Kinds.{toldIn, tellsAt}
-use Rattle.lookup.specs.inner.Bears.{Bears}
+use Rattle.lookup.specs.inner.PickedEntry.{PickedEntry}
 use Rattle.lookup.specs.declared.Kind.{Kind}
 use Rattle.lookup.specs.declared.Kind.the-variants.{Name, Value}
 use Rattle.lookup.specs.declared.Lookup.{Lookup}
@@ -44,7 +44,7 @@ told-borne Value t x ok k j w h e p =
     ap Found z ∙ sym (told-some (λ a c. segmentOf t a c * 65536 + elementOf t a c) t x ok k j h e)
 
 -- compared where its text stands
-pub told-there : (kind : Kind) (t : Table) (x : List ℕ) {n p w : ℕ} → Clean (stringChecks t) → Bears kind t n p w → chars (t .bytes) p n ≡ x → Found w ≡ toldIn kind t x
+pub told-there : (kind : Kind) (t : Table) (x : List ℕ) {n p w : ℕ} → Clean (stringChecks t) → PickedEntry kind t n p w → chars (t .bytes) p n ≡ x → Found w ≡ toldIn kind t x
 told-there kind t x ok s e = told-borne kind t x ok _ _ _ (s .here) (s .text ∙ e) (s .told)
 
 module _ (t : Table) (x : List ℕ) (ok : Clean (stringChecks t)) {r : Lookup} (q : r ≡ entryOfText t x) where

@@ -31,6 +31,6 @@ kindOf (Found n) = 0
 kindOf Absent = 1
 
 -- Its value: what was found, or 0.
-unfoldable pub numberOf : Lookup → ℕ
-numberOf (Found n) = n
-numberOf Absent = 0
+unfoldable pub foundNumber : Lookup → ℕ
+foundNumber (Found n) = n
+foundNumber Absent = 0

@@ -1,1 +1,1 @@
-pub mod Bears
+pub mod PickedEntry

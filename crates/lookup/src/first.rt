@@ -14,7 +14,7 @@ ghost use Rattle.strings.specs.Order.{stringChecks};
 ghost use Rattle.strings.specs.inner.Held.{Held, heldTable};
 ghost use Rattle.search.specs.inner.Lower.{Lower};
 ghost use Rattle.lookup.specs.Kinds.{toldIn};
-ghost use Rattle.lookup.specs.inner.Bears.{Bears};
+ghost use Rattle.lookup.specs.inner.PickedEntry.{PickedEntry};
 use crate::Kind;
 use crate::Lookup;
 use region::Region;
@@ -62,7 +62,7 @@ pub fn pick(
 ) -> Candidate
     requires { ⌜ Held (now b) s (now samples) (now starts) × (firstFault (stringChecks (heldTable (now b) s (now starts))) ≡ Accepted) ⌝ }
     ensures places { λ r. ⌜ (r .text + 2 ≤ length (now (b .entry))) × (r .end + 2 ≤ length (now (b .entry))) ⌝ }
-    ensures bears { λ r. ⌜ ((r .text ≡ 0 → ⊥) → Bears kind (heldTable (now (b .entry)) s (now (starts .entry))) n (r .text) (r .told)) ⌝ }
+    ensures bears { λ r. ⌜ ((r .text ≡ 0 → ⊥) → PickedEntry kind (heldTable (now (b .entry)) s (now (starts .entry))) n (r .text) (r .told)) ⌝ }
 {
     let k = hash::bucket(h, starts.len());
     if entry::entry_count(b, s, samples, starts, k) <= low {
@@ -102,7 +102,7 @@ pub fn find_picked(
     requires { ⌜ Held (now b) s (now samples) (now starts) × (firstFault (stringChecks (heldTable (now b) s (now starts))) ≡ Accepted) ⌝ }
     requires { ⌜ (p + 2 * n ≤ length (now q)) × (h ≡ hashText (chars (now q) p n))
         × Lower (heldTable (now b) s (now starts)) (bucketOf (length (now starts)) h) h low ⌝ }
-    requires { ⌜ ((text ≡ 0 → ⊥) → Bears kind (heldTable (now b) s (now starts)) n text told) ⌝ }
+    requires { ⌜ ((text ≡ 0 → ⊥) → PickedEntry kind (heldTable (now b) s (now starts)) n text told) ⌝ }
     ensures { λ r. ⌜ r ≡ toldIn kind (heldTable (now (b .entry)) s (now (starts .entry))) (chars (now (q .entry)) p n) ⌝ }
 {
     if text != 0 {

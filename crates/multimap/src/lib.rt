@@ -5,7 +5,7 @@ ghost use mathlib.Core.Path.{_≡_};
 ghost use Prim.Native.Nat.{_+_, _%_, _≤_, _<_, _^_};
 ghost use Rattle.multimap.specs.inner.Multimap.{numberAt, Filled, OnSlot, LastWith, PutBehind};
 
-fn wide(x: u16) -> usize
+fn wide16(x: u16) -> usize
     ensures { λ r. ⌜ r ≡ x ⌝ }
 {
     x as usize
@@ -18,10 +18,10 @@ fn seek(map: &[u16; 20480], n: usize, m: usize, c: usize, x: usize) -> usize
 {
     let mut at = c;
     while at > 0 {
-        if wide(map[4095 + at]) == x {
+        if wide16(map[4095 + at]) == x {
             return at;
         }
-        at = wide(map[12287 + at]);
+        at = wide16(map[12287 + at]);
     }
     0
 }
@@ -31,7 +31,7 @@ pub fn last(map: &[u16; 20480], n: usize, x: usize) -> usize
     requires { ⌜ Filled n (now map) ⌝ }
     ensures { λ r. ⌜ LastWith (now (map .entry)) n x r ⌝ }
 {
-    seek(map, n, n, wide(map[x % 4096]), x)
+    seek(map, n, n, wide16(map[x % 4096]), x)
 }
 
 // The same of the places before place i, which has number x.
@@ -39,11 +39,11 @@ pub fn before(map: &[u16; 20480], n: usize, i: usize, x: usize) -> usize
     requires { ⌜ Filled n (now map) × (i < n) × (numberAt (now map) i ≡ x) ⌝ }
     ensures { λ r. ⌜ LastWith (now (map .entry)) i x r ⌝ }
 {
-    seek(map, n, i, wide(map[12288 + i]), x)
+    seek(map, n, i, wide16(map[12288 + i]), x)
 }
 
 // Fills place n with number x.
-pub fn put(map: &mut [u16; 20480], n: usize, x: usize)
+pub fn insert(map: &mut [u16; 20480], n: usize, x: usize)
     requires { ⌜ Filled n (now map) × (n < 8192) × (x < 2 ^ 16) ⌝ }
     ensures { λ _. ⌜ PutBehind (now (map .entry)) n x (now (map .exit)) ⌝ }
 {

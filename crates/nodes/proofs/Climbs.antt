@@ -21,12 +21,12 @@ use Rattle.region.proofs.Laws.{place-row}
 use Rattle.layout.specs.Layout.{nodeSize, nodesAt}
 use Rattle.nodes.specs.Node.{nodeName, childSegment, childElement, childCount, Live, nodeAt, childAt}
 use Rattle.nodes.specs.Rules.{ChildRule}
-use Rattle.nodes.specs.inner.Search.{Rising}
+use Rattle.nodes.specs.inner.Search.{NamesRise}
 use Rattle.nodes.proofs.Sought.{sought-out, sought-in, sought-at, sought-fits}
 
 -- what the first i nodes from q on leave: their live names do not fall, all are at most `last`, and `last` is one of them, or 0
 pub record Climbed (b : List ℕ) (q i last : ℕ) : Type 0 where
-  pub rising : Rising b q i
+  pub rising : NamesRise b q i
   pub most : (k : ℕ) → k < i → nodeName b (q + k * nodeSize) ≤ last
   pub own : (last ≡ 0) ⊎ SomeBelow i (λ k. nodeName b (q + k * nodeSize) ≡ last)
 
@@ -53,7 +53,7 @@ module _ (b : List ℕ) (q : ℕ) where
       own = inr (i, omega arith, sym name-is);
     }
 
-    pub climb-falls : (n : ℕ) → i < n → (name ≡ 0 → ⊥) → name < last → Tells (Rising b q n) false
+    pub climb-falls : (n : ℕ) → i < n → (name ≡ 0 → ⊥) → name < last → Tells (NamesRise b q n) false
     climb-falls n m d l =
         tells-no
         (λ r.
@@ -62,8 +62,8 @@ module _ (b : List ℕ) (q : ℕ) where
         (λ w. omega (arith, w .2, name-is, r i m (w .0) (w .1) (λ z. omega (arith, w .2, z)) (λ z. d (name-is ∙ z))))
         (h .own))
 
-  pub climb-whole : (i n last : ℕ) → i ≡ n → Climbed b q i last → Tells (Rising b q n) true
-  climb-whole i n last e h = tells-yes (subst (λ (m : ℕ). Rising b q m) e (h .rising))
+  pub climb-whole : (i n last : ℕ) → i ≡ n → Climbed b q i last → Tells (NamesRise b q n) true
+  climb-whole i n last e h = tells-yes (subst (λ (m : ℕ). NamesRise b q m) e (h .rising))
 
 -- names that do not fall at some offsets do not fall at the same offsets said otherwise
 abbrev Climbing : List ℕ → (ℕ → ℕ) → ℕ → Type 0
@@ -100,7 +100,7 @@ module _ (b : List ℕ) (p n : ℕ) (c : n ≡ childCount b p) where
       unfolding childAt nodeAt
       offset i = omega (arith, sought-at _ _ _ _ _ _ _ c r f q e, place-row nodeSize b (nodesAt b) (childSegment b p) (childElement b p) i)
 
-      pub children-told : (v : Bool) → Tells (Rising b q n) v → Tells (ChildRule b p) v
+      pub children-told : (v : Bool) → Tells (NamesRise b q n) v → Tells (ChildRule b p) v
       children-told v h = record {
         so = λ o. record {
           reach = sought-in _ _ _ _ _ _ _ c r f q e;

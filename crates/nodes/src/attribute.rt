@@ -97,7 +97,7 @@ pub fn text_right(
     let Spot::At(x, n) = a else {
         return false;
     };
-    if words::extended(word) != long::value_hash(b, t, x, n, memo) {
+    if words::extended(word) != long::remembered_hash(b, t, x, n, memo) {
         return false;
     }
     let h = long::text_hash(b, t, x, n, memo);

@@ -22,7 +22,13 @@ fn worth(n: usize) -> bool
 }
 
 // The value hash of the text at x, where n characters are left.
-pub fn value_hash(b: &[u8], t: &[u32; 2048], x: usize, n: usize, memo: &mut [u32; 3072]) -> usize
+pub fn remembered_hash(
+    b: &[u8],
+    t: &[u32; 2048],
+    x: usize,
+    n: usize,
+    memo: &mut [u32; 3072],
+) -> usize
     requires { ⌜ Tables (now t) × (x + 2 * n ≤ length (now b)) × (length (now b) < 2 ^ 32) × Remembers (noted (now b)) (now memo) ⌝ }
     ensures answer { λ r. ⌜ r ≡ valueHash (textIn (now (b .entry)) x n) ⌝ }
     ensures memo { λ _. ⌜ Remembers (noted (now (b .entry))) (now (memo .exit)) ⌝ }

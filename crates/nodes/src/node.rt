@@ -18,7 +18,7 @@ ghost use Rattle.nodes.specs.Node.{nodeAt, Live};
 ghost use Rattle.nodes.specs.Rules.{NodeRule, ChildRule};
 ghost use Rattle.nodes.specs.inner.Doubts.{AllTrusted, NoDoubt};
 ghost use Rattle.verdict.specs.inner.Tells.{Sure};
-ghost use Rattle.nodes.specs.inner.Search.{Rising};
+ghost use Rattle.nodes.specs.inner.Search.{NamesRise};
 ghost use Rattle.nodes.specs.Order.{attributeRangeChecks, nodeChecks};
 ghost use Rattle.nodes.specs.inner.Held.{Ready};
 ghost use Rattle.nodes.specs.inner.Noted.{noted};
@@ -60,7 +60,7 @@ fn node_right(b: &[u8], names: Names, keys: usize, seg: usize, el: usize, p: usi
 // Whether the name indices of the live ones among the n nodes from q on do not fall.
 fn rising(b: &[u8], q: usize, n: usize) -> bool
     requires { ⌜ q + n * 24 ≤ length (now b) ⌝ }
-    ensures { λ r. ⌜ Tells (Rising (now (b .entry)) q n) r ⌝ }
+    ensures { λ r. ⌜ Tells (NamesRise (now (b .entry)) q n) r ⌝ }
 {
     let mut last = 0;
     let mut i = 0;

@@ -19,7 +19,7 @@ use Rattle.region.specs.declared.Region.{Region}
 use Rattle.text.specs.Text.{textIn, textAt}
 use Rattle.layout.specs.Table.{table, count, positionAt, listedSegment, listedElement}
 use Rattle.layout.specs.Layout.{values, names}
-use Rattle.layout.specs.inner.View.{Placed}
+use Rattle.layout.specs.inner.View.{PlacesFit}
 use Rattle.layout.specs.declared.Places.{Places}
 use Rattle.layout.proofs.Laws.{position-fits}
 use Rattle.layout.proofs.Seen.{own-mapped}
@@ -81,7 +81,7 @@ module _ (b : List ℕ) (q : ℕ) {seg el : ℕ} (v : valueOf b q ≡ Text seg e
       sym (rw (ne-eqb (typeOf (typeWord b q)) 1 not-one, ne-eqb (typeOf (typeWord b q)) 2 not-two)) ∙ v in
       ((cc), (cc))
 
-module _ {b : List ℕ} (g : FileRules b) {p : Places} (w : Placed b p) where
+module _ {b : List ℕ} (g : FileRules b) {p : Places} (w : PlacesFit b p) where
   -- ---- a name index
 
   module _ {i x : ℕ} (low : 1 ≤ i) (high : i ≤ nameCount b) (e : x ≡ p .«name_list» + 4 * i) where

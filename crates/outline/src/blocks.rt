@@ -13,7 +13,7 @@ use layout::Places;
 use tree::ranges;
 
 // The line of the live node at x.
-fn put_line(
+fn put_node(
     b: &[u8],
     p: Places,
     attribute_starts: &[u32; 1024],
@@ -52,7 +52,7 @@ pub fn write_node(
     requires { ⌜ Used (now b) a × (x ≡ nodeOf (now b) a) × Live (now b) x × (level + left ≤ 63) ⌝ }
     ensures { λ r. ⌜ Put (now (out .entry)) at (block (now (b .entry)) left level a) r (now (out .exit)) ⌝ }
 {
-    let e = put_line(
+    let e = put_node(
         b,
         p,
         attribute_starts,

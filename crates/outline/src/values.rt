@@ -1,5 +1,5 @@
 // Attributes and their values.
-ghost use Rattle.layout.specs.inner.View.{Placed};
+ghost use Rattle.layout.specs.inner.View.{PlacesFit};
 ghost use Rattle.nodes.specs.Node.{attributeCount, attributeAt};
 ghost use Rattle.nodes.specs.Attribute.{valueOf};
 ghost use Rattle.tree.specs.Chain.{ranged};
@@ -32,7 +32,7 @@ fn put_value(
     out: &mut [u8],
     at: usize,
 ) -> usize
-    requires { ⌜ FileRules (now b) × Placed (now b) p × ValueStarts (now b) p (now samples) × AttributeReady (now b) q ⌝ }
+    requires { ⌜ FileRules (now b) × PlacesFit (now b) p × ValueStarts (now b) p (now samples) × AttributeReady (now b) q ⌝ }
     ensures { λ r. ⌜ Put (now (out .entry)) at (valueText (now (b .entry)) (valueOf (now (b .entry)) q)) r (now (out .exit)) ⌝ }
 {
     let v = value::value_at(b, q);
@@ -63,7 +63,7 @@ fn put_attribute(
     out: &mut [u8],
     at: usize,
 ) -> usize
-    requires { ⌜ FileRules (now b) × Placed (now b) p × ValueStarts (now b) p (now «value_starts») × NameStarts (now b) p (now «name_starts»)
+    requires { ⌜ FileRules (now b) × PlacesFit (now b) p × ValueStarts (now b) p (now «value_starts») × NameStarts (now b) p (now «name_starts»)
         × AttributeReady (now b) q ⌝ }
     ensures { λ r. ⌜ Put (now (out .entry)) at (attributeText (now (b .entry)) q) r (now (out .exit)) ⌝ }
 {

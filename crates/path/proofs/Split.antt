@@ -14,23 +14,23 @@ use Rattle.le.specs.Le.{u16At}
 use Rattle.text.specs.Text.{chars}
 use Rattle.text.proofs.Laws.{chars-none, chars-more}
 use Rattle.lookup.specs.Lookup.{textFrom}
-use Rattle.path.specs.Names.{addFirst, split, namesOf, pathChecks}
+use Rattle.path.specs.Names.{addChar, split, namesOf, pathChecks}
 use Rattle.path.specs.inner.Indices.{NameEnd}
 use Rattle.path.proofs.Formed.{formed-inv}
 
-pub length-add : (c : ℕ) (xs : List (List ℕ)) → length (addFirst c xs) ≡ length xs
-unfolding addFirst
+pub length-add : (c : ℕ) (xs : List (List ℕ)) → length (addChar c xs) ≡ length xs
+unfolding addChar
 length-add c [] = refl
 length-add c (x ∷ xs) = refl
 
 -- characters whose first 0 is at place k are a name and what is behind it, from offset q on, m characters
 split-chars : (b : List ℕ) (k p n q m : ℕ) → ((i : ℕ) → i < k → u16At b (p + 2 * i) ≡ 0 → ⊥) → u16At b (p + 2 * k) ≡ 0
     → q ≡ p + 2 * k + 2 → n ≡ k + 1 + m → split (chars b p n) ≡ chars b p k ∷ split (chars b q m)
-unfolding split chars addFirst
+unfolding split chars addChar
 split-chars b zero p n q m f z e d =
     let h : p + 2 * 0 ≡ p = omega arith in
     ap split (chars-more b p n m (omega arith))
-    ∙ ap (λ (c : Bool). cond c ([] ∷ split (chars b (p + 2) m)) (addFirst (u16At b p) (split (chars b (p + 2) m)))) (eq-eqb (u16At b p) 0 (ap (u16At b) (sym h) ∙ z))
+    ∙ ap (λ (c : Bool). cond c ([] ∷ split (chars b (p + 2) m)) (addChar (u16At b p) (split (chars b (p + 2) m)))) (eq-eqb (u16At b p) 0 (ap (u16At b) (sym h) ∙ z))
     ∙ (let g : p + 2 ≡ q = omega arith in rw g)
 split-chars b (suc k) p n q m f z e d =
     let h : p + 2 * 0 ≡ p = omega arith in
@@ -39,9 +39,9 @@ split-chars b (suc k) p n q m f z e d =
     (let s : p + 2 + 2 * k ≡ p + 2 * suc k = omega arith in ap (u16At b) s ∙ z)
     (omega arith) refl in
     ap split (chars-more b p n (k + 1 + m) (omega arith))
-    ∙ ap (λ (c : Bool). cond c ([] ∷ split (chars b (p + 2) (k + 1 + m))) (addFirst (u16At b p) (split (chars b (p + 2) (k + 1 + m)))))
+    ∙ ap (λ (c : Bool). cond c ([] ∷ split (chars b (p + 2) (k + 1 + m))) (addChar (u16At b p) (split (chars b (p + 2) (k + 1 + m)))))
     (ne-eqb (u16At b p) 0 (λ w. f 0 (omega arith) (ap (u16At b) h ∙ w)))
-    ∙ ap (addFirst (u16At b p)) r
+    ∙ ap (addChar (u16At b p)) r
 
 -- where one of them is 0 there is a name
 split-some : (b : List ℕ) (k p n : ℕ) → u16At b (p + 2 * k) ≡ 0 → k < n → 0 < length (split (chars b p n))

@@ -13,14 +13,14 @@ use Rattle.le.specs.Le.{u16At}
 use Rattle.lookup.specs.Lookup.{textFrom}
 
 -- A character in front of the first of some names.
-unfoldable pub addFirst : ℕ → List (List ℕ) → List (List ℕ)
-addFirst c [] = []
-addFirst c (x ∷ xs) = (c ∷ x) ∷ xs
+unfoldable pub addChar : ℕ → List (List ℕ) → List (List ℕ)
+addChar c [] = []
+addChar c (x ∷ xs) = (c ∷ x) ∷ xs
 
 -- The names of some characters: each 0 ends one, which may be empty. Characters after the last 0 make none.
 unfoldable pub split : List ℕ → List (List ℕ)
 split [] = []
-split (c ∷ cs) = cond (eqb c 0) ([] ∷ split cs) (addFirst c (split cs))
+split (c ∷ cs) = cond (eqb c 0) ([] ∷ split cs) (addChar c (split cs))
 
 -- The names of a path that comes as bytes.
 unfoldable pub namesOf : List ℕ → List (List ℕ)

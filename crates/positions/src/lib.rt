@@ -84,7 +84,7 @@ fn check_positions(
 }
 
 // What is found of a table: the first fault, and whether its texts are known to fill its characters.
-pub struct Checked {
+pub struct CheckedTable {
     pub answer: Verdict,
     pub packed: bool,
 }
@@ -96,7 +96,7 @@ pub fn check_table(
     s: Strings,
     samples: &[u32; 1024],
     starts: &[u32],
-) -> Checked
+) -> CheckedTable
     requires { ⌜ Tables (now t) × Held (now b) s (now samples) (now starts) ⌝ }
     ensures answer { λ r. ⌜ r .answer ≡ firstFault (stringChecks (heldTable (now (b .entry)) s (now (starts .entry)))) ⌝ }
     ensures packed { λ r. ⌜ Sure (Packed (heldTable (now (b .entry)) s (now (starts .entry)))) (r .packed) ⌝ }
@@ -104,12 +104,12 @@ pub fn check_table(
     let c = table::check_entries(b, t, s, samples, starts);
     let found = c.answer;
     if let Verdict::Refused(num, place) = found {
-        return Checked {
+        return CheckedTable {
             answer: Verdict::Refused(num, place),
             packed: false,
         };
     }
-    Checked {
+    CheckedTable {
         answer: check_positions(b, t, s, samples, starts),
         packed: packing::is_packed(b, s, samples, starts, c.begun),
     }

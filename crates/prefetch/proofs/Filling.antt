@@ -6,7 +6,7 @@ use mathlib.Core.List.{List}
 use borrow.Author.Count.{below-none}
 use lib.ListN.{length, getD, set, length-set}
 use Rattle.strings.proofs.Filling.{fill, fill-both}
-use Rattle.prefetch.specs.inner.Batch.{TextSpot, Fits, AllSpots, AllFit, AllSeen}
+use Rattle.prefetch.specs.inner.Batch.{TextSpot, SpotFits, AllSpots, AllFit, AllSeen}
 use Rattle.le.specs.Le.{u16At}
 
 pub spots-none : {b : List ℕ} {r : ℕ} {slots at left : List ℕ} → AllSpots b r slots 0 at left
@@ -25,10 +25,10 @@ spots-upto {n = n} {j = j} l a = record { each = λ i h. a .each i (omega arith)
 pub fit-none : {b at left : List ℕ} → AllFit b 0 at left
 fit-none = record { each = below-none _ }
 
-pub fit-more : {b at left : List ℕ} {j x m : ℕ} → length at ≡ 64 → length left ≡ 64 → j < 64 → AllFit b j at left → Fits b x m
+pub fit-more : {b at left : List ℕ} {j x m : ℕ} → length at ≡ 64 → length left ≡ 64 → j < 64 → AllFit b j at left → SpotFits b x m
     → AllFit b (j + 1) (set at j x) (set left j m)
 fit-more {b} {at} {left} {j} {x} {m} e f l a s = record {
-  each = fill-both (λ (i y z : ℕ). Fits b y z) at left j x m (omega (arith, e)) (omega (arith, f)) (a .each) s;
+  each = fill-both (λ (i y z : ℕ). SpotFits b y z) at left j x m (omega (arith, e)) (omega (arith, f)) (a .each) s;
 }
 
 pub fit-upto : {b at left : List ℕ} {n j : ℕ} → n ≤ j → AllFit b j at left → AllFit b n at left
@@ -51,7 +51,7 @@ pub length-kept : (xs : List ℕ) (j x n : ℕ) → length xs ≡ n → length (
 length-kept xs j x n e = length-set xs j x ∙ e
 
 -- what is read of one slot
-pub fit-read : {b at left : List ℕ} {n : ℕ} → AllFit b n at left → (j : ℕ) → j < n → {x m : ℕ} → x ≡ getD at j 0 → m ≡ getD left j 0 → Fits b x m
+pub fit-read : {b at left : List ℕ} {n : ℕ} → AllFit b n at left → (j : ℕ) → j < n → {x m : ℕ} → x ≡ getD at j 0 → m ≡ getD left j 0 → SpotFits b x m
 fit-read a j l e f = rw (e, f) (a .each j l)
 
 pub seen-read : {b at seen : List ℕ} {n : ℕ} → AllSeen b n at seen → (j : ℕ) → j < n → {x c : ℕ} → x ≡ getD at j 0 → c ≡ getD seen j 0

@@ -35,7 +35,7 @@ use Rattle.nodes.proofs.Addresses.{spot-fits, address-of}
 use Rattle.le.proofs.Numbers.{Bytes}
 use Rattle.search.specs.inner.Run.{wordOf}
 use Rattle.nodes.proofs.Fields.{extended-is}
-use Rattle.prefetch.specs.inner.Batch.{TextSpot, Fits, Behind, AllSpots, AllBehind, AllHashed, AllFound, AllRight}
+use Rattle.prefetch.specs.inner.Batch.{TextSpot, SpotFits, Behind, AllSpots, AllBehind, AllHashed, AllFound, AllRight}
 
 -- an entry in one bucket has the address of the attribute's text
 pub entry-in : (b : List ℕ) → Bytes b → (q : ℕ) (t : Table) → t .bytes ≡ b → (k w : ℕ) → k < t .buckets → w ≡ u32At b (q + 4)
@@ -57,7 +57,7 @@ spot-of {b} {r} {q} e f =
     record { spot = ap (λ (i : ℕ). spotAt b r (u16At b (q + 4)) (u16At b i)) (sym z) ∙ sym e ∙ f }
 
 -- and what is left there lies in the file
-pub fits-of : {b : List ℕ} {r x n : ℕ} {a : Spot} (q : ℕ) → Laid 2 b r → a ≡ spotAt b r (u16At b (q + 4)) (u16At b (q + 4 + 2)) → a ≡ At x n → Fits b x n
+pub fits-of : {b : List ℕ} {r x n : ℕ} {a : Spot} (q : ℕ) → Laid 2 b r → a ≡ spotAt b r (u16At b (q + 4)) (u16At b (q + 4 + 2)) → a ≡ At x n → SpotFits b x n
 unfolding placeOf
 fits-of {b} {r} q laid e f =
     let w = spot-in _ _ _ _ (sym e ∙ f) in

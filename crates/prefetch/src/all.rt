@@ -134,7 +134,7 @@ fn find_doubts(
         let used = le::u32_at(b, at + 4);
         let mut el = 0;
         while el < used {
-            let taken = slots::take(b, at + 8, el, used, &mut slots);
+            let taken = slots::take_texts(b, at + 8, el, used, &mut slots);
             known = examine_batch(
                 b,
                 t,

@@ -12,7 +12,7 @@ pub struct Taken {
 
 // Takes the texts among the attributes of a row from element el on, until the slots are full or the row ends. A slot is written before it
 // is known whether it is kept: texts come and go too irregularly for a branch.
-pub fn take(b: &[u8], first: usize, el: usize, used: usize, slots: &mut [u32; 64]) -> Taken
+pub fn take_texts(b: &[u8], first: usize, el: usize, used: usize, slots: &mut [u32; 64]) -> Taken
     requires { ⌜ (first + used * 12 ≤ length (now b)) × (length (now b) < 2 ^ 32) × (el ≤ used) × (length (now slots) ≡ 64) ⌝ }
     ensures { λ r. ⌜ TakenFrom (now (b .entry)) first el used r (now (slots .exit)) ⌝ }
 {

@@ -24,7 +24,7 @@ ghost use Rattle.positions.specs.inner.Packed.{Packed};
 ghost use Rattle.nodes.specs.Attribute.{typeWord, textSegment, textElement};
 ghost use Rattle.nodes.specs.inner.Noted.{noted};
 ghost use Rattle.prefetch.specs.inner.Slots.{SlotsIn};
-ghost use Rattle.prefetch.specs.inner.Batch.{Fits, Behind, AllSpots, AllFit, AllSeen, AllBehind, AllHashed, AllFound, AllRight};
+ghost use Rattle.prefetch.specs.inner.Batch.{SpotFits, Behind, AllSpots, AllFit, AllSeen, AllBehind, AllHashed, AllFound, AllRight};
 use nodes::long;
 use region::Region;
 use search::group;
@@ -65,7 +65,7 @@ fn find_spots(
 
 // The characters before them. This is where the memory is waited for, so nothing else is done here: the fewer the instructions between two
 // reads, the more of them the processor has under way.
-fn see(b: &[u8], n: usize, at: &[u32; 64], left: &[u32; 64], seen: &mut [u32; 64])
+fn load_before(b: &[u8], n: usize, at: &[u32; 64], left: &[u32; 64], seen: &mut [u32; 64])
     requires { ⌜ (n ≤ 64) × Lengths (now at) (now left) (now seen) × AllFit (now b) n (now at) (now left) ⌝ }
     ensures { λ _. ⌜ AllSeen (now (b .entry)) n (now (at .entry)) (now (seen .exit)) × (length (now (seen .exit)) ≡ 64) ⌝ }
 {
@@ -102,7 +102,7 @@ fn passes(
     packed: bool,
     memo: &mut [u32; 3072],
 ) -> bool
-    requires { ⌜ Tables (now t) × (q + 12 ≤ length (now b)) × Fits (now b) x n × (seen % 65536 ≡ u16At (now b) (x - 2))
+    requires { ⌜ Tables (now t) × (q + 12 ≤ length (now b)) × SpotFits (now b) x n × (seen % 65536 ≡ u16At (now b) (x - 2))
         × (length (now b) < 2 ^ 32) × Remembers (noted (now b)) (now memo) ⌝ }
     ensures answer { λ r. ⌜ Sure ((extendedOf (typeWord (now (b .entry)) q) ≡ valueHash (textIn (now (b .entry)) x n))
         × Sure (Behind (now (b .entry)) x (textElement (now (b .entry)) q)) packed) r ⌝ }
@@ -111,7 +111,7 @@ fn passes(
     if !can_begin(le::u16_at(b, q + 6), seen, packed) {
         return false;
     }
-    words::extended(le::u16_at(b, q + 2)) == long::value_hash(b, t, x, n, memo)
+    words::extended(le::u16_at(b, q + 2)) == long::remembered_hash(b, t, x, n, memo)
 }
 
 // Whether each does.
@@ -251,7 +251,7 @@ pub fn batch_right(
         return false;
     }
     let mut seen = [0u32; 64];
-    see(b, n, &at, &left, &mut seen);
+    load_before(b, n, &at, &left, &mut seen);
     if !all_pass(b, t, slots, n, &at, &left, &seen, packed, memo) {
         return false;
     }

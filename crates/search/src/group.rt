@@ -135,7 +135,7 @@ fn come_near(
 }
 
 // Eight entries that a hash is to be expected among: the number of the first, and where the first and the last of them stand.
-struct Span {
+struct Eight {
     start: u32,
     first: u32,
     last: u32,
@@ -150,14 +150,14 @@ fn span_at(
     h: usize,
     g: usize,
     w: usize,
-) -> Span
+) -> Eight
     requires { ⌜ Held (now b) s (now samples) (now starts) × (h < 2 ^ 32) × (g < 2 ^ 32) × (w < 2 ^ 32) ⌝ }
     ensures { λ r. ⌜ (r .first + 4 ≤ length (now (b .entry))) × (r .last + 4 ≤ length (now (b .entry))) ⌝ }
 {
     let k = hash::bucket(h, starts.len());
     let n = entry::entry_count(b, s, samples, starts, k);
     if n < 8 {
-        return Span {
+        return Eight {
             start: 0,
             first: starts[k],
             last: starts[k],
@@ -167,7 +167,7 @@ fn span_at(
     let f = near::window(if r < 4 { 0 } else { r - 4 }, n);
     let e = entry::entry_at(b, s, samples, starts, k, f);
     let l = entry::entry_at(b, s, samples, starts, k, f + 7);
-    Span {
+    Eight {
         start: f as u32,
         first: e as u32,
         last: l as u32,

@@ -9,7 +9,7 @@ use Rattle.verdict.specs.declared.Verdict.the-variants.{Accepted}
 use Rattle.verdict.proofs.Laws.{Clean, pass, clean-inv, fault-none, fault-append, append-inv, each-inv, each-clean}
 use Rattle.layout.specs.Table.{Table, entries, hashOf, count}
 use Rattle.strings.specs.Rules.{Resolved, Sized, Hashed, Placed, Indexed, Twin, Carried, TableRules}
-use Rattle.strings.specs.inner.Held.{TextRight}
+use Rattle.strings.specs.inner.Held.{TextPasses}
 use Rattle.strings.specs.Order.{entryChecks, bucketEntryChecks, allEntryChecks, positionChecks, allPositionChecks, stringChecks}
 
 -- an entry's six checks hold
@@ -22,7 +22,7 @@ pub record Good (t : Table) (k j : ℕ) : Type 0 where
   pub alone : ¬ Twin t k j
 
 -- among them those of its text
-pub good-text : (t : Table) (k j : ℕ) → Good t k j → TextRight t k j
+pub good-text : (t : Table) (k j : ℕ) → Good t k j → TextPasses t k j
 good-text t k j g = record { resolved = g .resolved; sized = g .sized; hashed = g .hashed }
 
 module _ (t : Table) where

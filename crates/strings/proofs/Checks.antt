@@ -18,7 +18,7 @@ use Rattle.text.proofs.Laws.{text-length-le}
 use Rattle.layout.specs.Table.{Table, entryAt, hashOf, lengthOf, indexOf, segmentOf, elementOf, count, listedSegment, listedElement}
 use Rattle.strings.specs.Texts.{textOf}
 use Rattle.strings.specs.Rules.{Resolved, Sized, Hashed, Placed, Indexed, Twin}
-use Rattle.strings.specs.inner.Held.{TextRight}
+use Rattle.strings.specs.inner.Held.{TextPasses}
 use Rattle.strings.specs.Order.{entryChecks}
 use Rattle.strings.proofs.Accepted.{entry-clean}
 use Rattle.strings.proofs.Spots.{Spotted}
@@ -42,7 +42,7 @@ module _ (t : Table) (k j p n : ℕ) (m : Extent) (f : Measured (t .bytes) p n m
     unfolding textOf
     sized = omega (arith, q, d, f .long, ap length (w .text))
 
-    pub text-right : (h : ℕ) → h ≡ hashOf t k j → h ≡ m .hash → TextRight t k j
+    pub text-right : (h : ℕ) → h ≡ hashOf t k j → h ≡ m .hash → TextPasses t k j
     unfolding textOf
     text-right h p g = record { resolved = w .resolved; sized = sized; hashed = sym p ∙ g ∙ f .hashed ∙ ap hashText (w .text) }
 
@@ -108,7 +108,7 @@ module _ (t : Table) (k j : ℕ) where
     unfolding entryChecks
     refused-9 a b f = at-entry (pass _ _ _ _ _ a ∙ pass _ _ _ _ _ b ∙ stop _ _ _ _ _ f)
 
-    module _ (r : TextRight t k j) where
+    module _ (r : TextPasses t k j) where
       pub refused-10 : (Placed t k j → ⊥) → Refused 10 e ≡ firstFault (entryChecks t k j)
       unfolding entryChecks
       refused-10 f = at-entry (pass _ _ _ _ _ (r .resolved) ∙ pass _ _ _ _ _ (r .sized) ∙ pass _ _ _ _ _ (r .hashed) ∙ stop _ _ _ _ _ f)
@@ -126,7 +126,7 @@ module _ (t : Table) (k j : ℕ) where
           (pass _ _ _ _ _ (r .resolved) ∙ pass _ _ _ _ _ (r .sized) ∙ pass _ _ _ _ _ (r .hashed) ∙ pass _ _ _ _ _ a ∙ pass _ _ _ _ _ b
           ∙ stop _ _ _ _ _ (λ f. f w))
 
-  pub entry-passes : TextRight t k j → Placed t k j → Indexed t k j → ¬ Twin t k j → Accepted ≡ firstFault (entryChecks t k j)
+  pub entry-passes : TextPasses t k j → Placed t k j → Indexed t k j → ¬ Twin t k j → Accepted ≡ firstFault (entryChecks t k j)
   entry-passes r a b f = sym (entry-clean t k j (record {
     resolved = r .resolved;
     sized = r .sized;

@@ -14,7 +14,7 @@ use Rattle.text.specs.inner.Fingerprint.{fingerprintOf}
 use Rattle.text.proofs.Laws.{text-chars, text-length-le}
 use Rattle.layout.specs.Table.{Table, lengthOf, segmentOf, elementOf}
 use Rattle.strings.specs.Texts.{textOf}
-use Rattle.strings.specs.inner.Held.{TextRight, Sorted}
+use Rattle.strings.specs.inner.Held.{TextPasses, Sorted}
 use Rattle.strings.specs.inner.Apart.{Differ, Compared, Away, Apart, Fingerprinted, Collected, Met, Sifted, Clear, AwayWithin}
 use Rattle.strings.proofs.Spots.{Spotted}
 use Rattle.strings.proofs.Runs.{Alone}
@@ -29,7 +29,7 @@ module _ (t : Table) (k i j : ℕ) where
 -- ---- fingerprints
 
 module _ (t : Table) (k j : ℕ) where
-  pub fingerprint-none : (TextRight t k j → ⊥) → Fingerprinted t k j 0
+  pub fingerprint-none : (TextPasses t k j → ⊥) → Fingerprinted t k j 0
   fingerprint-none f = record { small = omega arith; value = λ r. absurd (f r) }
 
   module _ (p n w : ℕ) (s : Spotted t (segmentOf t k j) (elementOf t k j) p n) (q : w ≡ lengthOf t k j) where
@@ -37,10 +37,10 @@ module _ (t : Table) (k j : ℕ) where
     unfolding textOf
     text-here = sym (s .text)
 
-    pub told-some : w ≡ 0 → TextRight t k j → ⊥
+    pub told-some : w ≡ 0 → TextPasses t k j → ⊥
     told-some z r = omega (arith, r .sized)
 
-    pub told-few : n + 1 < w → TextRight t k j → ⊥
+    pub told-few : n + 1 < w → TextPasses t k j → ⊥
     told-few l r = omega (arith, r .sized, ap length text-here, text-length-le (t .bytes) p n)
 
     pub fingerprint-some : (x : ℕ) → (x ≡ fingerprintOf (chars (t .bytes) p (w - 1))) × (x < 2 ^ 16) → Fingerprinted t k j x

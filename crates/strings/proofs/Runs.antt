@@ -11,7 +11,7 @@ use Rattle.hash.specs.Hash.{hashText}
 use Rattle.layout.specs.Table.{Table, hashOf, lengthOf}
 use Rattle.strings.specs.Texts.{textOf}
 use Rattle.strings.specs.Rules.{Placed, Twin}
-use Rattle.strings.specs.inner.Held.{TextRight, Sorted}
+use Rattle.strings.specs.inner.Held.{TextPasses, Sorted}
 use Rattle.strings.specs.Order.{entryChecks}
 use Rattle.strings.proofs.Accepted.{entry-good, good-text}
 
@@ -20,7 +20,7 @@ unfoldable pub Alone : Table → ℕ → ℕ → ℕ → Type 0
 Alone t k j i = (m : ℕ) → i ≤ m → m < j → textOf t k m ≡ textOf t k j → ⊥
 
 -- texts whose entries have other lengths are not the same
-pub parted : (t : Table) (k i j x y : ℕ) → TextRight t k i → TextRight t k j → x ≡ lengthOf t k i → y ≡ lengthOf t k j → (x ≡ y → ⊥)
+pub parted : (t : Table) (k i j x y : ℕ) → TextPasses t k i → TextPasses t k j → x ≡ lengthOf t k i → y ≡ lengthOf t k j → (x ≡ y → ⊥)
     → textOf t k i ≡ textOf t k j → ⊥
 parted t k i j x y r s p q d e =
     let n : length (textOf t k i) ≡ length (textOf t k j) = ap length e in
@@ -64,9 +64,9 @@ module _ (t : Table) (k j : ℕ) where
   twin-found i n e l q = (n, omega arith, q)
 
   -- an entry whose text is right and that is placed, behind entries that passed
-  pub sorted : ((i : ℕ) → i < j → Clean (entryChecks t k i)) → TextRight t k j → Placed t k j → Sorted t k j
+  pub sorted : ((i : ℕ) → i < j → Clean (entryChecks t k i)) → TextPasses t k j → Placed t k j → Sorted t k j
   sorted f r p = record {
-    right = λ i l. ⊎-elim (λ q. subst (TextRight t k) (sym q) r) (λ w. good-text t k i (entry-good t k i (f i w))) (eq-or-lt-of-le l);
+    right = λ i l. ⊎-elim (λ q. subst (TextPasses t k) (sym q) r) (λ w. good-text t k i (entry-good t k i (f i w))) (eq-or-lt-of-le l);
     ascends = λ i l. ⊎-elim (λ q. subst (λ (x : ℕ). hashOf t k (x - 1) ≤ hashOf t k x) (sym q) (p .ascends)) (λ w. entry-good t k i (f i w) .placed .ascends)
         (eq-or-lt-of-le l);
   }

@@ -108,7 +108,7 @@ fn find_stretches(
 
 // What touch_whole reads of them. This is where the memory is waited for, so little else is done here: the fewer the instructions between
 // two reads, the more of them the processor has under way.
-fn see(
+fn load_ahead(
     b: &[u8],
     s: Strings,
     samples: &[u32; 1024],
@@ -157,5 +157,5 @@ pub(crate) fn keep_ahead(
     }
     let m = least(n - j, 64);
     find_stretches(b, s, samples, starts, k, j, m, at, left);
-    see(b, s, samples, starts, k, j, m, at, left, seen);
+    load_ahead(b, s, samples, starts, k, j, m, at, left, seen);
 }

@@ -102,7 +102,7 @@ fn collect(
         if met(b, s, samples, starts, k, from, n, from + n, x, map) {
             return n;
         }
-        multimap::put(map, n, x);
+        multimap::insert(map, n, x);
         n += 1;
     }
     n

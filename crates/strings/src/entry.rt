@@ -9,7 +9,7 @@ ghost use Rattle.hash.specs.inner.Tables.{Tables};
 ghost use Rattle.layout.specs.Table.{entryAt, entries};
 ghost use Rattle.strings.specs.Rules.{Placed, Indexed, Twin};
 ghost use Rattle.strings.specs.Order.{entryChecks};
-ghost use Rattle.strings.specs.inner.Held.{Held, heldTable, Here, TextRight, Sorted};
+ghost use Rattle.strings.specs.inner.Held.{Held, heldTable, Here, TextPasses, Sorted};
 ghost use Rattle.strings.specs.inner.Ahead.{Glanced};
 ghost use Rattle.strings.specs.inner.Apart.{Compared, Away};
 use crate::Strings;
@@ -164,7 +164,7 @@ fn check_order(
 ) -> Verdict
     requires { ⌜ Held (now b) s (now samples) (now starts) × Here (heldTable (now b) s (now starts)) k j
         × ((i : ℕ) → i < j → firstFault (entryChecks (heldTable (now b) s (now starts)) k i) ≡ Accepted)
-        × TextRight (heldTable (now b) s (now starts)) k j × Tells (Indexed (heldTable (now b) s (now starts)) k j) listed
+        × TextPasses (heldTable (now b) s (now starts)) k j × Tells (Indexed (heldTable (now b) s (now starts)) k j) listed
         × Away (heldTable (now b) s (now starts)) k from j ⌝ }
     ensures { λ r. ⌜ r ≡ firstFault (entryChecks (heldTable (now (b .entry)) s (now (starts .entry))) k j) ⌝ }
 {

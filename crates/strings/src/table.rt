@@ -19,7 +19,7 @@ use crate::listed;
 use verdict::Verdict;
 
 // What is found of the entries: the first fault, and whether their texts are known to stand where texts can begin.
-pub struct Checked {
+pub struct CheckedEntries {
     pub answer: Verdict,
     pub begun: bool,
 }
@@ -57,7 +57,7 @@ pub fn check_entries(
     s: Strings,
     samples: &[u32; 1024],
     starts: &[u32],
-) -> Checked
+) -> CheckedEntries
     requires { ⌜ Tables (now t) × Held (now b) s (now samples) (now starts) ⌝ }
     ensures answer { λ r. ⌜ r .answer ≡ firstFault (allEntryChecks (heldTable (now (b .entry)) s (now (starts .entry)))) ⌝ }
     ensures begun { λ r. ⌜ Sure (AllBegun (heldTable (now (b .entry)) s (now (starts .entry)))) (r .begun) ⌝ }
@@ -107,7 +107,7 @@ pub fn check_entries(
         }
         k += 1;
     }
-    Checked {
+    CheckedEntries {
         answer: fault,
         begun,
     }

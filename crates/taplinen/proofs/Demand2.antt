@@ -15,7 +15,7 @@ use Rattle.layout.specs.Layout.{values, names}
 use Rattle.strings.proofs.Accepted.{strings-iff}
 use Rattle.tree.specs.File.{address, usedNodes}
 use Rattle.lookup.specs.Lookup.{textFrom, Borne, BorneWith, indexOfText, addressOfText}
-use Rattle.lookup.specs.Kinds.{toldIn, tableOf, kindOf, numberOf}
+use Rattle.lookup.specs.Kinds.{toldIn, tableOf, kindOf, foundNumber}
 use Rattle.lookup.specs.declared.Kind.the-variants.{Name, Value}
 use Rattle.lookup.specs.declared.Lookup.{Lookup}
 use Rattle.lookup.specs.declared.Lookup.the-variants.{Found, Absent}
@@ -75,22 +75,22 @@ module _ (b : List ℕ) (room : ℕ) where
 -- ---- the second sentence
 
 -- the numbers of a lookup
-found-numbers : (l : Lookup) (i : ℕ) → ((kindOf l ≡ 0) × (numberOf l ≡ i)) ↔ (l ≡ Found i)
-unfolding kindOf numberOf
+found-numbers : (l : Lookup) (i : ℕ) → ((kindOf l ≡ 0) × (foundNumber l ≡ i)) ↔ (l ≡ Found i)
+unfolding kindOf foundNumber
 found-numbers (Found n) i = (λ w. ap Found (w .1), λ e. (refl, (cc)))
 found-numbers Absent i = (λ w. absurd (omega (arith, w .0)), λ e. let z : _≡_ {A = ℕ} 0 1 = cc in absurd (omega arith))
 
-absent-numbers : (l : Lookup) → ((kindOf l ≡ 1) × (numberOf l ≡ 0)) ↔ (l ≡ Absent)
-unfolding kindOf numberOf
+absent-numbers : (l : Lookup) → ((kindOf l ≡ 1) × (foundNumber l ≡ 0)) ↔ (l ≡ Absent)
+unfolding kindOf foundNumber
 absent-numbers (Found n) = (λ w. absurd (omega (arith, w .0)), λ e. let z : _≡_ {A = ℕ} 0 1 = cc in absurd (omega arith))
 absent-numbers Absent = (λ e. refl, λ e. (refl, refl))
 
-finds : (t : Table) (f : ℕ → ℕ → ℕ) (x : List ℕ) (l : Lookup) (r : Answer) → r ≡ answered Accepted (kindOf l) (numberOf l)
+finds : (t : Table) (f : ℕ → ℕ → ℕ) (x : List ℕ) (l : Lookup) (r : Answer) → r ≡ answered Accepted (kindOf l) (foundNumber l)
     → ((i : ℕ) → (l ≡ Found i) ↔ BorneWith f t x i) → ((l ≡ Absent) ↔ (Borne t x → ⊥)) → Finds t f x r
 unfolding answered
 finds t f x l r e g h =
     let k : r .kind ≡ kindOf l = ap (λ (a : Answer). a .kind) e in
-    let v : r .value ≡ numberOf l = ap (λ (a : Answer). a .value) e in
+    let v : r .value ≡ foundNumber l = ap (λ (a : Answer). a .value) e in
     record {
       answered = ap (λ (a : Answer). a .refusal) e;
       found = λ i. (
@@ -107,11 +107,11 @@ module _ (b : List ℕ) (room : ℕ) (q : List ℕ) (z : acceptAnswer b room .re
   rules : FileRules b
   rules = accepted-iff b room .0 (accept-zero b room z) .0
 
-  name-told : nameAnswer b room q ≡ answered Accepted (kindOf (indexOfText (names b) (textFrom q))) (numberOf (indexOfText (names b) (textFrom q)))
+  name-told : nameAnswer b room q ≡ answered Accepted (kindOf (indexOfText (names b) (textFrom q))) (foundNumber (indexOfText (names b) (textFrom q)))
   unfolding nameAnswer textAnswer toldIn tableOf
   name-told = text-told Name b room q (accept-zero b room z) even
 
-  value-told : valueAnswer b room q ≡ answered Accepted (kindOf (addressOfText (values b) (textFrom q))) (numberOf (addressOfText (values b) (textFrom q)))
+  value-told : valueAnswer b room q ≡ answered Accepted (kindOf (addressOfText (values b) (textFrom q))) (foundNumber (addressOfText (values b) (textFrom q)))
   unfolding valueAnswer textAnswer toldIn tableOf
   value-told = text-told Value b room q (accept-zero b room z) even
 

@@ -12,7 +12,7 @@ use Rattle.layout.specs.declared.Header.{Header}
 use Rattle.lookup.specs.declared.Lookup.{Lookup}
 use Rattle.lookup.specs.declared.Lookup.the-variants.{Found, Absent}
 use Rattle.lookup.specs.Asked.{textChecks}
-use Rattle.lookup.specs.Kinds.{kindOf, numberOf}
+use Rattle.lookup.specs.Kinds.{kindOf, foundNumber}
 use Rattle.accept.specs.Verdict.{verdictOf}
 use Rattle.taplinen.specs.Answers.{answered, reported}
 use Rattle.taplinen.specs.Questions.{headerAnswer}
@@ -20,12 +20,12 @@ use Rattle.taplinen.specs.declared.answer.Answer.{Answer}
 use Rattle.taplinen.specs.declared.header.HeaderReport.{HeaderReport}
 
 -- what a lookup tells
-pub told-found : (l : Lookup) (n : ℕ) → l ≡ Found n → answered Accepted 0 n ≡ answered Accepted (kindOf l) (numberOf l)
-unfolding kindOf numberOf
+pub told-found : (l : Lookup) (n : ℕ) → l ≡ Found n → answered Accepted 0 n ≡ answered Accepted (kindOf l) (foundNumber l)
+unfolding kindOf foundNumber
 told-found l n e = rw e
 
-pub told-absent : (l : Lookup) → l ≡ Absent → answered Accepted 1 0 ≡ answered Accepted (kindOf l) (numberOf l)
-unfolding kindOf numberOf
+pub told-absent : (l : Lookup) → l ≡ Absent → answered Accepted 1 0 ≡ answered Accepted (kindOf l) (foundNumber l)
+unfolding kindOf foundNumber
 told-absent l e = rw e
 
 -- a refusal leaves out the kind and the value

@@ -1,7 +1,7 @@
 // The answer that crosses to C.
 ghost use mathlib.Core.Path.{_≡_};
 ghost use Rattle.verdict.specs.declared.Verdict.the-variants.{Accepted};
-ghost use Rattle.lookup.specs.Kinds.{kindOf, numberOf};
+ghost use Rattle.lookup.specs.Kinds.{kindOf, foundNumber};
 ghost use Rattle.taplinen.specs.Answers.{answered};
 use lookup::Lookup;
 use verdict::Verdict;
@@ -34,7 +34,7 @@ pub fn answered(v: Verdict, kind: u32, value: usize) -> Answer
 
 // What a lookup tells.
 pub fn told(l: Lookup) -> Answer
-    ensures { λ r. ⌜ r ≡ answered Accepted (kindOf l) (numberOf l) ⌝ }
+    ensures { λ r. ⌜ r ≡ answered Accepted (kindOf l) (foundNumber l) ⌝ }
 {
     match l {
         Lookup::Found(n) => answered(Verdict::Accepted, 0, n),

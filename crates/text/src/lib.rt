@@ -86,16 +86,16 @@ pub fn value_run(b: &[u8], t: &[u32; 2048], p: usize, n: usize, h: usize) -> usi
         let w = le::u32_at(b, p + 2 * (i + 2));
         let f = hash::fold_quad(v, w);
         if v & 65535 == 0 {
-            return hash::value_hash(g);
+            return hash::low_14(g);
         }
         if v < 65536 {
-            return hash::value_hash(hash::char_on(t, g, f.first));
+            return hash::low_14(hash::char_on(t, g, f.first));
         }
         if w & 65535 == 0 {
-            return hash::value_hash(hash::pair_on(t, g, f.first));
+            return hash::low_14(hash::pair_on(t, g, f.first));
         }
         if w < 65536 {
-            return hash::value_hash(hash::char_on(t, hash::pair_on(t, g, f.first), f.second));
+            return hash::low_14(hash::char_on(t, hash::pair_on(t, g, f.first), f.second));
         }
         g = hash::quad_on(t, g, f.first, f.second);
         i += 4;
@@ -113,7 +113,7 @@ fn value_run_few(b: &[u8], t: &[u32; 2048], p: usize, n: usize, h: usize) -> usi
     while i < n {
         let c = le::u16_at(b, p + 2 * i);
         if c == 0 {
-            return hash::value_hash(g);
+            return hash::low_14(g);
         }
         g = hash::char_on(t, g, hash::fold(c));
         i += 1;
@@ -130,7 +130,7 @@ pub fn value_hash(b: &[u8], t: &[u32; 2048], p: usize, n: usize, h: usize) -> us
     if r < 16384 {
         r
     } else {
-        hash::value_hash(r - 16384)
+        hash::low_14(r - 16384)
     }
 }
 

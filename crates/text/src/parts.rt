@@ -76,8 +76,8 @@ pub fn value_hash_all(s: &[u8]) -> usize
 {
     let n = s.len() / 2;
     if n < LONG / 2 {
-        return hash::value_hash(fold_each(s, 0, n, 0));
+        return hash::low_14(fold_each(s, 0, n, 0));
     }
     let t = hash::tables();
-    hash::value_hash(fold_fours(s, &t, 0, n))
+    hash::low_14(fold_fours(s, &t, 0, n))
 }

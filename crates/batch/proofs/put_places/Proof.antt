@@ -28,21 +28,21 @@ abbrev μ-loop : tie.MeasureT-loop
 loop-holds : tie.Need-loop-holds Inv-loop2 μ-loop2 Inv-loop μ-loop
 loop-holds c = (writing-start _ _ _ (c .before .before .before .before .pre .1 .1), search needs, search needs, search needs)
 
-take-requires : tie.Need-take-requires Inv-loop2 μ-loop2 Inv-loop μ-loop
-take-requires c κs = let p = c .before .before .before .before .before .before .before .before .pre in let i = c .before .before .before .loop .inv in (p .0 .0, p .1 .0, i .0 .even, c .before .before .loop-test .taken, i .1 .first, i .1 .second)
+measure-group-requires : tie.Need-measure-group-requires Inv-loop2 μ-loop2 Inv-loop μ-loop
+measure-group-requires c κs = let p = c .before .before .before .before .before .before .before .before .pre in let i = c .before .before .before .loop .inv in (p .0 .0, p .1 .0, i .0 .even, c .before .before .loop-test .taken, i .1 .first, i .1 .second)
 
 bring-near-requires : tie.Need-bring-near-requires Inv-loop2 μ-loop2 Inv-loop μ-loop
 bring-near-requires c κs =
     let p = c .before .before .before .before .before .before .before .before .before .before .before .before .before .before .pre .0 in
-    let g = c .before .before .before .before .before .take .ensures .1 in
+    let g = c .before .before .before .before .before .measure-group .ensures .1 in
     let i = c .before .before .before .before .before .before .before .before .before .loop .inv in
     (p .1, p .2, g .few, record { first = g .lengths-long; second = g .hashes-long; third = i .1 .third }, i .2, i .3)
 
 loop2-holds : tie.Need-loop2-holds Inv-loop2 μ-loop2 Inv-loop μ-loop
-loop2-holds c = going-start _ _ _ (c .before .before .before .before .before .before .take .ensures .1)
+loop2-holds c = going-start _ _ _ (c .before .before .before .before .before .before .measure-group .ensures .1)
 
 loop-less : tie.Need-loop-less Inv-loop2 μ-loop2 Inv-loop μ-loop
-loop-less c = let g = c .before .loop2 .inv in omega (arith, c .before .before .before .before .before .before .before .before .before .before .before .loop-test .taken, c .loop2-test .left, c .before .before .before .before .before .before .before .before .take .ensures .0, going-on g (omega (arith, c .loop2-test .left, c .before .before .before .before .before .before .before .before .take .ensures .0)))
+loop-less c = let g = c .before .loop2 .inv in omega (arith, c .before .before .before .before .before .before .before .before .before .before .before .loop-test .taken, c .loop2-test .left, c .before .before .before .before .before .before .before .before .measure-group .ensures .0, going-on g (omega (arith, c .loop2-test .left, c .before .before .before .before .before .before .before .before .measure-group .ensures .0)))
 
 loop-again : tie.Need-loop-again Inv-loop2 μ-loop2 Inv-loop μ-loop
 loop-again c =
@@ -82,4 +82,4 @@ returns : tie.Need-returns Inv-loop2 μ-loop2 Inv-loop μ-loop
 returns c = writing-all _ _ (c .before .loop .inv .0) (c .loop-test .left)
 
 pub put-places-spec : {M : Type 1} → statement M
-put-places-spec = tie.close (tie.spec Inv-loop2 μ-loop2 Inv-loop μ-loop loop-holds take-requires bring-near-requires loop2-holds loop-less loop-again (λ c. search needs) (λ c. search needs) (λ c. search needs) (λ c. search needs) (λ c κs. search needs) (λ c. search needs) (λ c. search needs) (λ c. search needs) (λ c. search needs) (λ c. search needs) (λ c. search needs) find-picked-requires put-place-requires add-i mul-at add-at add-at-2 (λ c. search needs) (λ c. search needs) loop2-again same-length returns)
+put-places-spec = tie.close (tie.spec Inv-loop2 μ-loop2 Inv-loop μ-loop loop-holds measure-group-requires bring-near-requires loop2-holds loop-less loop-again (λ c. search needs) (λ c. search needs) (λ c. search needs) (λ c. search needs) (λ c κs. search needs) (λ c. search needs) (λ c. search needs) (λ c. search needs) (λ c. search needs) (λ c. search needs) (λ c. search needs) find-picked-requires put-place-requires add-i mul-at add-at add-at-2 (λ c. search needs) (λ c. search needs) loop2-again same-length returns)

@@ -7,7 +7,7 @@ use Rattle.hash.specs.Hash.{hashText, bucketOf}
 use Rattle.text.specs.Text.{textIn}
 use Rattle.layout.specs.Table.{Table}
 use Rattle.search.specs.inner.Lower.{Lower}
-use Rattle.lookup.specs.inner.Bears.{Bears}
+use Rattle.lookup.specs.inner.PickedEntry.{PickedEntry}
 use Rattle.lookup.specs.declared.Kind.{Kind}
 
 -- The text at an offset of the texts has k characters and hash h.
@@ -44,7 +44,7 @@ pub record Texts (b : List ℕ) (n : ℕ) (first later : List ℕ) : Type 0 wher
 pub record Picked (kind : Kind) (t : Table) (lengths : List ℕ) (n : ℕ) (text told : List ℕ) : Type 0 where
   pub text-long : length text ≡ 64
   pub told-long : length told ≡ 64
-  pub each : (j : ℕ) → j < n → (getD text j 0 ≡ 0 → ⊥) → Bears kind t (getD lengths j 0) (getD text j 0) (getD told j 0)
+  pub each : (j : ℕ) → j < n → (getD text j 0 ≡ 0 → ⊥) → PickedEntry kind t (getD lengths j 0) (getD text j 0) (getD told j 0)
 
 -- The low halves of two lists are the same.
 pub record SameLow (a b : List ℕ) : Type 0 where

@@ -23,8 +23,8 @@ unfoldable pub offsetOf : List ℕ → ℕ
 offsetOf s = cond (digits (take 8 s) && eqb (getD s 8 0) 32) (numberFrom 0 (take 8 s)) (2 ^ 32)
 
 -- How many bytes the digits up to a newline write; 0 where other bytes stand there, or digits for more than 32.
-unfoldable pub countOf : List ℕ → ℕ
-countOf s =
+unfoldable pub bytesWritten : List ℕ → ℕ
+bytesWritten s =
     cond (areBytes (firstLine s) && leb (length (bytesOf (firstLine s))) 32)
     (length (bytesOf (firstLine s)))
     0

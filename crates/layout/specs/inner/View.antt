@@ -12,10 +12,10 @@ use Rattle.layout.specs.Layout.{attributeSize, nodeSize, attributesAt, n
 use Rattle.layout.specs.declared.whole.Walk.{Walk}
 use Rattle.layout.specs.declared.Places.{Places}
 use Rattle.layout.specs.declared.View.{View}
-use Rattle.layout.specs.declared.Checked.{Checked}
+use Rattle.layout.specs.declared.CheckedLayout.{CheckedLayout}
 
 -- The places are those of the file.
-pub record Placed (b : List ℕ) (p : Places) : Type 0 where
+pub record PlacesFit (b : List ℕ) (p : Places) : Type 0 where
   pub keys : p .keys ≡ keyCount b
   pub attributes : Mapped attributeSize b (attributesAt b) (p .attributes)
   pub nodes : Mapped nodeSize b (nodesAt b) (p .nodes)
@@ -29,7 +29,7 @@ pub record Placed (b : List ℕ) (p : Places) : Type 0 where
 pub record Fits (b : List ℕ) (v : View) : Type 0 where
   pub laid : LaidOut b
   pub header : v .header ≡ headerOf b
-  pub places : Placed b (v .places)
+  pub places : PlacesFit b (v .places)
   pub «attribute_starts» : Starts attributeSize b (attributesAt b) (v .places .attributes .shift) (v .«attribute_starts»)
   pub «node_starts» : Starts nodeSize b (nodesAt b) (v .places .nodes .shift) (v .«node_starts»)
   pub «node_counts» : Counts nodeSize b (nodesAt b) (v .places .nodes .shift) (v .«node_counts»)
@@ -51,6 +51,6 @@ pub record Walked (b : List ℕ) (w : Walk) (vs ns : List ℕ) : Type 0 where
   pub «name_buckets» : w .answer ≡ Accepted → BucketStarts (names b) ns
 
 -- What layout answers: the first of refusals 1 to 6, and where there is none a view that fits.
-pub record Viewed (b : List ℕ) (r : Checked) : Type 0 where
+pub record Viewed (b : List ℕ) (r : CheckedLayout) : Type 0 where
   pub answer : r .answer ≡ firstFault (layoutChecks b)
   pub view : r .answer ≡ Accepted → Fits b (r .view)

@@ -6,7 +6,7 @@ use Rattle.multimap.proofs.before.Tie as tie
 
 seek-requires : tie.Need-seek-requires
 seek-requires c κs =
-    let p = c .before .before .pre in (p .0, omega (arith, p .1), slot-link (p .0) _ _ _ (p .1) (p .2) (c .wide .ensures))
+    let p = c .before .before .pre in (p .0, omega (arith, p .1), slot-link (p .0) _ _ _ (p .1) (p .2) (c .wide16 .ensures))
 
 pub before-spec : {M : Type 1} → statement M
 before-spec =

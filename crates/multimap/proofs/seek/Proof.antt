@@ -14,37 +14,37 @@ abbrev μ-loop : tie.MeasureT-loop
 loop-holds : tie.Need-loop-holds Inv-loop μ-loop
 loop-holds c = sought-start _ _ _ _ (c .pre .2)
 
-add-wide : tie.Need-add-wide Inv-loop μ-loop
-add-wide c = search needs
+add-wide16 : tie.Need-add-wide16 Inv-loop μ-loop
+add-wide16 c = search needs
 
-mul-wide : tie.Need-mul-wide Inv-loop μ-loop
-mul-wide c = record { fits = omega (arith, c .before .loop .inv .within, c .before .before .pre .1, c .before .before .pre .0 .few) }
+mul-wide16 : tie.Need-mul-wide16 Inv-loop μ-loop
+mul-wide16 c = record { fits = omega (arith, c .before .loop .inv .within, c .before .before .pre .1, c .before .before .pre .0 .few) }
 
-element-copy-out-wide : tie.Need-element-copy-out-wide Inv-loop μ-loop
+element-copy-out-wide : tie.Need-element-copy-out-wide16 Inv-loop μ-loop
 element-copy-out-wide c = omega (arith, c .before .loop .inv .within, c .before .before .pre .1, c .before .before .pre .0 .few)
 
 returns : tie.Need-returns Inv-loop μ-loop
-returns c = sought-here _ _ _ _ (c .before .before .before .before .loop .inv) (sym (c .before .wide .ensures) ∙ c .if1 .taken)
+returns c = sought-here _ _ _ _ (c .before .before .before .before .loop .inv) (sym (c .before .wide16 .ensures) ∙ c .if1 .taken)
 
-add-wide-2 : tie.Need-add-wide-2 Inv-loop μ-loop
-add-wide-2 c = search needs
+add-wide16-2 : tie.Need-add-wide16-2 Inv-loop μ-loop
+add-wide16-2 c = search needs
 
-mul-wide-2 : tie.Need-mul-wide-2 Inv-loop μ-loop
-mul-wide-2 c = record { fits = omega (arith, c .before .before .before .before .loop .inv .within, c .before .before .before .before .before .pre .1, c .before .before .before .before .before .pre .0 .few) }
+mul-wide16-2 : tie.Need-mul-wide16-2 Inv-loop μ-loop
+mul-wide16-2 c = record { fits = omega (arith, c .before .before .before .before .loop .inv .within, c .before .before .before .before .before .pre .1, c .before .before .before .before .before .pre .0 .few) }
 
-element-copy-out-wide-2 : tie.Need-element-copy-out-wide-2 Inv-loop μ-loop
+element-copy-out-wide-2 : tie.Need-element-copy-out-wide16-2 Inv-loop μ-loop
 element-copy-out-wide-2 c = omega (arith, c .before .before .before .before .loop .inv .within, c .before .before .before .before .before .pre .1, c .before .before .before .before .before .pre .0 .few)
 
 loop-less : tie.Need-loop-less Inv-loop μ-loop
 loop-less c =
     let p = c .before .before .before .before .before .before .before .pre in
-    linked-less _ _ _ (p .0) (p .1) _ (c .before .before .before .before .before .before .loop .inv) (c .before .before .before .before .before .loop-test .taken) _ (c .wide2 .ensures)
+    linked-less _ _ _ (p .0) (p .1) _ (c .before .before .before .before .before .before .loop .inv) (c .before .before .before .before .before .loop-test .taken) _ (c .wide162 .ensures)
 
 loop-again : tie.Need-loop-again Inv-loop μ-loop
 loop-again c =
     let p = c .before .before .before .before .before .before .before .pre in
-    sought-next _ _ _ (p .0) (p .1) _ (c .before .before .before .before .before .before .loop .inv) (c .before .before .before .before .before .loop-test .taken) _ (c .wide2 .ensures)
-    (λ e. c .before .before .if1 .left (c .before .before .before .wide .ensures ∙ e))
+    sought-next _ _ _ (p .0) (p .1) _ (c .before .before .before .before .before .before .loop .inv) (c .before .before .before .before .before .loop-test .taken) _ (c .wide162 .ensures)
+    (λ e. c .before .before .if1 .left (c .before .before .before .wide16 .ensures ∙ e))
 
 returns-2 : tie.Need-returns-2 Inv-loop μ-loop
 returns-2 c = sought-none _ _ _ _ (c .before .loop .inv) (c .loop-test .left)
@@ -56,13 +56,13 @@ seek-spec =
     Inv-loop
     μ-loop
     loop-holds
-    add-wide
-    mul-wide
+    add-wide16
+    mul-wide16
     element-copy-out-wide
     (λ c κs. search needs)
     returns
-    add-wide-2
-    mul-wide-2
+    add-wide16-2
+    mul-wide16-2
     element-copy-out-wide-2
     (λ c κs. search needs)
     loop-less

@@ -6,7 +6,7 @@ use Rattle.verdict.specs.Checks.{firstFault}
 use Rattle.verdict.specs.declared.Verdict.the-variants.{Accepted}
 use Rattle.region.specs.inner.Samples.{Starts}
 use Rattle.layout.specs.Layout.{LaidOut, attributeSize, nodeSize, attributesAt, nodesAt, values}
-use Rattle.layout.specs.inner.View.{Placed}
+use Rattle.layout.specs.inner.View.{PlacesFit}
 use Rattle.layout.specs.declared.Places.{Places}
 use Rattle.strings.specs.Order.{stringChecks}
 use Rattle.strings.specs.inner.Held.{Held, heldTable}
@@ -21,7 +21,7 @@ valueStrings p = record { chars = p .«value_chars»; list = p .«value_list» }
 -- The file is laid out, its values table passed 7 to 13, and its special names are known.
 pub record Ready (b : List ℕ) (p : Places) (n : Names) (attributeStarts nodeStarts valueStarts valueBuckets : List ℕ) : Type 0 where
   pub laid : LaidOut b
-  pub placed : Placed b p
+  pub placed : PlacesFit b p
   pub known : Known b n
   pub attributes : Starts attributeSize b (attributesAt b) (p .attributes .shift) attributeStarts
   pub nodes : Starts nodeSize b (nodesAt b) (p .nodes .shift) nodeStarts

@@ -5,5 +5,5 @@ use Rattle.layout.specs.Layout.{nodeSize}
 use Rattle.nodes.specs.Node.{nodeName, Live}
 
 -- The name indices of the live ones among the n nodes from offset q on do not fall.
-abbrev pub Rising : List ℕ → ℕ → ℕ → Type 0
-Rising b q n = (j : ℕ) → j < n → (i : ℕ) → i < j → Live b (q + i * nodeSize) → Live b (q + j * nodeSize) → nodeName b (q + i * nodeSize) ≤ nodeName b (q + j * nodeSize)
+abbrev pub NamesRise : List ℕ → ℕ → ℕ → Type 0
+NamesRise b q n = (j : ℕ) → j < n → (i : ℕ) → i < j → Live b (q + i * nodeSize) → Live b (q + j * nodeSize) → nodeName b (q + i * nodeSize) ≤ nodeName b (q + j * nodeSize)

@@ -6,7 +6,7 @@ use Rattle.region.specs.Region.{Resolves}
 use Rattle.region.specs.inner.Samples.{Mapped, Starts}
 use Rattle.region.specs.declared.Region.{Region}
 use Rattle.layout.specs.Layout.{attributeSize, nodeSize, attributesAt, nodesAt, values, names}
-use Rattle.layout.specs.inner.View.{Placed}
+use Rattle.layout.specs.inner.View.{PlacesFit}
 use Rattle.layout.specs.declared.Places.{Places}
 use Rattle.keys.specs.Names.{nameCount}
 use Rattle.nodes.specs.Node.{Live, nodeName, attributeCount, attributeAt}
@@ -40,7 +40,7 @@ pub record NodeReady (b : List ℕ) (x : ℕ) : Type 0 where
 -- What a line is written from: every rule holds of the file, the places are its own, and so are the samples.
 pub record LineReady (b : List ℕ) (p : Places) (attributeStarts valueStarts nameStarts : List ℕ) : Type 0 where
   pub rules : FileRules b
-  pub placed : Placed b p
+  pub placed : PlacesFit b p
   pub attributes : Starts attributeSize b (attributesAt b) (p .attributes .shift) attributeStarts
   pub values : ValueStarts b p valueStarts
   pub names : NameStarts b p nameStarts

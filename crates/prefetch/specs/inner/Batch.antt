@@ -25,14 +25,14 @@ pub record AllSpots (b : List ℕ) (r : ℕ) (slots : List ℕ) (n : ℕ) (at le
   pub each : Each n (λ j. TextSpot b r (getD slots j 0) (getD at j 0) (getD left j 0))
 
 -- At least one character is left at x, one stands before it, and all lie in the file.
-pub record Fits (b : List ℕ) (x n : ℕ) : Type 0 where
+pub record SpotFits (b : List ℕ) (x n : ℕ) : Type 0 where
   pub some : 1 ≤ n
   pub past : 2 ≤ x
   pub inside : x + 2 * n ≤ length b
 
 -- The same of each of the first n.
 pub record AllFit (b : List ℕ) (n : ℕ) (at left : List ℕ) : Type 0 where
-  pub each : Each n (λ j. Fits b (getD at j 0) (getD left j 0))
+  pub each : Each n (λ j. SpotFits b (getD at j 0) (getD left j 0))
 
 -- The low half of each of the first n is the character before its offset.
 pub record AllSeen (b : List ℕ) (n : ℕ) (at seen : List ℕ) : Type 0 where

@@ -7,11 +7,11 @@ use Rattle.multimap.specs.inner.Multimap.{numberAt, Filled}
 use Rattle.text.specs.inner.Fingerprint.{fingerprintOf}
 use Rattle.layout.specs.Table.{Table}
 use Rattle.strings.specs.Texts.{textOf}
-use Rattle.strings.specs.inner.Held.{TextRight}
+use Rattle.strings.specs.inner.Held.{TextPasses}
 
 -- The texts of entries i and j differ, if both are right.
 pub record Differ (t : Table) (k i j : ℕ) : Type 0 where
-  pub texts : TextRight t k i → TextRight t k j → textOf t k i ≡ textOf t k j → ⊥
+  pub texts : TextPasses t k i → TextPasses t k j → textOf t k i ≡ textOf t k j → ⊥
 
 -- A truth that the code answers tells whether the two texts are the same.
 pub record Compared (t : Table) (k i j : ℕ) (r : Bool) : Type 0 where
@@ -30,7 +30,7 @@ pub record Apart (t : Table) (k s e : ℕ) : Type 0 where
 -- x is the fingerprint of the text of entry j, if that is right.
 pub record Fingerprinted (t : Table) (k j x : ℕ) : Type 0 where
   pub small : x < 2 ^ 16
-  pub value : TextRight t k j → x ≡ fingerprintOf (textOf t k j)
+  pub value : TextPasses t k j → x ≡ fingerprintOf (textOf t k j)
 
 -- A multimap has the fingerprints of the n entries from s on.
 pub record Collected (t : Table) (k s n : ℕ) (map : List ℕ) : Type 0 where

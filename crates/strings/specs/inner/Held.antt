@@ -29,12 +29,12 @@ pub record Here (t : Table) (k j : ℕ) : Type 0 where
   pub entry : j < entries t k
 
 -- Refusals 7 to 9 are not due.
-pub record TextRight (t : Table) (k j : ℕ) : Type 0 where
+pub record TextPasses (t : Table) (k j : ℕ) : Type 0 where
   pub resolved : Resolved t k j
   pub sized : Sized t k j
   pub hashed : Hashed t k j
 
 -- The texts of the entries of a bucket up to j are right, and their hashes in order: what the test for a twin asks.
 pub record Sorted (t : Table) (k j : ℕ) : Type 0 where
-  pub right : (i : ℕ) → i ≤ j → TextRight t k i
+  pub right : (i : ℕ) → i ≤ j → TextPasses t k i
   pub ascends : (i : ℕ) → i ≤ j → hashOf t k (i - 1) ≤ hashOf t k i

@@ -38,7 +38,7 @@ loop-holds c = folded-start _ _ _ _ (c .before .pre .2)
 returns : tie.Need-returns Inv-loop μ-loop
 returns c =
     let w = c .before .before .before in
-    value-none (first w) (w .before .before .before .loop .inv) (c .before .if1 .taken) (c .value-hash .ensures)
+    value-none (first w) (w .before .before .before .loop .inv) (c .before .if1 .taken) (c .low-14 .ensures)
 
 char-on-requires : tie.Need-char-on-requires Inv-loop μ-loop
 char-on-requires c κs =
@@ -52,7 +52,7 @@ returns-2 c =
     let f = d .before .before in
     let w = f .before in
     value-one (first w) (w .before .before .before .loop .inv) (d .before .if1 .left) (d .if2 .taken) (f .fold-quad .ensures .0) (c .before .char-on .ensures)
-    (c .value-hash2 .ensures)
+    (c .low-142 .ensures)
 
 returns-3 : tie.Need-returns-3 Inv-loop μ-loop
 returns-3 c =
@@ -61,7 +61,7 @@ returns-3 c =
     let f = e .before .before in
     let w = f .before in
     let k = folded-pair (first w) _ (w .before .before .before .loop .inv) (e .before .if1 .left) (e .if2 .left) (f .fold-quad .ensures .0) refl (c .before .pair-on .ensures) in
-    value-none (next w) k (d .if3 .taken) (c .value-hash3 .ensures)
+    value-none (next w) k (d .if3 .taken) (c .low-143 .ensures)
 
 char-on-requires-2 : tie.Need-char-on-requires-2 Inv-loop μ-loop
 char-on-requires-2 c κs =
@@ -76,7 +76,7 @@ returns-4 c =
     let f = e .before .before in
     let w = f .before in
     let k = folded-pair (first w) _ (w .before .before .before .loop .inv) (e .before .if1 .left) (e .if2 .left) (f .fold-quad .ensures .0) refl (c .before .before .pair-on2 .ensures) in
-    value-one (next w) k (d .before .if3 .left) (d .if4 .taken) (f .fold-quad .ensures .1) (c .before .char-on2 .ensures) (c .value-hash4 .ensures)
+    value-one (next w) k (d .before .if3 .left) (d .if4 .taken) (f .fold-quad .ensures .1) (c .before .char-on2 .ensures) (c .low-144 .ensures)
 
 loop-again : tie.Need-loop-again Inv-loop μ-loop
 loop-again c =

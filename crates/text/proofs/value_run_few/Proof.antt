@@ -20,7 +20,7 @@ returns : tie.Need-returns Inv-loop μ-loop
 returns c =
     let u = c .before .before in
     let l = u .before .loop-test .taken in
-    value-met _ _ _ _ _ _ _ (u .before .before .loop .inv) (text-shut _ _ _ _ _ l (u .u16-at .ensures .0) (c .before .if1 .taken)) l (c .value-hash .ensures)
+    value-met _ _ _ _ _ _ _ (u .before .before .loop .inv) (text-shut _ _ _ _ _ l (u .u16-at .ensures .0) (c .before .if1 .taken)) l (c .low-14 .ensures)
 
 loop-again : tie.Need-loop-again Inv-loop μ-loop
 loop-again c =

@@ -27,12 +27,12 @@ loop-holds c = (search needs, refl, search needs, c .before .before .pre .0, row
 returns : tie.Need-returns Inv-loop μ-loop
 returns c =
     let i = c .before .before .before .before .before .loop .inv in
-    buckets-stop _ _ _ (i .1) (i .4) _ _ (omega arith) (scanned-fault _ _ (c .before .before .before .bucket .ensures) (c .before .num .given .1))
+    buckets-stop _ _ _ (i .1) (i .4) _ _ (omega arith) (scanned-fault _ _ (c .before .before .before .check-bucket .ensures) (c .before .num .given .1))
 
 loop-again : tie.Need-loop-again Inv-loop μ-loop
 loop-again c =
     let i = c .before .before .before .before .before .loop .inv in
-    let q = scanned-end _ _ (c .before .before .before .bucket .ensures) (c .before .q .given .1) in (
+    let q = scanned-end _ _ (c .before .before .before .check-bucket .ensures) (c .before .q .given .1) in (
       omega arith,
       simp length-set (i .1),
       omega (arith, bucket-end _ _ (q .0), q .1),

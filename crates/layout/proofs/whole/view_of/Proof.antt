@@ -33,8 +33,8 @@ sample-starts-requires-3 c κs = (own-mapped (c .before .before .before .before 
 sample-starts-requires-4 : tie.Need-sample-starts-requires-4
 sample-starts-requires-4 c κs = (own-mapped (c .before .before .before .before .before .before .before .before .before .mapped4 .ensures), search needs)
 
-report-requires : tie.Need-report-requires
-report-requires c κs = let p = c .before .before .before .before .before .before .before .before .before .before .before .before .before .before .before .pre in walk-laid (p .0) (p .1) .header
+header-report-requires : tie.Need-header-report-requires
+header-report-requires c κs = let p = c .before .before .before .before .before .before .before .before .before .before .before .before .before .before .before .pre in walk-laid (p .0) (p .1) .header
 
 u32-at-requires : tie.Need-u32-at-requires
 unfolding keysAt
@@ -53,7 +53,7 @@ returns c =
     let counts = c .before .before .before .before .before .before .sample-counts .ensures in
     record {
       laid = walk-laid g a;
-      header = c .before .report .ensures;
+      header = c .before .header-report .ensures;
       places =
           record {
             keys = c .u32-at .ensures .0;
@@ -87,6 +87,6 @@ view-of-spec =
     sample-counts-requires
     sample-starts-requires-3
     sample-starts-requires-4
-    report-requires
+    header-report-requires
     u32-at-requires
     returns)

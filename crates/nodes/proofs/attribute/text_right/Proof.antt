@@ -13,19 +13,19 @@ returns-2 c =
     let p = c .before .before .before .before .before .before .before .before .pre in
     (text-nowhere _ _ _ _ (c .before .before .before .before .before .u16-at .ensures .0) (c .before .before .before .before .kind .ensures .0) (c .before .before .before .if1 .left) _ (p .2) (p .3) (c .before .before .spot-to .ensures) (c .enum-told .given .1), p .5)
 
-value-hash-requires : tie.Need-value-hash-requires
-value-hash-requires c κs = let p = c .before .before .before .before .before .before .before .before .before .before .before .pre in (p .0, spot-fits _ _ _ _ (p .1 .laid .characters) (c .before .before .before .before .before .spot-to .ensures) (c .before .before .before .a .given .1), omega (arith, p .1 .small), p .5)
+remembered-hash-requires : tie.Need-remembered-hash-requires
+remembered-hash-requires c κs = let p = c .before .before .before .before .before .before .before .before .before .before .before .pre in (p .0, spot-fits _ _ _ _ (p .1 .laid .characters) (c .before .before .before .before .before .spot-to .ensures) (c .before .before .before .a .given .1), omega (arith, p .1 .small), p .5)
 
 returns-3 : tie.Need-returns-3
 returns-3 c =
     let p = c .before .before .before .before .before .before .before .before .before .before .before .before .before .pre in (
       text-differs _ _ _ _ (c .before .before .before .before .before .before .before .before .before .before .u16-at .ensures .0) (c .before .before .before .before .before .before .before .before .before .kind .ensures .0) (c .before .before .before .before .before .before .before .before .if1 .left) _ (p .2) (p .3) (c .before .before .before .before .before .before .before .spot-to .ensures) (c .before .before .before .before .before .a .given .1) _
-          (c .before .value-hash .ensures .0) _ (c .before .before .before .extended .ensures) (c .if2 .taken),
-      c .before .value-hash .ensures .1,
+          (c .before .remembered-hash .ensures .0) _ (c .before .before .before .extended .ensures) (c .if2 .taken),
+      c .before .remembered-hash .ensures .1,
     )
 
 text-hash-requires : tie.Need-text-hash-requires
-text-hash-requires c κs = let p = c .before .before .before .before .before .before .before .before .before .before .before .before .before .before .pre in (p .0, spot-fits _ _ _ _ (p .1 .laid .characters) (c .before .before .before .before .before .before .before .before .spot-to .ensures) (c .before .before .before .before .before .before .a .given .1), omega (arith, p .1 .small), c .before .before .value-hash .ensures .1)
+text-hash-requires c κs = let p = c .before .before .before .before .before .before .before .before .before .before .before .before .before .before .pre in (p .0, spot-fits _ _ _ _ (p .1 .laid .characters) (c .before .before .before .before .before .before .before .before .spot-to .ensures) (c .before .before .before .before .before .before .a .given .1), omega (arith, p .1 .small), c .before .before .remembered-hash .ensures .1)
 
 lower-requires : tie.Need-lower-requires
 lower-requires c κs = let p = c .before .before .before .before .before .before .before .before .before .before .before .before .before .before .before .before .pre in (p .1, c .bucket .ensures .1, clean-entries _ _ (p .2) (p .3))
@@ -40,7 +40,7 @@ returns-4 : tie.Need-returns-4
 returns-4 c =
     let p = c .before .before .before .before .before .before .before .before .before .before .before .before .before .before .before .before .before .before .before .pre in (
       text-told _ _ _ _ (c .before .before .before .before .before .before .before .before .before .before .before .before .before .before .before .before .u16-at .ensures .0) (c .before .before .before .before .before .before .before .before .before .before .before .before .before .before .before .kind .ensures .0) (c .before .before .before .before .before .before .before .before .before .before .before .before .before .before .if1 .left) _ (p .2) (p .3) (c .before .before .before .before .before .before .before .before .before .before .before .before .before .spot-to .ensures) (c .before .before .before .before .before .before .before .before .before .before .before .a .given .1) _
-          (c .before .before .before .before .before .before .before .value-hash .ensures .0) _ (c .before .before .before .before .before .before .before .before .before .extended .ensures) (λ i. omega (arith, c .before .before .before .before .before .before .before .before .before .before .before .before .before .before .before .before .before .before .shared-slice-known .given i)) refl (c .before .before .before .before .before .before .if2 .left) _ (c .before .before .before .before .text-hash .ensures .0) _
+          (c .before .before .before .before .before .before .before .remembered-hash .ensures .0) _ (c .before .before .before .before .before .before .before .before .before .extended .ensures) (λ i. omega (arith, c .before .before .before .before .before .before .before .before .before .before .before .before .before .before .before .before .before .before .shared-slice-known .given i)) refl (c .before .before .before .before .before .before .if2 .left) _ (c .before .before .before .before .text-hash .ensures .0) _
           (c .before .before .before .bucket .ensures) _ (c .before .u32-at .ensures .0) (c .run-has .ensures),
       c .before .before .before .before .text-hash .ensures .1,
     )
@@ -49,5 +49,5 @@ pub text-right-spec : {M : Type 1} → statement M
 text-right-spec =
     tie.close
     (tie.spec (λ c. search needs) (λ c κs. search needs) (λ c κs. search needs) returns (λ c. search needs) (λ c κs. search needs)
-    (λ c. search needs) (λ c. search needs) returns-2 (λ c κs. search needs) value-hash-requires returns-3 text-hash-requires (λ c κs. search needs)
+    (λ c. search needs) (λ c. search needs) returns-2 (λ c κs. search needs) remembered-hash-requires returns-3 text-hash-requires (λ c κs. search needs)
     lower-requires add-u32-at (λ c κs. search needs) run-has-requires returns-4)

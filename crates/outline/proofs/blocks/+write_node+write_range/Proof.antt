@@ -23,7 +23,7 @@ use Rattle.outline.proofs.blocks.write_range.Kinds as write-range-kinds
 use Rattle.outline.proofs.blocks.+write_node+write_range.Lts-write_range as write-range-lts
 use Rattle.le.proofs.u16_at.Reads as u16-at-reads
 use Rattle.tree.proofs.ranges.children_of.Reads as children-of-reads
-use Rattle.outline.proofs.blocks.put_line.Reads as put-line-reads
+use Rattle.outline.proofs.blocks.put_node.Reads as put-node-reads
 use Rattle.outline.proofs.blocks.+write_node+write_range.{statement}
 use Rattle.outline.proofs.blocks.+write_node+write_range.Tie.{close}
 
@@ -50,7 +50,7 @@ write-range-below t =
     and 6 write-range-kinds.ps (falls 6 write-range-kinds.ps _<_ μ-write-range t) write-range.Pre
 
 abbrev write-node-callees : ℕ → write-node-lts.Claims
-write-node-callees t = (put-line-reads.Asked, put-line-reads.Learnt, write-range-below t, write-range.Post)
+write-node-callees t = (put-node-reads.Asked, put-node-reads.Learnt, write-range-below t, write-range.Post)
 
 abbrev write-range-callees : ℕ → write-range-lts.Claims
 write-range-callees t =
@@ -60,8 +60,8 @@ write-range-callees t =
 write-node-room : (t : ℕ) (s : write-node-lts.Start (write-node-callees t) (write-node-at t) write-node.Post) → length (s .args .out .now) ≤ top
 write-node-room t s = omega (arith, s .good .1 .1 .1 .1 .1 .1 .1 .1 .1 .1 .0)
 
-write-node-put-line-requires : (t : ℕ) → write-node-lts.Need-put-line-requires (write-node-callees t) (write-node-at t) write-node.Post
-write-node-put-line-requires t c κs =
+write-node-put-node-requires : (t : ℕ) → write-node-lts.Need-put-node-requires (write-node-callees t) (write-node-at t) write-node.Post
+write-node-put-node-requires t c κs =
     let p = c .before .before .before .pre .1 in
     (p .0 .line, node-ready (p .0) _ _ (p .1 .0) (p .1 .1) (p .1 .2), omega (arith, p .1 .3))
 
@@ -71,7 +71,7 @@ write-node-same-length t c = search needs
 write-node-returns : (t : ℕ) → write-node-lts.Need-returns (write-node-callees t) (write-node-at t) write-node.Post
 write-node-returns t c =
     let k = c .before .before .before in
-    put-same (block-leaf _ _ _ _ (k .before .before .before .before .pre .1 .1 .1) _ (c .if1 .taken)) (k .put-line .ensures)
+    put-same (block-leaf _ _ _ _ (k .before .before .before .before .pre .1 .1 .1) _ (c .if1 .taken)) (k .put-node .ensures)
 
 write-node-add-write-range : (t : ℕ) → write-node-lts.Need-add-write-range (write-node-callees t) (write-node-at t) write-node.Post
 write-node-add-write-range t c = omega (arith, c .before .before .before .before .before .before .before .pre .1 .1 .3)
@@ -92,7 +92,7 @@ write-node-returns-2 : (t : ℕ) → write-node-lts.Need-returns-2 (write-node-c
 write-node-returns-2 t c =
     let k = c .before .before .before .before .before .before .before in
     let s = k .before .before .before .before in
-    put-two (write-node-room t s) (k .put-line .ensures) (c .before .before .write-range .ensures)
+    put-two (write-node-room t s) (k .put-node .ensures) (c .before .before .write-range .ensures)
     (block-more _ _ _ _ (s .pre .1 .1 .1) _ (c .before .before .before .before .if1 .left))
 
 abbrev write-range-Inv-loop : write-range-lts.InvT-loop
@@ -181,7 +181,7 @@ pub +write-node+write-range-spec : {M : Type 1} → statement M
 +write-node+write-range-spec = close μ-write-node μ-write-range (λ t. write-node-lts.spec (write-node-callees t)
     (write-node-at t)
     write-node.Post
-    (write-node-put-line-requires t)
+    (write-node-put-node-requires t)
     (write-node-same-length t)
     (write-node-returns t)
     (write-node-add-write-range t)

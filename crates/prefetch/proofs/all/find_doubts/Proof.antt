@@ -54,25 +54,25 @@ u32-at-requires c κs = omega (arith, turn c)
 loop2-holds : tie.Need-loop2-holds Inv-loop2 μ-loop2 Inv-loop μ-loop
 loop2-holds c = let i = c .before .before .before .loop .inv in (omega arith, i .2, i .3, i .4, i .5, below-none _, i .6)
 
-add-take : tie.Need-add-take Inv-loop2 μ-loop2 Inv-loop μ-loop
-add-take c = record { fits = omega (arith, turn (c .before .before .before)) }
+add-take-texts : tie.Need-add-take-texts Inv-loop2 μ-loop2 Inv-loop μ-loop
+add-take-texts c = record { fits = omega (arith, turn (c .before .before .before)) }
 
-take-requires : tie.Need-take-requires Inv-loop2 μ-loop2 Inv-loop μ-loop
-take-requires c κs = (row (c .before .before .before), omega (arith, c .before .before .before .before .before .before .before .before .before .before .pre .0 .1 .small), c .before .before .loop2 .inv .0, c .before .before .loop2 .inv .1)
+take-texts-requires : tie.Need-take-texts-requires Inv-loop2 μ-loop2 Inv-loop μ-loop
+take-texts-requires c κs = (row (c .before .before .before), omega (arith, c .before .before .before .before .before .before .before .before .before .before .pre .0 .1 .small), c .before .before .loop2 .inv .0, c .before .before .loop2 .inv .1)
 
 examine-batch-requires : tie.Need-examine-batch-requires Inv-loop2 μ-loop2 Inv-loop μ-loop
 examine-batch-requires c κs =
     let p = c .before .before .before .before .before .before .before .before .before .before .before .before .before .before .pre .0 in
-    let t = c .before .before .before .take .ensures .slotted in
+    let t = c .before .before .before .take-texts .ensures .slotted in
     let i = c .before .before .before .before .before .before .loop2 .inv in
     ((p .0, p .1, p .2, p .3, t .long, t .within, t .few, p .4, i .6), (i .2, i .3))
 
 loop2-less : tie.Need-loop2-less Inv-loop2 μ-loop2 Inv-loop μ-loop
-loop2-less c = let t = c .before .before .before .before .take .ensures in omega (arith, t .on (c .before .before .before .before .before .before .loop2-test .taken), t .upto)
+loop2-less c = let t = c .before .before .before .before .take-texts .ensures in omega (arith, t .on (c .before .before .before .before .before .before .loop2-test .taken), t .upto)
 
 loop2-again : tie.Need-loop2-again Inv-loop2 μ-loop2 Inv-loop μ-loop
 loop2-again c =
-    let t = c .before .before .before .before .take .ensures in
+    let t = c .before .before .before .before .take-texts .ensures in
     let i = c .before .before .before .before .before .before .before .loop2 .inv in
     let e = c .examine-batch .ensures in
     let d = e .1 .0 in
@@ -101,6 +101,6 @@ returns c = let i = c .before .before .loop .inv in (i .4, (rows-all _ _ _ (i .5
 pub find-doubts-spec : {M : Type 1} → statement M
 find-doubts-spec =
     tie.close
-    (tie.spec Inv-loop2 μ-loop2 Inv-loop μ-loop add-at loop-holds add-u32-at u32-at-requires loop2-holds add-take take-requires
+    (tie.spec Inv-loop2 μ-loop2 Inv-loop μ-loop add-at loop-holds add-u32-at u32-at-requires loop2-holds add-take-texts take-texts-requires
     examine-batch-requires loop2-less loop2-again add-at-2 u32-at-requires-2 mul-at add-at-3 (λ c. search needs) (λ c. search needs)
     loop-again returns)

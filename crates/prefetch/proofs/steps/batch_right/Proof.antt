@@ -13,8 +13,8 @@ use Rattle.prefetch.proofs.steps.batch_right.Tie as tie
 returns : tie.Need-returns
 returns c = (unsure, c .before .before .before .before .before .before .pre .8)
 
-see-requires : tie.Need-see-requires
-see-requires c κs =
+load-before-requires : tie.Need-load-before-requires
+load-before-requires c κs =
     let w = c .before .before .before .before .find-spots .ensures in
     (c .before .before .before .before .before .before .before .before .before .pre .6, record { first = w .1 .0; second = w .1 .1; third = refl }, w .0 (not-false _ (c .before .before .before .if1 .left)) .1)
 
@@ -22,7 +22,7 @@ all-pass-requires : tie.Need-all-pass-requires
 all-pass-requires c κs =
     let p = c .before .before .before .before .before .before .before .before .before .before .before .before .before .before .pre in
     let w = c .before .before .before .before .before .before .before .before .before .find-spots .ensures in
-    let s = c .before .before .before .before .see .ensures in
+    let s = c .before .before .before .before .load-before .ensures in
     (p .0, p .4, p .5, p .6, record { first = w .1 .0; second = w .1 .1; third = s .1 }, w .0 (not-false _ (c .before .before .before .before .before .before .before .before .if1 .left)) .1, s .0, omega (arith, p .1 .small), p .8)
 
 returns-2 : tie.Need-returns-2
@@ -60,4 +60,4 @@ returns-4 c =
 pub batch-right-spec : {M : Type 1} → statement M
 batch-right-spec =
     tie.close
-    (tie.spec (λ c κs. search needs) returns see-requires all-pass-requires returns-2 returns-3 hash-texts-requires settle-requires find-entries-requires returns-4)
+    (tie.spec (λ c κs. search needs) returns load-before-requires all-pass-requires returns-2 returns-3 hash-texts-requires settle-requires find-entries-requires returns-4)

@@ -9,22 +9,22 @@ use Rattle.prefetch.proofs.steps.passes.Tie as tie
 returns : tie.Need-returns
 returns c = (unsure, c .before .before .before .before .pre .5)
 
-value-hash-requires : tie.Need-value-hash-requires
-value-hash-requires c κs = let p = c .before .before .before .before .before .before .before .pre in (p .0, p .2 .inside, p .4, p .5)
+remembered-hash-requires : tie.Need-remembered-hash-requires
+remembered-hash-requires c κs = let p = c .before .before .before .before .before .before .before .pre in (p .0, p .2 .inside, p .4, p .5)
 
 returns-2 : tie.Need-returns-2
 returns-2 c =
     let p = c .before .before .before .before .before .before .before .before .pre in
     let e = c .before .before in (
       λ z. (
-        hashed-here _ _ _ _ _ _ _ (e .before .u16-at2 .ensures .0) (e .extended .ensures) (c .value-hash .ensures .0) (eqb-true _ _ z),
+        hashed-here _ _ _ _ _ _ _ (e .before .u16-at2 .ensures .0) (e .extended .ensures) (c .remembered-hash .ensures .0) (eqb-true _ _ z),
         λ y. ⊎-elim (behind-first _ _ _ _ (e .before .before .before .before .u16-at .ensures .0)) (behind-zero _ _ _ _ (p .3)) (e .before .before .before .can-begin .ensures (not-false _ (e .before .before .if1 .left)) y),
       ),
-      c .value-hash .ensures .1,
+      c .remembered-hash .ensures .1,
     )
 
 pub passes-spec : {M : Type 1} → statement M
 passes-spec =
     tie.close
     (tie.spec (λ c. search needs) (λ c κs. search needs) (λ c κs. search needs) returns (λ c. search needs) (λ c κs. search needs) (λ c κs. search needs)
-    value-hash-requires returns-2)
+    remembered-hash-requires returns-2)

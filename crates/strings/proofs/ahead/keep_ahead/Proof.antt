@@ -13,8 +13,8 @@ find-stretches-requires c κs =
     let m = c .before .before .least .ensures in
     (p .0, p .1, omega (arith, p .2, p .3, m .0), m .1, p .4 .room .at-long, p .4 .room .left-long)
 
-see-requires : tie.Need-see-requires
-see-requires c κs =
+load-ahead-requires : tie.Need-load-ahead-requires
+load-ahead-requires c κs =
     let p = c .before .before .before .before .before .before .before .before .before .before .pre in
     let m = c .before .before .before .before .before .before .least .ensures in
     (p .0, p .1, omega (arith, p .2, p .3, m .0), m .1, p .4 .room .seen-long, c .before .before .before .find-stretches .ensures)
@@ -24,9 +24,9 @@ returns-2 c =
     let p = c .before .before .before .before .before .before .before .before .before .before .before .pre in
     let m = c .before .before .before .before .before .before .before .least .ensures in
     near-first _ (c .before .before .before .before .before .before .before .before .if1 .left)
-    (read-ahead (c .before .before .before .before .find-stretches .ensures) (c .see .ensures) (λ i a h. m .2 i (omega (arith, p .2)) a))
+    (read-ahead (c .before .before .before .before .find-stretches .ensures) (c .load-ahead .ensures) (λ i a h. m .2 i (omega (arith, p .2)) a))
 
 pub keep-ahead-spec : {M : Type 1} → statement M
 keep-ahead-spec =
     tie.close
-    (tie.spec returns (λ c. search needs) (λ c κs. search needs) find-stretches-requires see-requires returns-2)
+    (tie.spec returns (λ c. search needs) (λ c κs. search needs) find-stretches-requires load-ahead-requires returns-2)

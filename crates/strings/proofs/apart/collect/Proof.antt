@@ -42,8 +42,8 @@ returns c =
     let v = c .before .before .before .before .before .loop .inv in
     (sifted _ _ _ _ _ _ v (λ h. c .before .met .ensures .some (c .if1 .taken)), v .collected)
 
-put-requires : tie.Need-put-requires Inv-loop μ-loop
-put-requires c κs =
+insert-requires : tie.Need-insert-requires Inv-loop μ-loop
+insert-requires c κs =
     let d = c .before .before .before .before .before in
     let p = d .before .before .before .before .pre in
     (d .before .loop .inv .collected .filled, omega (arith, d .loop-test .taken, p .3), c .before .before .before .before .fingerprint-at .ensures .small)
@@ -54,7 +54,7 @@ loop-less c = omega (arith, c .before .before .before .before .before .before .l
 loop-again : tie.Need-loop-again Inv-loop μ-loop
 loop-again c =
     let d = c .before .before .before .before .before .before in
-    collecting-next _ _ _ _ _ _ (d .before .loop .inv) _ _ (d .loop-test .taken) (c .before .before .before .before .before .fingerprint-at .ensures) (c .before .before .if1 .left) (c .before .before .before .met .ensures) (c .put .ensures)
+    collecting-next _ _ _ _ _ _ (d .before .loop .inv) _ _ (d .loop-test .taken) (c .before .before .before .before .before .fingerprint-at .ensures) (c .before .before .if1 .left) (c .before .before .before .met .ensures) (c .insert .ensures)
 
 returns-2 : tie.Need-returns-2 Inv-loop μ-loop
 returns-2 c =
@@ -63,5 +63,5 @@ returns-2 c =
 pub collect-spec : {M : Type 1} → statement M
 collect-spec =
     tie.close
-    (tie.spec Inv-loop μ-loop loop-holds add-fingerprint-at fingerprint-at-requires add-met met-requires returns put-requires (λ c. search needs) loop-less
+    (tie.spec Inv-loop μ-loop loop-holds add-fingerprint-at fingerprint-at-requires add-met met-requires returns insert-requires (λ c. search needs) loop-less
     loop-again returns-2)

@@ -4,8 +4,8 @@ use borrow.Author.Needs.{needs}
 use lib.ListN.{length}
 use Rattle.print.proofs.Puts.{top}
 use Rattle.outline.proofs.Written.{put-four, line-is, node-named}
-use Rattle.outline.proofs.blocks.put_line.Statement.{statement}
-use Rattle.outline.proofs.blocks.put_line.Tie as tie
+use Rattle.outline.proofs.blocks.put_node.Statement.{statement}
+use Rattle.outline.proofs.blocks.put_node.Tie as tie
 
 -- a buffer's length is a number of 64 bits
 room : (s : tie.Start) → length (s .args .out .now) ≤ top
@@ -26,8 +26,8 @@ put-attributes-requires c κs = let p = c .before .before .before .before .befor
 returns : tie.Need-returns
 returns c = put-four (room (c .before .before .before .before .before .before .before .before .before .before .before .before .before .before .before .before .before .before .before)) (c .before .before .before .before .before .before .before .before .before .before .before .before .before .before .before .put-spaces .ensures) (c .before .before .before .before .before .before .before .before .before .before .put-name .ensures) (c .before .before .before .before .before .before .put-attributes .ensures) (c .before .before .put .ensures) (line-is _ _ (c .before .before .before .before .before .before .before .before .before .before .before .before .u16-at .ensures .0) (c .before .before .before .before .before .before .before .before .before .before .before .before .before .before .before .before .before .before .before .args .level))
 
-pub put-line-spec : {M : Type 1} → statement M
-put-line-spec =
+pub put-node-spec : {M : Type 1} → statement M
+put-node-spec =
     tie.close
     (tie.spec mul-put-spaces (λ c κs. search needs) u16-at-requires put-name-requires put-attributes-requires (λ c κs. search needs)
     (λ c. search needs) returns)

@@ -10,7 +10,7 @@ use Rattle.lookup.specs.Kinds.{tellsAt}
 use Rattle.lookup.specs.declared.Kind.{Kind}
 
 -- Some entry bears the n characters at offset p of the file, and w is told of it.
-pub record Bears (kind : Kind) (t : Table) (n p w : ℕ) : Type 0 where
+pub record PickedEntry (kind : Kind) (t : Table) (n p w : ℕ) : Type 0 where
   pub bucket : ℕ
   pub entry : ℕ
   pub here : Here t bucket entry

@@ -4,8 +4,8 @@ use borrow.Author.Needs.{needs}
 use borrow.Author.Tests.{not-false}
 use Rattle.text.proofs.Split.{value-first, value-second, run-small}
 use Rattle.nodes.proofs.Noting.{value-noted, value-small}
-use Rattle.nodes.proofs.long.value_hash.Statement.{statement}
-use Rattle.nodes.proofs.long.value_hash.Tie as tie
+use Rattle.nodes.proofs.long.remembered_hash.Statement.{statement}
+use Rattle.nodes.proofs.long.remembered_hash.Tie as tie
 
 value-run-requires : tie.Need-value-run-requires
 value-run-requires c κs =
@@ -42,8 +42,8 @@ returns-4 c =
     let r = value-second _ _ _ _ _ (w .0) (c .before .before .before .before .before .before .before .value-run .ensures) _ (c .before .before .before .before .before .before .if2 .left) (c .before .before .value-hash2 .ensures) in
     (r, c .remember .ensures .right _ (p .3) (r ∙ sym (value-noted _ _ _ (w .1))))
 
-pub value-hash-spec : {M : Type 1} → statement M
-value-hash-spec =
+pub remembered-hash-spec : {M : Type 1} → statement M
+remembered-hash-spec =
     tie.close
     (tie.spec (λ c κs. search needs) (λ c κs. search needs) (λ c. search needs) value-run-requires returns-2 (λ c κs. search needs) returns-3
     (λ c. search needs) sub-value-hash value-hash-requires-2 remember-requires returns-4)

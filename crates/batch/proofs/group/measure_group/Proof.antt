@@ -6,8 +6,8 @@ use Rattle.batch.proofs.Placed.{TextAt, text-measured}
 use Rattle.batch.proofs.Slots.{stands-first, stands-even, stands-more, some-taken, read-of, read-small, group-none, group-more}
 use native.Mathlib.Omega.{arith}
 use borrow.Author.Needs.{needs}
-use Rattle.batch.proofs.group.take.Statement.{statement}
-use Rattle.batch.proofs.group.take.Tie as tie
+use Rattle.batch.proofs.group.measure_group.Statement.{statement}
+use Rattle.batch.proofs.group.measure_group.Tie as tie
 
 abbrev Inv-loop : tie.InvT-loop
 Inv-loop texts t at lengths₀ hashes₀ n₀ p₀ lengths hashes n p = Group texts at n lengths hashes × (p ≡ standsAt at lengths n)
@@ -54,8 +54,8 @@ returns-2 c =
     let i = c .before .loop .inv in
     (some-taken _ _ _ _ _ (i .1) (c .before .before .before .pre .3) (c .loop-test .left), i .0)
 
-pub take-spec : {M : Type 1} → statement M
-take-spec =
+pub measure-group-spec : {M : Type 1} → statement M
+measure-group-spec =
     tie.close
     (tie.spec Inv-loop μ-loop loop-holds returns (λ c. search needs) (λ c κs. search needs) (λ c. search needs) (λ c. search needs)
     cast-hashes (λ c. search needs) (λ c. search needs) mul-p add-p add-p-2 (λ c. search needs) loop-less loop-again returns-2)

@@ -6,8 +6,8 @@ use Rattle.verdict.specs.declared.Scan.the-variants.{End}
 use Rattle.verdict.proofs.Laws.{pass, stop, fault-none}
 use Rattle.verdict.specs.inner.Scans.{scanned}
 use Rattle.layout.proofs.Parts.{bucket-told}
-use Rattle.layout.proofs.tables.bucket.Statement.{statement}
-use Rattle.layout.proofs.tables.bucket.Tie as tie
+use Rattle.layout.proofs.tables.check_bucket.Statement.{statement}
+use Rattle.layout.proofs.tables.check_bucket.Tie as tie
 
 returns : tie.Need-returns
 unfolding scanned
@@ -24,8 +24,8 @@ returns-3 c =
     ap (λ (x : ℕ). End (s .args .p + 4 + 16 * x)) (c .before .u32-at .ensures .0)
     ∙ bucket-told _ _ _ (s .pre .0) (pass _ _ _ _ _ (omega arith) ∙ pass _ _ _ _ _ (omega arith) ∙ fault-none)
 
-pub bucket-spec : {M : Type 1} → statement M
-bucket-spec =
+pub check-bucket-spec : {M : Type 1} → statement M
+check-bucket-spec =
     tie.close
     (tie.spec (λ c. search needs) returns (λ c κs. search needs) (λ c. search needs) (λ c. search needs) (λ c. search needs) returns-2
     (λ c. search needs) (λ c. search needs) returns-3)

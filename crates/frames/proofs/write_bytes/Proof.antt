@@ -1,8 +1,8 @@
 use Prim.Native.Nat.{_-_}
 use native.Mathlib.Omega.{arith}
 use Rattle.frames.proofs.Written.{Writing, write-start, write-next, write-more, write-end}
-use Rattle.frames.proofs.put.Statement.{statement}
-use Rattle.frames.proofs.put.Tie as tie
+use Rattle.frames.proofs.write_bytes.Statement.{statement}
+use Rattle.frames.proofs.write_bytes.Tie as tie
 
 abbrev Inv-loop : tie.InvT-loop
 Inv-loop input p k out₀ n i₀ at₀ out i at = Writing input p k n out₀ i at out
@@ -13,11 +13,11 @@ abbrev μ-loop : tie.MeasureT-loop
 loop-holds : tie.Need-loop-holds Inv-loop μ-loop
 loop-holds c = write-start (c .before .before .pre .0) (c .before .before .pre .1 .0) (c .before .before .pre .1 .1)
 
-byte-requires : tie.Need-byte-requires Inv-loop μ-loop
-byte-requires c κs = write-next (c .before .loop .inv) (c .loop-test .taken) .room
+digit-pair-requires : tie.Need-digit-pair-requires Inv-loop μ-loop
+digit-pair-requires c κs = write-next (c .before .loop .inv) (c .loop-test .taken) .room
 
 cast-out : tie.Need-cast-out Inv-loop μ-loop
-cast-out c = let x = write-next (c .before .before .loop .inv) (c .before .loop-test .taken) in omega (arith, x .small, c .byte .ensures)
+cast-out c = let x = write-next (c .before .before .loop .inv) (c .before .loop-test .taken) in omega (arith, x .small, c .digit-pair .ensures)
 
 add-out : tie.Need-add-out Inv-loop μ-loop
 add-out c = omega arith
@@ -35,7 +35,7 @@ loop-less : tie.Need-loop-less Inv-loop μ-loop
 loop-less c = omega arith
 
 loop-again : tie.Need-loop-again Inv-loop μ-loop
-loop-again c = write-more (c .before .before .loop .inv) (c .byte .result) (c .before .loop-test .taken) (c .byte .ensures)
+loop-again c = write-more (c .before .before .loop .inv) (c .digit-pair .result) (c .before .loop-test .taken) (c .digit-pair .ensures)
 
 same-length : tie.Need-same-length Inv-loop μ-loop
 same-length c = c .before .loop .inv .size
@@ -43,14 +43,14 @@ same-length c = c .before .loop .inv .size
 returns : tie.Need-returns Inv-loop μ-loop
 returns c = write-end (c .before .loop .inv) (c .loop-test .left)
 
-pub put-spec : {M : Type 1} → statement M
-put-spec =
+pub write-bytes-spec : {M : Type 1} → statement M
+write-bytes-spec =
     tie.close
     (tie.spec
     Inv-loop
     μ-loop
     loop-holds
-    byte-requires
+    digit-pair-requires
     cast-out
     add-out
     slice-write-out

@@ -5,8 +5,8 @@ use borrow.Author.Needs.{needs}
 use Rattle.strings.specs.inner.Ahead.{SeenBefore}
 use Rattle.strings.proofs.Glances.{stands-spot, seen-none, seen-more, seen-upto}
 use Rattle.strings.proofs.Places.{few-entries}
-use Rattle.strings.proofs.ahead.see.Statement.{statement}
-use Rattle.strings.proofs.ahead.see.Tie as tie
+use Rattle.strings.proofs.ahead.load_ahead.Statement.{statement}
+use Rattle.strings.proofs.ahead.load_ahead.Tie as tie
 
 abbrev Inv-loop : tie.InvT-loop
 Inv-loop b s samples starts k j m at left seen₀ i₀ seen i = SeenBefore b i at left seen
@@ -42,8 +42,8 @@ loop-again c =
 returns : tie.Need-returns Inv-loop μ-loop
 returns c = seen-upto (c .before .loop .inv) (c .loop-test .left)
 
-pub see-spec : {M : Type 1} → statement M
-see-spec =
+pub load-ahead-spec : {M : Type 1} → statement M
+load-ahead-spec =
     tie.close
     (tie.spec Inv-loop μ-loop loop-holds add-entry-at entry-at-requires (λ c. search needs) (λ c. search needs) (λ c. search needs)
     (λ c. search needs) (λ c. search needs) (λ c κs. search needs) touch-whole-requires (λ c. search needs) (λ c. search needs)

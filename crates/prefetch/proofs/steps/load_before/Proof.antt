@@ -5,8 +5,8 @@ use mathlib.Core.Path.{_≡_}
 use Prim.Native.Nat.{_-_}
 use native.Mathlib.Omega.{arith}
 use borrow.Author.Needs.{needs}
-use Rattle.prefetch.proofs.steps.see.Statement.{statement}
-use Rattle.prefetch.proofs.steps.see.Tie as tie
+use Rattle.prefetch.proofs.steps.load_before.Statement.{statement}
+use Rattle.prefetch.proofs.steps.load_before.Tie as tie
 
 abbrev Inv-loop : tie.InvT-loop
 Inv-loop b n at left seen₀ j₀ seen j = (length seen ≡ 64) × AllSeen b j at seen
@@ -30,8 +30,8 @@ loop-again c =
 returns : tie.Need-returns Inv-loop μ-loop
 returns c = let i = c .before .loop .inv in (seen-upto (c .loop-test .left) (i .1), i .0)
 
-pub see-spec : {M : Type 1} → statement M
-see-spec =
+pub load-before-spec : {M : Type 1} → statement M
+load-before-spec =
     tie.close
     (tie.spec Inv-loop μ-loop loop-holds (λ c. search needs) (λ c. search needs) (λ c κs. search needs) (λ c. search needs)
     (λ c. search needs) (λ c κs. search needs) touch-requires (λ c. search needs) (λ c. search needs) (λ c. search needs)

@@ -5,8 +5,8 @@ use Rattle.prefetch.specs.inner.Slots.{Slotted}
 use Rattle.prefetch.proofs.Taking.{slotted-start, slotted-step}
 use native.Mathlib.Omega.{arith}
 use borrow.Author.Needs.{needs}
-use Rattle.prefetch.proofs.slots.take.Statement.{statement}
-use Rattle.prefetch.proofs.slots.take.Tie as tie
+use Rattle.prefetch.proofs.slots.take_texts.Statement.{statement}
+use Rattle.prefetch.proofs.slots.take_texts.Tie as tie
 
 abbrev Inv-loop : tie.InvT-loop
 Inv-loop b first el used slots₀ n₀ e₀ slots n e = (e ≤ used) × Slotted b first el e n slots
@@ -26,8 +26,8 @@ loop-again c = let i = c .before .before .before .before .loop .inv in (omega ar
 returns-2 : tie.Need-returns-2 Inv-loop μ-loop
 returns-2 c = let i = c .before .loop .inv in record { slotted = i .1; on = λ h. omega (arith, c .loop-test .left); upto = i .0 }
 
-pub take-spec : {M : Type 1} → statement M
-take-spec =
+pub take-texts-spec : {M : Type 1} → statement M
+take-texts-spec =
     tie.close
     (tie.spec Inv-loop μ-loop loop-holds returns (λ c. search needs) (λ c. search needs) (λ c. search needs) (λ c. search needs)
     (λ c. search needs) (λ c. search needs) (λ c κs. search needs) (λ c κs. search needs) (λ c. search needs) (λ c. search needs)
