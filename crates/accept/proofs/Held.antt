@@ -28,12 +28,12 @@ use Rattle.tree.specs.inner.Marking.{TreeReady}
 use Rattle.accept.specs.inner.Held.{nameStrings}
 
 -- a table laid at an offset, with its parts as the code holds them
-module _ (b : List ℕ) (at n most : ℕ) (s : Strings) (samples starts : List ℕ) (m : Mapped 2 b at (s .chars)) (k : BucketStarts (table b at n) starts) where
-  pub held-table : heldTable b s starts ≡ table b at n
-  held-table = ap (λ (a : ℕ). table b a (length starts)) (m .at-is) ∙ ap (λ (x : ℕ). table b at x) (k .long)
+module _ (b : List ℕ) (at n most : ℕ) (s : Strings) (segments buckets : List ℕ) (m : Mapped 2 b at (s .chars)) (k : BucketStarts (table b at n) buckets) where
+  pub held-table : heldTable b s buckets ≡ table b at n
+  held-table = ap (λ (a : ℕ). table b a (length buckets)) (m .at-is) ∙ ap (λ (x : ℕ). table b at x) (k .long)
 
-  pub held : length b ≤ 1073741824 → TableLaid (table b at n) most → most ≤ valuesMost → 1 ≤ n → Starts 2 b at (s .chars .shift) samples
-      → s .list ≡ listAt (table b at n) → Held b s samples starts
+  pub held : length b ≤ 1073741824 → TableLaid (table b at n) most → most ≤ valuesMost → 1 ≤ n → Starts 2 b at (s .chars .shift) segments
+      → s .list ≡ listAt (table b at n) → Held b s segments buckets
   held small g few some p l = record {
     small = small;
     laid = subst (λ (t : Table). TableLaid t valuesMost) (sym held-table) (record {
@@ -46,31 +46,31 @@ module _ (b : List ℕ) (at n most : ℕ) (s : Strings) (samples starts : List �
     });
     some-bucket = omega (arith, k .long);
     chars = own-mapped m;
-    sampled = subst (λ (a : ℕ). Starts 2 b a (s .chars .shift) samples) (sym (m .at-is)) p;
-    buckets = subst (λ (t : Table). BucketStarts t starts) (sym held-table) k;
+    sampled = subst (λ (a : ℕ). Starts 2 b a (s .chars .shift) segments) (sym (m .at-is)) p;
+    bucket-starts = subst (λ (t : Table). BucketStarts t buckets) (sym held-table) k;
     list = l ∙ ap listAt (sym held-table);
   }
 
 module _ (b : List ℕ) (v : View) (f : Fits b v) where
   pub values-table : heldTable b (valueStrings (v .places)) (v .«value_buckets») ≡ values b
   unfolding values valueStrings
-  values-table = held-table b _ _ 0 (valueStrings (v .places)) (v .«value_starts») (v .«value_buckets») (f .places .«value_chars») (f .«value_buckets»)
+  values-table = held-table b _ _ 0 (valueStrings (v .places)) (v .«value_segments») (v .«value_buckets») (f .places .«value_chars») (f .«value_buckets»)
 
-  pub values-held : Held b (valueStrings (v .places)) (v .«value_starts») (v .«value_buckets»)
+  pub values-held : Held b (valueStrings (v .places)) (v .«value_segments») (v .«value_buckets»)
   unfolding values valueStrings valuesMost
   values-held =
-      held b _ _ valuesMost (valueStrings (v .places)) (v .«value_starts») (v .«value_buckets») (f .places .«value_chars») (f .«value_buckets»)
-      (f .laid .small) (f .laid .values) (omega arith) (omega arith) (f .«value_starts») (f .places .«value_list»)
+      held b _ _ valuesMost (valueStrings (v .places)) (v .«value_segments») (v .«value_buckets») (f .places .«value_chars») (f .«value_buckets»)
+      (f .laid .small) (f .laid .values) (omega arith) (omega arith) (f .«value_segments») (f .places .«value_list»)
 
   pub names-table : heldTable b (nameStrings (v .places)) (v .«name_buckets») ≡ names b
   unfolding names nameStrings
-  names-table = held-table b _ _ 0 (nameStrings (v .places)) (v .«name_starts») (v .«name_buckets») (f .places .«name_chars») (f .«name_buckets»)
+  names-table = held-table b _ _ 0 (nameStrings (v .places)) (v .«name_segments») (v .«name_buckets») (f .places .«name_chars») (f .«name_buckets»)
 
-  pub names-held : Held b (nameStrings (v .places)) (v .«name_starts») (v .«name_buckets»)
+  pub names-held : Held b (nameStrings (v .places)) (v .«name_segments») (v .«name_buckets»)
   unfolding names nameStrings namesMost valuesMost
   names-held =
-      held b _ _ namesMost (nameStrings (v .places)) (v .«name_starts») (v .«name_buckets») (f .places .«name_chars») (f .«name_buckets»)
-      (f .laid .small) (f .laid .names) (omega arith) (omega arith) (f .«name_starts») (f .places .«name_list»)
+      held b _ _ namesMost (nameStrings (v .places)) (v .«name_segments») (v .«name_buckets») (f .places .«name_chars») (f .«name_buckets»)
+      (f .laid .small) (f .laid .names) (omega arith) (omega arith) (f .«name_segments») (f .places .«name_list»)
 
   -- what a check of the held tables answers
   pub values-told : {r w : Verdict} → r ≡ firstFault (stringChecks (heldTable b (valueStrings (v .places)) (v .«value_buckets»))) → r ≡ w
@@ -94,13 +94,13 @@ module _ (b : List ℕ) (v : View) (f : Fits b v) where
   names-long = sym (f .«name_buckets» .long)
 
   pub nodes-ready : (n : Names) → Known b n → firstFault (stringChecks (values b)) ≡ Accepted
-      → Ready b (v .places) n (v .«attribute_starts») (v .«node_starts») (v .«value_starts») (v .«value_buckets»)
+      → Ready b (v .places) n (v .«attribute_segments») (v .«node_segments») (v .«value_segments») (v .«value_buckets»)
   nodes-ready n k e = record {
     laid = f .laid;
     placed = f .places;
     known = k;
-    attributes = f .«attribute_starts»;
-    nodes = f .«node_starts»;
+    attributes = f .«attribute_segments»;
+    nodes = f .«node_segments»;
     strings = values-held;
     table = values-table;
     accepted = e;
@@ -110,5 +110,5 @@ module _ (b : List ℕ) (v : View) (f : Fits b v) where
   unfolding usedNodes
   used-told = f .places .«used_nodes»
 
-  pub tree-ready : firstFault (allNodeChecks b) ≡ Accepted → TreeReady b (v .places .nodes) (v .«node_starts»)
-  tree-ready e = record { laid = f .laid; nodes = f .places .nodes; sampled = f .«node_starts»; accepted = e }
+  pub tree-ready : firstFault (allNodeChecks b) ≡ Accepted → TreeReady b (v .places .nodes) (v .«node_segments»)
+  tree-ready e = record { laid = f .laid; nodes = f .places .nodes; sampled = f .«node_segments»; accepted = e }

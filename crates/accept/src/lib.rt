@@ -23,9 +23,9 @@ fn judge(b: &[u8], v: View, ws: &mut [u8]) -> Verdict
 {
     let t = hash::tables();
     let p = v.places;
-    let value_starts = v.value_starts;
+    let value_segments = v.value_segments;
     let value_buckets = v.value_buckets;
-    let name_starts = v.name_starts;
+    let name_segments = v.name_segments;
     let name_buckets = v.name_buckets;
     let value_chars = p.value_chars;
     let name_chars = p.name_chars;
@@ -37,17 +37,17 @@ fn judge(b: &[u8], v: View, ws: &mut [u8]) -> Verdict
         chars: name_chars,
         list: p.name_list,
     };
-    let found = positions::check_table(b, &t, values, &value_starts, &value_buckets);
+    let found = positions::check_table(b, &t, values, &value_segments, &value_buckets);
     let a = found.answer;
     if let Verdict::Refused(num, place) = a {
         return Verdict::Refused(num, place);
     }
-    let named = positions::check_table(b, &t, names, &name_starts, &name_buckets);
+    let named = positions::check_table(b, &t, names, &name_segments, &name_buckets);
     let c = named.answer;
     if let Verdict::Refused(num, place) = c {
         return Verdict::Refused(num, place);
     }
-    let known = keys::special::check_special(b, names, &name_starts, &name_buckets);
+    let known = keys::special::check_special(b, names, &name_segments, &name_buckets);
     let d = known.answer;
     if let Verdict::Refused(num, place) = d {
         return Verdict::Refused(num, place);
@@ -57,17 +57,17 @@ fn judge(b: &[u8], v: View, ws: &mut [u8]) -> Verdict
     if let Verdict::Refused(num, place) = e {
         return Verdict::Refused(num, place);
     }
-    let attribute_starts = v.attribute_starts;
-    let node_starts = v.node_starts;
+    let attribute_segments = v.attribute_segments;
+    let node_segments = v.node_segments;
     let node_counts = v.node_counts;
     let f = prefetch::all::check_nodes(
         b,
         &t,
         p,
         special,
-        &attribute_starts,
-        &node_starts,
-        &value_starts,
+        &attribute_segments,
+        &node_segments,
+        &value_segments,
         &value_buckets,
         found.packed,
     );
@@ -75,7 +75,7 @@ fn judge(b: &[u8], v: View, ws: &mut [u8]) -> Verdict
         return Verdict::Refused(num, place);
     }
     let nodes = p.nodes;
-    tree::check_tree(b, nodes, &node_starts, &node_counts, p.used_nodes, ws)
+    tree::check_tree(b, nodes, &node_segments, &node_counts, p.used_nodes, ws)
 }
 
 // Accepts a file, or refuses it.

@@ -104,13 +104,13 @@ module _ {texts : List ℕ} {at n : ℕ} {lengths hashes : List ℕ} (g : Group 
 
 -- ---- places of hashes
 
-module _ (b : List ℕ) (s : Strings) (samples starts : List ℕ) (h : Held b s samples starts) where
+module _ (b : List ℕ) (s : Strings) (segments buckets : List ℕ) (h : Held b s segments buckets) where
   -- a place has 32 bits
-  pub place-small : (y x : ℕ) → Lower (heldTable b s starts) (bucketOf (length starts) y) y x → x ≤ 1073741824
+  pub place-small : (y x : ℕ) → Lower (heldTable b s buckets) (bucketOf (length buckets) y) y x → x ≤ 1073741824
   unfolding bucketOf
-  place-small y x w = omega (arith, w .upto, few-entries b s samples starts h (bucketOf (length starts) y) (mod-lt _ (h .some-bucket)))
+  place-small y x w = omega (arith, w .upto, few-entries b s segments buckets h (bucketOf (length buckets) y) (mod-lt _ (h .some-bucket)))
 
-  pub near-first : (hashes low : List ℕ) (n : ℕ) → AllLow (heldTable b s starts) hashes n low → AllNear (heldTable b s starts) hashes n low
+  pub near-first : (hashes low : List ℕ) (n : ℕ) → AllLow (heldTable b s buckets) hashes n low → AllNear (heldTable b s buckets) hashes n low
   near-first hashes low n a = record {
     long = a .long;
     each = λ j l.

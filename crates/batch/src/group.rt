@@ -47,8 +47,8 @@ pub fn measure_group(
 fn pick_each(
     b: &[u8],
     s: Strings,
-    samples: &[u32; 1024],
-    starts: &[u32],
+    segments: &[u32; 1024],
+    buckets: &[u32],
     kind: Kind,
     lengths: &[usize; 64],
     hashes: &[u32; 64],
@@ -58,18 +58,18 @@ fn pick_each(
     end: &mut [usize; 64],
     told: &mut [usize; 64],
 )
-    requires { ⌜ Held (now b) s (now samples) (now starts) × (firstFault (stringChecks (heldTable (now b) s (now starts))) ≡ Accepted)
+    requires { ⌜ Held (now b) s (now segments) (now buckets) × (firstFault (stringChecks (heldTable (now b) s (now buckets))) ≡ Accepted)
         × (n ≤ 64) × Lengths (now lengths) (now hashes) (now low) × Lengths (now text) (now end) (now told) ⌝ }
     ensures { λ _. ⌜ Texts (now (b .entry)) n (now (text .exit)) (now (end .exit))
-        × Picked kind (heldTable (now (b .entry)) s (now (starts .entry))) (now (lengths .entry)) n (now (text .exit)) (now (told .exit)) ⌝ }
+        × Picked kind (heldTable (now (b .entry)) s (now (buckets .entry))) (now (lengths .entry)) n (now (text .exit)) (now (told .exit)) ⌝ }
 {
     let mut j = 0;
     while j < n {
         let c = first::pick(
             b,
             s,
-            samples,
-            starts,
+            segments,
+            buckets,
             kind,
             le::wide(hashes[j]),
             low[j],
@@ -101,8 +101,8 @@ fn read_ends(b: &[u8], text: &[usize; 64], end: &[usize; 64], n: usize, low: &mu
 pub fn bring_near(
     b: &[u8],
     s: Strings,
-    samples: &[u32; 1024],
-    starts: &[u32],
+    segments: &[u32; 1024],
+    buckets: &[u32],
     kind: Kind,
     lengths: &[usize; 64],
     hashes: &[u32; 64],
@@ -111,18 +111,18 @@ pub fn bring_near(
     text: &mut [usize; 64],
     told: &mut [usize; 64],
 )
-    requires { ⌜ Held (now b) s (now samples) (now starts) × (firstFault (stringChecks (heldTable (now b) s (now starts))) ≡ Accepted)
+    requires { ⌜ Held (now b) s (now segments) (now buckets) × (firstFault (stringChecks (heldTable (now b) s (now buckets))) ≡ Accepted)
         × (n ≤ 64) × Lengths (now lengths) (now hashes) (now low) × (length (now text) ≡ 64) × (length (now told) ≡ 64) ⌝ }
-    ensures near { λ _. ⌜ AllNear (heldTable (now (b .entry)) s (now (starts .entry))) (now (hashes .entry)) n (now (low .exit)) ⌝ }
-    ensures picked { λ _. ⌜ Picked kind (heldTable (now (b .entry)) s (now (starts .entry))) (now (lengths .entry)) n (now (text .exit)) (now (told .exit)) ⌝ }
+    ensures near { λ _. ⌜ AllNear (heldTable (now (b .entry)) s (now (buckets .entry))) (now (hashes .entry)) n (now (low .exit)) ⌝ }
+    ensures picked { λ _. ⌜ Picked kind (heldTable (now (b .entry)) s (now (buckets .entry))) (now (lengths .entry)) n (now (text .exit)) (now (told .exit)) ⌝ }
 {
-    group::settle(b, s, samples, starts, hashes, n, low);
+    group::settle(b, s, segments, buckets, hashes, n, low);
     let mut end = [0usize; 64];
     pick_each(
         b,
         s,
-        samples,
-        starts,
+        segments,
+        buckets,
         kind,
         lengths,
         hashes,
@@ -132,7 +132,7 @@ pub fn bring_near(
         &mut end,
         told,
     );
-    if !group::spread(b, s, samples, starts, 262144) {
+    if !group::spread(b, s, segments, buckets, 262144) {
         return;
     }
     read_ends(b, text, &end, n, low);

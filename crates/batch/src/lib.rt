@@ -72,17 +72,17 @@ fn put_places(
     b: &[u8],
     t: &[u32; 2048],
     s: Strings,
-    samples: &[u32; 1024],
-    starts: &[u32],
+    segments: &[u32; 1024],
+    buckets: &[u32],
     kind: Kind,
     texts: &[u8],
     answers: &mut [u8],
 )
-    requires { ⌜ Tables (now t) × Held (now b) s (now samples) (now starts)
-        × (firstFault (stringChecks (heldTable (now b) s (now starts))) ≡ Accepted) ⌝ }
+    requires { ⌜ Tables (now t) × Held (now b) s (now segments) (now buckets)
+        × (firstFault (stringChecks (heldTable (now b) s (now buckets))) ≡ Accepted) ⌝ }
     requires { ⌜ (firstFault (pathChecks (now texts)) ≡ Accepted) × (8 * length (namesOf (now texts)) ≤ length (now answers)) ⌝ }
     ensures { λ _. ⌜ now (answers .exit)
-        ≡ splice (now (answers .entry)) 0 (places (toldIn kind (heldTable (now (b .entry)) s (now (starts .entry)))) (namesOf (now (texts .entry)))) ⌝ }
+        ≡ splice (now (answers .entry)) 0 (places (toldIn kind (heldTable (now (b .entry)) s (now (buckets .entry)))) (namesOf (now (texts .entry)))) ⌝ }
 {
     let mut lengths = [0usize; 64];
     let mut hashes = [0u32; 64];
@@ -96,8 +96,8 @@ fn put_places(
         group::bring_near(
             b,
             s,
-            samples,
-            starts,
+            segments,
+            buckets,
             kind,
             &lengths,
             &hashes,
@@ -112,8 +112,8 @@ fn put_places(
             let l = first::find_picked(
                 b,
                 s,
-                samples,
-                starts,
+                segments,
+                buckets,
                 kind,
                 le::wide(hashes[j]),
                 low[j] % 4294967296,
@@ -136,17 +136,17 @@ pub fn find_each(
     b: &[u8],
     t: &[u32; 2048],
     s: Strings,
-    samples: &[u32; 1024],
-    starts: &[u32],
+    segments: &[u32; 1024],
+    buckets: &[u32],
     kind: Kind,
     texts: &[u8],
     answers: &mut [u8],
 ) -> Batch
-    requires { ⌜ Tables (now t) × Held (now b) s (now samples) (now starts)
-        × (firstFault (stringChecks (heldTable (now b) s (now starts))) ≡ Accepted) ⌝ }
+    requires { ⌜ Tables (now t) × Held (now b) s (now segments) (now buckets)
+        × (firstFault (stringChecks (heldTable (now b) s (now buckets))) ≡ Accepted) ⌝ }
     ensures answer { λ r. ⌜ Answered (now (texts .entry)) (length (now (answers .entry))) r ⌝ }
     ensures answers { λ r. ⌜ now (answers .exit)
-        ≡ answersAfter (toldIn kind (heldTable (now (b .entry)) s (now (starts .entry)))) (now (texts .entry)) (now (answers .entry)) (r .answer) ⌝ }
+        ≡ answersAfter (toldIn kind (heldTable (now (b .entry)) s (now (buckets .entry)))) (now (texts .entry)) (now (answers .entry)) (r .answer) ⌝ }
 {
     let c = path::names::check_path(texts);
     if let Verdict::Refused(num, place) = c {
@@ -162,7 +162,7 @@ pub fn find_each(
             texts: 0,
         };
     }
-    put_places(b, t, s, samples, starts, kind, texts, answers);
+    put_places(b, t, s, segments, buckets, kind, texts, answers);
     Batch {
         answer: Verdict::Accepted,
         texts: n,

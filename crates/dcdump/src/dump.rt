@@ -33,18 +33,18 @@ fn show(b: &[u8], v: View, out: &mut [u8]) -> usize
     ensures { λ r. ⌜ Put (now (out .entry)) 0 (reportAccepted (now (b .entry)) (firstFault (outlineChecks (now (b .entry)) 65536))) r (now (out .exit)) ⌝ }
 {
     let p = v.places;
-    let attribute_starts = v.attribute_starts;
-    let node_starts = v.node_starts;
-    let value_starts = v.value_starts;
-    let name_starts = v.name_starts;
+    let attribute_segments = v.attribute_segments;
+    let node_segments = v.node_segments;
+    let value_segments = v.value_segments;
+    let name_segments = v.name_segments;
     let mut text = buffers::text();
     let o = outline::write_outline(
         b,
         p,
-        &attribute_starts,
-        &node_starts,
-        &value_starts,
-        &name_starts,
+        &attribute_segments,
+        &node_segments,
+        &value_segments,
+        &name_segments,
         &mut text,
     );
     let a = o.answer;

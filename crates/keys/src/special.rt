@@ -28,17 +28,17 @@ pub struct Specials {
 fn listed_is(
     b: &[u8],
     s: Strings,
-    samples: &[u32; 1024],
-    starts: &[u32],
+    segments: &[u32; 1024],
+    buckets: &[u32],
     i: usize,
     x: &[u8],
     k: usize,
 ) -> bool
-    requires { ⌜ Held (now b) s (now samples) (now starts) × (firstFault (stringChecks (heldTable (now b) s (now starts))) ≡ Accepted) ⌝ }
-    requires { ⌜ (1 ≤ i) × (i < count (heldTable (now b) s (now starts))) × (2 * k ≤ length (now x)) ⌝ }
-    ensures { λ r. ⌜ Tells (listedText (heldTable (now (b .entry)) s (now (starts .entry))) i ≡ chars (now (x .entry)) 0 k) r ⌝ }
+    requires { ⌜ Held (now b) s (now segments) (now buckets) × (firstFault (stringChecks (heldTable (now b) s (now buckets))) ≡ Accepted) ⌝ }
+    requires { ⌜ (1 ≤ i) × (i < count (heldTable (now b) s (now buckets))) × (2 * k ≤ length (now x)) ⌝ }
+    ensures { λ r. ⌜ Tells (listedText (heldTable (now (b .entry)) s (now (buckets .entry))) i ≡ chars (now (x .entry)) 0 k) r ⌝ }
 {
-    let a = spot::spot_to(b, s.chars, samples, s.list + 4 * i);
+    let a = spot::spot_to(b, s.chars, segments, s.list + 4 * i);
     let Spot::At(q, n) = a else {
         return false;
     };
@@ -46,9 +46,9 @@ fn listed_is(
 }
 
 // Refusal 14 of a file whose names table passed 7 to 13.
-pub fn check_special(b: &[u8], s: Strings, samples: &[u32; 1024], starts: &[u32]) -> Specials
-    requires { ⌜ Held (now b) s (now samples) (now starts) × (heldTable (now b) s (now starts) ≡ names (now b))
-        × (firstFault (stringChecks (heldTable (now b) s (now starts))) ≡ Accepted) ⌝ }
+pub fn check_special(b: &[u8], s: Strings, segments: &[u32; 1024], buckets: &[u32]) -> Specials
+    requires { ⌜ Held (now b) s (now segments) (now buckets) × (heldTable (now b) s (now buckets) ≡ names (now b))
+        × (firstFault (stringChecks (heldTable (now b) s (now buckets))) ≡ Accepted) ⌝ }
     ensures { λ r. ⌜ SpecialsFound (now (b .entry)) r ⌝ }
 {
     let root = b"_\0_\0r\0o\0o\0t\0_\0_\0";
@@ -56,8 +56,8 @@ pub fn check_special(b: &[u8], s: Strings, samples: &[u32; 1024], starts: &[u32]
     let place = s.list;
     let n = le::u32_at(b, place) - 1;
     if n >= 2 {
-        if listed_is(b, s, samples, starts, n, root, 8) {
-            if listed_is(b, s, samples, starts, n - 1, value, 9) {
+        if listed_is(b, s, segments, buckets, n, root, 8) {
+            if listed_is(b, s, segments, buckets, n - 1, value, 9) {
                 return Specials {
                     answer: Verdict::Accepted,
                     names: Names {
@@ -67,8 +67,8 @@ pub fn check_special(b: &[u8], s: Strings, samples: &[u32; 1024], starts: &[u32]
                     },
                 };
             }
-        } else if listed_is(b, s, samples, starts, n, value, 9) {
-            if listed_is(b, s, samples, starts, n - 1, root, 8) {
+        } else if listed_is(b, s, segments, buckets, n, value, 9) {
+            if listed_is(b, s, segments, buckets, n - 1, root, 8) {
                 return Specials {
                     answer: Verdict::Accepted,
                     names: Names {

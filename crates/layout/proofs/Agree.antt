@@ -226,11 +226,11 @@ module _ {b c : List ℕ} {x : ℕ} (a : Agree b c x) (h : Inside b x) where
         laid = laid-out (g .laid);
         header = g .header ∙ sym header-same;
         places = placed-same (g .places);
-        «attribute_starts» = rw attributes-same (starts-kept attributes-alike (g .«attribute_starts»));
-        «node_starts» = rw nodes-same (starts-kept nodes-alike (g .«node_starts»));
+        «attribute_segments» = rw attributes-same (starts-kept attributes-alike (g .«attribute_segments»));
+        «node_segments» = rw nodes-same (starts-kept nodes-alike (g .«node_segments»));
         «node_counts» = rw nodes-same (counts-kept nodes-alike (g .«node_counts»));
-        «value_starts» = rw values-same (starts-kept (values-alike .chars) (g .«value_starts»));
-        «name_starts» = rw names-same (starts-kept (names-alike .chars) (g .«name_starts»));
+        «value_segments» = rw values-same (starts-kept (values-alike .chars) (g .«value_segments»));
+        «name_segments» = rw names-same (starts-kept (names-alike .chars) (g .«name_segments»));
         «value_buckets» = rw values-same (buckets-kept values-alike (g .«value_buckets»));
         «name_buckets» = rw names-same (buckets-kept names-alike (g .«name_buckets»));
       }

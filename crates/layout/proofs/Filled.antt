@@ -36,7 +36,7 @@ module _ (t : Table) (k : ℕ) (xs : List ℕ) (long : length xs ≡ t .buckets)
       record {
         answer = told _ _ (left ∙ each-stop (bucketChecks t) _ _ (omega arith) q);
         long = long;
-        starts = λ e w. absurd (no-end refl w);
+        buckets = λ e w. absurd (no-end refl w);
       }
 
   pub buckets-done : (p : ℕ) → k ≡ t .buckets → p ≡ bucketAt t k → Filled (bucketAt t) k xs → BucketsScanned t (End p) xs
@@ -45,5 +45,5 @@ module _ (t : Table) (k : ℕ) (xs : List ℕ) (long : length xs ≡ t .buckets)
       record {
         answer = ap End (q ∙ ap (bucketAt t) h) ∙ told _ _ (left ∙ ap firstFault (each-none _ _ _ (omega arith)) ∙ fault-none);
         long = long;
-        starts = λ e w. record { long = long; at = λ i l. g i (omega arith) };
+        buckets = λ e w. record { long = long; at = λ i l. g i (omega arith) };
       }

@@ -32,7 +32,7 @@ module _ (t : Table) (most : ℕ) where
         answer = h ∙ told _ (tableEnd t) q;
         long = l;
         list = λ e w. absurd (no-end h w);
-        starts = λ e w. absurd (no-end h w);
+        buckets = λ e w. absurd (no-end h w);
       }
 
   pub characters-stop : {n p : ℕ} → firstFault (regionChecks 2 (t .bytes) (t .at)) ≡ Refused n p → firstFault (tableChecks t most) ≡ Refused n p

@@ -55,11 +55,11 @@ pub struct Places {
 pub struct View {
     pub header: Header,
     pub places: Places,
-    pub attribute_starts: [u32; 1024],
-    pub node_starts: [u32; 1024],
+    pub attribute_segments: [u32; 1024],
+    pub node_segments: [u32; 1024],
     pub node_counts: [u32; 1024],
-    pub value_starts: [u32; 1024],
-    pub name_starts: [u32; 1024],
+    pub value_segments: [u32; 1024],
+    pub name_segments: [u32; 1024],
     pub value_buckets: [u32; 1024],
     pub name_buckets: [u32; 512],
 }

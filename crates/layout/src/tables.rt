@@ -26,17 +26,17 @@ fn check_bucket(b: &[u8], at: usize, n: usize, k: usize, p: usize) -> Scan
 }
 
 // All buckets, the first at p: each one's start is kept.
-fn buckets(b: &[u8], at: usize, from: usize, starts: &mut [u32]) -> Scan
-    requires { ⌜ (from ≡ bucketAt (table (now b) at (length (now starts))) 0) × (from ≤ length (now b)) × (length (now b) ≤ 1073741824) ⌝ }
-    ensures { λ r. ⌜ BucketsScanned (table (now (b .entry)) at (length (now (starts .entry)))) r (now (starts .exit)) ⌝ }
+fn check_buckets(b: &[u8], at: usize, from: usize, buckets: &mut [u32]) -> Scan
+    requires { ⌜ (from ≡ bucketAt (table (now b) at (length (now buckets))) 0) × (from ≤ length (now b)) × (length (now b) ≤ 1073741824) ⌝ }
+    ensures { λ r. ⌜ BucketsScanned (table (now (b .entry)) at (length (now (buckets .entry)))) r (now (buckets .exit)) ⌝ }
 {
-    let n = starts.len();
+    let n = buckets.len();
     let mut p = from;
     let mut k = 0;
     while k < n {
         match check_bucket(b, at, n, k, p) {
             Scan::End(q) => {
-                starts[k] = p as u32;
+                buckets[k] = p as u32;
                 p = q;
             }
             Scan::Fault(num, place) => {
@@ -78,16 +78,16 @@ pub struct TableScan {
 }
 
 // The table at an offset, of as many buckets as there are starts to fill.
-pub fn scan_table(b: &[u8], at: usize, starts: &mut [u32], most: usize) -> TableScan
+pub fn scan_table(b: &[u8], at: usize, buckets: &mut [u32], most: usize) -> TableScan
     requires { ⌜ (at ≤ length (now b)) × (length (now b) ≤ 1073741824) ⌝ }
-    ensures { λ r. ⌜ TableScanned (table (now (b .entry)) at (length (now (starts .entry)))) most r (now (starts .exit)) ⌝ }
+    ensures { λ r. ⌜ TableScanned (table (now (b .entry)) at (length (now (buckets .entry)))) most r (now (buckets .exit)) ⌝ }
 {
-    let n = starts.len();
+    let n = buckets.len();
     let c = region::lay(b, at, CHARACTER_SIZE);
     let Scan::End(from) = c else {
         return TableScan { answer: c, list: 0 };
     };
-    let k = buckets(b, at, from, starts);
+    let k = check_buckets(b, at, from, buckets);
     let Scan::End(p) = k else {
         return TableScan { answer: k, list: 0 };
     };

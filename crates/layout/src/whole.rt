@@ -107,16 +107,16 @@ fn view_of(b: &[u8], w: Walk, value_buckets: [u32; 1024], name_buckets: [u32; 51
     let nodes = region::mapped(b, w.nodes, NODE_SIZE);
     let value_chars = region::mapped(b, w.values, CHARACTER_SIZE);
     let name_chars = region::mapped(b, w.names, CHARACTER_SIZE);
-    let mut attribute_starts = [0u32; 1024];
-    region::sample_starts(b, attributes, ATTRIBUTE_SIZE, &mut attribute_starts);
-    let mut node_starts = [0u32; 1024];
-    region::sample_starts(b, nodes, NODE_SIZE, &mut node_starts);
+    let mut attribute_segments = [0u32; 1024];
+    region::sample_starts(b, attributes, ATTRIBUTE_SIZE, &mut attribute_segments);
+    let mut node_segments = [0u32; 1024];
+    region::sample_starts(b, nodes, NODE_SIZE, &mut node_segments);
     let mut node_counts = [0u32; 1024];
     let used_nodes = region::sample_counts(b, nodes, NODE_SIZE, &mut node_counts);
-    let mut value_starts = [0u32; 1024];
-    region::sample_starts(b, value_chars, CHARACTER_SIZE, &mut value_starts);
-    let mut name_starts = [0u32; 1024];
-    region::sample_starts(b, name_chars, CHARACTER_SIZE, &mut name_starts);
+    let mut value_segments = [0u32; 1024];
+    region::sample_starts(b, value_chars, CHARACTER_SIZE, &mut value_segments);
+    let mut name_segments = [0u32; 1024];
+    region::sample_starts(b, name_chars, CHARACTER_SIZE, &mut name_segments);
     View {
         header: front::header_report(b),
         places: Places {
@@ -129,11 +129,11 @@ fn view_of(b: &[u8], w: Walk, value_buckets: [u32; 1024], name_buckets: [u32; 51
             name_chars,
             name_list: w.name_list,
         },
-        attribute_starts,
-        node_starts,
+        attribute_segments,
+        node_segments,
         node_counts,
-        value_starts,
-        name_starts,
+        value_segments,
+        name_segments,
         value_buckets,
         name_buckets,
     }
@@ -166,11 +166,11 @@ fn no_view() -> View {
             name_chars: none,
             name_list: 0,
         },
-        attribute_starts: [0u32; 1024],
-        node_starts: [0u32; 1024],
+        attribute_segments: [0u32; 1024],
+        node_segments: [0u32; 1024],
         node_counts: [0u32; 1024],
-        value_starts: [0u32; 1024],
-        name_starts: [0u32; 1024],
+        value_segments: [0u32; 1024],
+        name_segments: [0u32; 1024],
         value_buckets: [0u32; 1024],
         name_buckets: [0u32; 512],
     }

@@ -40,12 +40,12 @@ fn no_candidate() -> Candidate
 }
 
 // Where the text of the entry at e starts. Its address resolves, so no count is read.
-fn text_at(b: &[u8], chars: Region, samples: &[u32; 1024], e: usize) -> usize
-    requires { ⌜ Mapped 2 (now b) (chars .at) chars × Starts 2 (now b) (chars .at) (chars .shift) (now samples) × (e + 16 ≤ length (now b))
+fn text_at(b: &[u8], chars: Region, segments: &[u32; 1024], e: usize) -> usize
+    requires { ⌜ Mapped 2 (now b) (chars .at) chars × Starts 2 (now b) (chars .at) (chars .shift) (now segments) × (e + 16 ≤ length (now b))
         × Resolves 2 (now b) (chars .at) (u16At (now b) (e + 12)) (u16At (now b) (e + 14)) ⌝ }
     ensures { λ r. ⌜ r ≡ placeOf 2 (now (b .entry)) (chars .at) (u16At (now (b .entry)) (e + 12)) (u16At (now (b .entry)) (e + 14)) ⌝ }
 {
-    let p = region::locate(b, chars, 2, samples, le::u16_at(b, e + 12));
+    let p = region::locate(b, chars, 2, segments, le::u16_at(b, e + 12));
     p + 8 + le::u16_at(b, e + 14) * 2
 }
 
@@ -53,29 +53,29 @@ fn text_at(b: &[u8], chars: Region, samples: &[u32; 1024], e: usize) -> usize
 pub fn pick(
     b: &[u8],
     s: Strings,
-    samples: &[u32; 1024],
-    starts: &[u32],
+    segments: &[u32; 1024],
+    buckets: &[u32],
     kind: Kind,
     h: usize,
     low: usize,
     n: usize,
 ) -> Candidate
-    requires { ⌜ Held (now b) s (now samples) (now starts) × (firstFault (stringChecks (heldTable (now b) s (now starts))) ≡ Accepted) ⌝ }
+    requires { ⌜ Held (now b) s (now segments) (now buckets) × (firstFault (stringChecks (heldTable (now b) s (now buckets))) ≡ Accepted) ⌝ }
     ensures places { λ r. ⌜ (r .text + 2 ≤ length (now (b .entry))) × (r .end + 2 ≤ length (now (b .entry))) ⌝ }
-    ensures bears { λ r. ⌜ ((r .text ≡ 0 → ⊥) → PickedEntry kind (heldTable (now (b .entry)) s (now (starts .entry))) n (r .text) (r .told)) ⌝ }
+    ensures bears { λ r. ⌜ ((r .text ≡ 0 → ⊥) → PickedEntry kind (heldTable (now (b .entry)) s (now (buckets .entry))) n (r .text) (r .told)) ⌝ }
 {
-    let k = hash::bucket(h, starts.len());
-    if entry::entry_count(b, s, samples, starts, k) <= low {
+    let k = hash::bucket(h, buckets.len());
+    if entry::entry_count(b, s, segments, buckets, k) <= low {
         return no_candidate();
     }
-    let e = entry::entry_at(b, s, samples, starts, k, low);
+    let e = entry::entry_at(b, s, segments, buckets, k, low);
     if le::u32_at(b, e) != h {
         return no_candidate();
     }
     if le::u32_at(b, e + 4) - 1 != n {
         return no_candidate();
     }
-    let x = text_at(b, s.chars, samples, e);
+    let x = text_at(b, s.chars, segments, e);
     Candidate {
         text: x,
         end: x + 2 * n,
@@ -88,8 +88,8 @@ pub fn pick(
 pub fn find_picked(
     b: &[u8],
     s: Strings,
-    samples: &[u32; 1024],
-    starts: &[u32],
+    segments: &[u32; 1024],
+    buckets: &[u32],
     kind: Kind,
     h: usize,
     low: usize,
@@ -99,16 +99,16 @@ pub fn find_picked(
     p: usize,
     n: usize,
 ) -> Lookup
-    requires { ⌜ Held (now b) s (now samples) (now starts) × (firstFault (stringChecks (heldTable (now b) s (now starts))) ≡ Accepted) ⌝ }
+    requires { ⌜ Held (now b) s (now segments) (now buckets) × (firstFault (stringChecks (heldTable (now b) s (now buckets))) ≡ Accepted) ⌝ }
     requires { ⌜ (p + 2 * n ≤ length (now q)) × (h ≡ hashText (chars (now q) p n))
-        × Lower (heldTable (now b) s (now starts)) (bucketOf (length (now starts)) h) h low ⌝ }
-    requires { ⌜ ((text ≡ 0 → ⊥) → PickedEntry kind (heldTable (now b) s (now starts)) n text told) ⌝ }
-    ensures { λ r. ⌜ r ≡ toldIn kind (heldTable (now (b .entry)) s (now (starts .entry))) (chars (now (q .entry)) p n) ⌝ }
+        × Lower (heldTable (now b) s (now buckets)) (bucketOf (length (now buckets)) h) h low ⌝ }
+    requires { ⌜ ((text ≡ 0 → ⊥) → PickedEntry kind (heldTable (now b) s (now buckets)) n text told) ⌝ }
+    ensures { λ r. ⌜ r ≡ toldIn kind (heldTable (now (b .entry)) s (now (buckets .entry))) (chars (now (q .entry)) p n) ⌝ }
 {
     if text != 0 {
         if text::alike(b, text, q, p, n) {
             return Lookup::Found(told);
         }
     }
-    crate::find_from(b, s, samples, starts, kind, h, low, q, p, n)
+    crate::find_from(b, s, segments, buckets, kind, h, low, q, p, n)
 }

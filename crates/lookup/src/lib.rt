@@ -38,23 +38,23 @@ pub enum Kind {
 fn entry_bears(
     b: &[u8],
     s: Strings,
-    samples: &[u32; 1024],
-    starts: &[u32],
+    segments: &[u32; 1024],
+    buckets: &[u32],
     k: usize,
     j: usize,
     q: &[u8],
     p: usize,
     n: usize,
 ) -> bool
-    requires { ⌜ Held (now b) s (now samples) (now starts) × Here (heldTable (now b) s (now starts)) k j
-        × (firstFault (stringChecks (heldTable (now b) s (now starts))) ≡ Accepted) × (p + 2 * n ≤ length (now q)) ⌝ }
-    ensures { λ r. ⌜ Tells (textOf (heldTable (now (b .entry)) s (now (starts .entry))) k j ≡ chars (now (q .entry)) p n) r ⌝ }
+    requires { ⌜ Held (now b) s (now segments) (now buckets) × Here (heldTable (now b) s (now buckets)) k j
+        × (firstFault (stringChecks (heldTable (now b) s (now buckets))) ≡ Accepted) × (p + 2 * n ≤ length (now q)) ⌝ }
+    ensures { λ r. ⌜ Tells (textOf (heldTable (now (b .entry)) s (now (buckets .entry))) k j ≡ chars (now (q .entry)) p n) r ⌝ }
 {
-    let e = entry::entry_at(b, s, samples, starts, k, j);
+    let e = entry::entry_at(b, s, segments, buckets, k, j);
     if le::u32_at(b, e + 4) != n + 1 {
         return false;
     }
-    let a = spot::spot_to(b, s.chars, samples, e + 12);
+    let a = spot::spot_to(b, s.chars, segments, e + 12);
     let Spot::At(x, _) = a else {
         return false;
     };
@@ -66,28 +66,28 @@ fn entry_bears(
 fn find_entry(
     b: &[u8],
     s: Strings,
-    samples: &[u32; 1024],
-    starts: &[u32],
+    segments: &[u32; 1024],
+    buckets: &[u32],
     h: usize,
     low: usize,
     q: &[u8],
     p: usize,
     n: usize,
 ) -> Lookup
-    requires { ⌜ Held (now b) s (now samples) (now starts) × (firstFault (stringChecks (heldTable (now b) s (now starts))) ≡ Accepted) ⌝ }
+    requires { ⌜ Held (now b) s (now segments) (now buckets) × (firstFault (stringChecks (heldTable (now b) s (now buckets))) ≡ Accepted) ⌝ }
     requires { ⌜ (p + 2 * n ≤ length (now q)) × (h ≡ hashText (chars (now q) p n))
-        × Lower (heldTable (now b) s (now starts)) (bucketOf (length (now starts)) h) h low ⌝ }
-    ensures { λ r. ⌜ r ≡ entryOfText (heldTable (now (b .entry)) s (now (starts .entry))) (chars (now (q .entry)) p n) ⌝ }
+        × Lower (heldTable (now b) s (now buckets)) (bucketOf (length (now buckets)) h) h low ⌝ }
+    ensures { λ r. ⌜ r ≡ entryOfText (heldTable (now (b .entry)) s (now (buckets .entry))) (chars (now (q .entry)) p n) ⌝ }
 {
-    let k = hash::bucket(h, starts.len());
-    let m = entry::entry_count(b, s, samples, starts, k);
+    let k = hash::bucket(h, buckets.len());
+    let m = entry::entry_count(b, s, segments, buckets, k);
     let mut j = low;
     while j < m {
-        let e = entry::entry_at(b, s, samples, starts, k, j);
+        let e = entry::entry_at(b, s, segments, buckets, k, j);
         if le::u32_at(b, e) != h {
             return Lookup::Absent;
         }
-        if entry_bears(b, s, samples, starts, k, j, q, p, n) {
+        if entry_bears(b, s, segments, buckets, k, j, q, p, n) {
             return Lookup::Found(e);
         }
         j += 1;
@@ -110,8 +110,8 @@ fn told_at(b: &[u8], kind: Kind, e: usize) -> usize
 pub(crate) fn find_from(
     b: &[u8],
     s: Strings,
-    samples: &[u32; 1024],
-    starts: &[u32],
+    segments: &[u32; 1024],
+    buckets: &[u32],
     kind: Kind,
     h: usize,
     low: usize,
@@ -119,12 +119,12 @@ pub(crate) fn find_from(
     p: usize,
     n: usize,
 ) -> Lookup
-    requires { ⌜ Held (now b) s (now samples) (now starts) × (firstFault (stringChecks (heldTable (now b) s (now starts))) ≡ Accepted) ⌝ }
+    requires { ⌜ Held (now b) s (now segments) (now buckets) × (firstFault (stringChecks (heldTable (now b) s (now buckets))) ≡ Accepted) ⌝ }
     requires { ⌜ (p + 2 * n ≤ length (now q)) × (h ≡ hashText (chars (now q) p n))
-        × Lower (heldTable (now b) s (now starts)) (bucketOf (length (now starts)) h) h low ⌝ }
-    ensures { λ r. ⌜ r ≡ toldIn kind (heldTable (now (b .entry)) s (now (starts .entry))) (chars (now (q .entry)) p n) ⌝ }
+        × Lower (heldTable (now b) s (now buckets)) (bucketOf (length (now buckets)) h) h low ⌝ }
+    ensures { λ r. ⌜ r ≡ toldIn kind (heldTable (now (b .entry)) s (now (buckets .entry))) (chars (now (q .entry)) p n) ⌝ }
 {
-    let Lookup::Found(e) = find_entry(b, s, samples, starts, h, low, q, p, n) else {
+    let Lookup::Found(e) = find_entry(b, s, segments, buckets, h, low, q, p, n) else {
         return Lookup::Absent;
     };
     Lookup::Found(told_at(b, kind, e))
@@ -135,19 +135,19 @@ pub fn find_text(
     b: &[u8],
     t: &[u32; 2048],
     s: Strings,
-    samples: &[u32; 1024],
-    starts: &[u32],
+    segments: &[u32; 1024],
+    buckets: &[u32],
     kind: Kind,
     q: &[u8],
     p: usize,
     n: usize,
 ) -> Lookup
-    requires { ⌜ Tables (now t) × Held (now b) s (now samples) (now starts)
-        × (firstFault (stringChecks (heldTable (now b) s (now starts))) ≡ Accepted) × (p + 2 * n ≤ length (now q)) ⌝ }
-    ensures { λ r. ⌜ r ≡ toldIn kind (heldTable (now (b .entry)) s (now (starts .entry))) (chars (now (q .entry)) p n) ⌝ }
+    requires { ⌜ Tables (now t) × Held (now b) s (now segments) (now buckets)
+        × (firstFault (stringChecks (heldTable (now b) s (now buckets))) ≡ Accepted) × (p + 2 * n ≤ length (now q)) ⌝ }
+    ensures { λ r. ⌜ r ≡ toldIn kind (heldTable (now (b .entry)) s (now (buckets .entry))) (chars (now (q .entry)) p n) ⌝ }
 {
     let h = text::hash_chars(q, t, p, n, 0);
-    let k = hash::bucket(h, starts.len());
-    let low = search::lower(b, s, samples, starts, k, h);
-    find_from(b, s, samples, starts, kind, h, low, q, p, n)
+    let k = hash::bucket(h, buckets.len());
+    let low = search::lower(b, s, segments, buckets, k, h);
+    find_from(b, s, segments, buckets, kind, h, low, q, p, n)
 }

@@ -19,15 +19,15 @@ pub fn check_nodes(
     t: &[u32; 2048],
     p: Places,
     names: Names,
-    attribute_starts: &[u32; 1024],
-    node_starts: &[u32; 1024],
-    value_starts: &[u32; 1024],
+    attribute_segments: &[u32; 1024],
+    node_segments: &[u32; 1024],
+    value_segments: &[u32; 1024],
     value_buckets: &[u32],
     known: bool,
     doubts: &[u32; 4096],
     memo: &mut [u32; 3072],
 ) -> Verdict
-    requires { ⌜ Tables (now t) × Ready (now b) p names (now «attribute_starts») (now «node_starts») (now «value_starts») (now «value_buckets»)
+    requires { ⌜ Tables (now t) × Ready (now b) p names (now «attribute_segments») (now «node_segments») (now «value_segments») (now «value_buckets»)
         × Sure (NoDoubt (now doubts)) known × AllTrusted (now b) (now doubts) × Remembers (noted (now b)) (now memo) ⌝ }
     ensures answer { λ r. ⌜ r ≡ firstFault (allNodeChecks (now (b .entry))) ⌝ }
     ensures memo { λ _. ⌜ Remembers (noted (now (b .entry))) (now (memo .exit)) ⌝ }
@@ -52,9 +52,9 @@ pub fn check_nodes(
                 t,
                 p,
                 names,
-                attribute_starts,
-                node_starts,
-                value_starts,
+                attribute_segments,
+                node_segments,
+                value_segments,
                 value_buckets,
                 seg,
                 el,

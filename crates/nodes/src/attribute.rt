@@ -3,7 +3,7 @@ ghost use mathlib.Core.Path.{_≡_};
 ghost use Prim.Native.Nat.{ℕ, _+_, _*_, _≤_, _<_};
 ghost use lib.ListN.{length};
 ghost use Rattle.verdict.specs.Checks.{firstFault};
-ghost use Rattle.verdict.specs.inner.Tells.{Tells};
+ghost use Rattle.verdict.specs.inner.Tells.{Tells, Sure};
 ghost use Rattle.verdict.specs.declared.Verdict.the-variants.{Accepted};
 ghost use Rattle.hash.specs.inner.Tables.{Tables};
 ghost use Rattle.memo.specs.inner.Memo.{Remembers};
@@ -17,7 +17,6 @@ ghost use Rattle.nodes.specs.Rules.{AttributeRule, TextRight};
 ghost use Rattle.nodes.specs.inner.Doubts.{Trusted, NoDoubt};
 ghost use Rattle.nodes.specs.Order.{nodeAttributeChecks};
 ghost use Rattle.nodes.specs.inner.Noted.{noted};
-ghost use Rattle.verdict.specs.inner.Tells.{Sure};
 use crate::long;
 use keys::Names;
 use search::run;
@@ -79,12 +78,12 @@ pub fn text_right(
     b: &[u8],
     t: &[u32; 2048],
     s: Strings,
-    samples: &[u32; 1024],
-    starts: &[u32],
+    segments: &[u32; 1024],
+    buckets: &[u32],
     q: usize,
     memo: &mut [u32; 3072],
 ) -> bool
-    requires { ⌜ Tables (now t) × Held (now b) s (now samples) (now starts) × (heldTable (now b) s (now starts) ≡ values (now b))
+    requires { ⌜ Tables (now t) × Held (now b) s (now segments) (now buckets) × (heldTable (now b) s (now buckets) ≡ values (now b))
         × (firstFault (stringChecks (values (now b))) ≡ Accepted) × (q + 12 ≤ length (now b)) × Remembers (noted (now b)) (now memo) ⌝ }
     ensures answer { λ r. ⌜ Tells (TextRight (now (b .entry)) q) r ⌝ }
     ensures memo { λ _. ⌜ Remembers (noted (now (b .entry))) (now (memo .exit)) ⌝ }
@@ -93,7 +92,7 @@ pub fn text_right(
     if words::kind(word) != 3 {
         return true;
     }
-    let a = spot::spot_to(b, s.chars, samples, q + 4);
+    let a = spot::spot_to(b, s.chars, segments, q + 4);
     let Spot::At(x, n) = a else {
         return false;
     };
@@ -101,10 +100,10 @@ pub fn text_right(
         return false;
     }
     let h = long::text_hash(b, t, x, n, memo);
-    let k = hash::bucket(h, starts.len());
-    let low = search::lower(b, s, samples, starts, k, h);
+    let k = hash::bucket(h, buckets.len());
+    let low = search::lower(b, s, segments, buckets, k, h);
     let address = le::u32_at(b, q + 4);
-    run::run_has(b, s, samples, starts, k, h, low, 12, address)
+    run::run_has(b, s, segments, buckets, k, h, low, 12, address)
 }
 
 // The same where it may be known of the attribute already: that nothing is doubted saves a look at its place.
@@ -112,14 +111,14 @@ fn text_passes(
     b: &[u8],
     t: &[u32; 2048],
     s: Strings,
-    samples: &[u32; 1024],
-    starts: &[u32],
+    segments: &[u32; 1024],
+    buckets: &[u32],
     q: usize,
     known: bool,
     doubts: &[u32; 4096],
     memo: &mut [u32; 3072],
 ) -> bool
-    requires { ⌜ Tables (now t) × Held (now b) s (now samples) (now starts) × (heldTable (now b) s (now starts) ≡ values (now b))
+    requires { ⌜ Tables (now t) × Held (now b) s (now segments) (now buckets) × (heldTable (now b) s (now buckets) ≡ values (now b))
         × (firstFault (stringChecks (values (now b))) ≡ Accepted) × (q + 12 ≤ length (now b)) × Sure (NoDoubt (now doubts)) known
         × Trusted (now b) (now doubts) q × Remembers (noted (now b)) (now memo) ⌝ }
     ensures answer { λ r. ⌜ Tells (TextRight (now (b .entry)) q) r ⌝ }
@@ -131,7 +130,7 @@ fn text_passes(
     if doubts[q / 4 % 4096] == 0 {
         return true;
     }
-    text_right(b, t, s, samples, starts, q, memo)
+    text_right(b, t, s, segments, buckets, q, memo)
 }
 
 // Refusals 18 and 19 of the attributes of the node at p, the first of which stands at a; 19 is due only to those that are doubted.
@@ -140,8 +139,8 @@ pub fn check_attributes(
     t: &[u32; 2048],
     names: Names,
     s: Strings,
-    samples: &[u32; 1024],
-    starts: &[u32],
+    segments: &[u32; 1024],
+    buckets: &[u32],
     p: usize,
     a: usize,
     n: usize,
@@ -149,8 +148,8 @@ pub fn check_attributes(
     doubts: &[u32; 4096],
     memo: &mut [u32; 3072],
 ) -> Verdict
-    requires { ⌜ Tables (now t) × Known (now b) names × Held (now b) s (now samples) (now starts)
-        × (heldTable (now b) s (now starts) ≡ values (now b)) × (firstFault (stringChecks (values (now b))) ≡ Accepted) ⌝ }
+    requires { ⌜ Tables (now t) × Known (now b) names × Held (now b) s (now segments) (now buckets)
+        × (heldTable (now b) s (now buckets) ≡ values (now b)) × (firstFault (stringChecks (values (now b))) ≡ Accepted) ⌝ }
     requires { ⌜ (n ≡ attributeCount (now b) p) × (a ≡ attributeAt (now b) p 0) × (a + n * 12 ≤ length (now b)) × Sure (NoDoubt (now doubts)) known
         × ((i : ℕ) → i < n → Trusted (now b) (now doubts) (attributeAt (now b) p i)) × Remembers (noted (now b)) (now memo) ⌝ }
     ensures answer { λ r. ⌜ r ≡ firstFault (nodeAttributeChecks (now (b .entry)) p) ⌝ }
@@ -162,7 +161,7 @@ pub fn check_attributes(
         if !attribute_right(b, names, p, i, q) {
             return Verdict::Refused(18, q);
         }
-        if !text_passes(b, t, s, samples, starts, q, known, doubts, memo) {
+        if !text_passes(b, t, s, segments, buckets, q, known, doubts, memo) {
             return Verdict::Refused(19, q);
         }
         i += 1;

@@ -3,7 +3,7 @@ ghost use mathlib.Core.Path.{_≡_};
 ghost use Prim.Native.Nat.{_+_, _*_, _≤_, _<_};
 ghost use lib.ListN.{length};
 ghost use Rattle.verdict.specs.Checks.{firstFault};
-ghost use Rattle.verdict.specs.inner.Tells.{Tells};
+ghost use Rattle.verdict.specs.inner.Tells.{Tells, Sure};
 ghost use Rattle.verdict.specs.declared.Verdict.the-variants.{Accepted};
 ghost use Rattle.hash.specs.inner.Tables.{Tables};
 ghost use Rattle.memo.specs.inner.Memo.{Remembers};
@@ -17,7 +17,6 @@ ghost use Rattle.keys.specs.inner.Known.{Known};
 ghost use Rattle.nodes.specs.Node.{nodeAt, Live};
 ghost use Rattle.nodes.specs.Rules.{NodeRule, ChildRule};
 ghost use Rattle.nodes.specs.inner.Doubts.{AllTrusted, NoDoubt};
-ghost use Rattle.verdict.specs.inner.Tells.{Sure};
 ghost use Rattle.nodes.specs.inner.Search.{NamesRise};
 ghost use Rattle.nodes.specs.Order.{attributeRangeChecks, nodeChecks};
 ghost use Rattle.nodes.specs.inner.Held.{Ready};
@@ -78,8 +77,8 @@ fn rising(b: &[u8], q: usize, n: usize) -> bool
 }
 
 // Whether refusal 23 is not due to the live node at p.
-fn children_right(b: &[u8], nodes: Region, starts: &[u32; 1024], p: usize) -> bool
-    requires { ⌜ Mapped nodeSize (now b) (nodesAt (now b)) nodes × Starts nodeSize (now b) (nodesAt (now b)) (nodes .shift) (now starts) ⌝ }
+fn children_right(b: &[u8], nodes: Region, segments: &[u32; 1024], p: usize) -> bool
+    requires { ⌜ Mapped nodeSize (now b) (nodesAt (now b)) nodes × Starts nodeSize (now b) (nodesAt (now b)) (nodes .shift) (now segments) ⌝ }
     requires { ⌜ (p + 24 ≤ length (now b)) × Live (now b) p ⌝ }
     ensures { λ r. ⌜ Tells (ChildRule (now (b .entry)) p) r ⌝ }
 {
@@ -91,7 +90,7 @@ fn children_right(b: &[u8], nodes: Region, starts: &[u32; 1024], p: usize) -> bo
         b,
         nodes,
         24,
-        starts,
+        segments,
         le::u16_at(b, p + 16),
         le::u16_at(b, p + 18),
         n,
@@ -108,19 +107,19 @@ fn check_attribute_range(
     t: &[u32; 2048],
     attributes: Region,
     names: Names,
-    attribute_starts: &[u32; 1024],
+    attribute_segments: &[u32; 1024],
     s: Strings,
-    samples: &[u32; 1024],
-    starts: &[u32],
+    segments: &[u32; 1024],
+    buckets: &[u32],
     x: usize,
     known: bool,
     doubts: &[u32; 4096],
     memo: &mut [u32; 3072],
 ) -> Verdict
-    requires { ⌜ Tables (now t) × Known (now b) names × Held (now b) s (now samples) (now starts)
-        × (heldTable (now b) s (now starts) ≡ values (now b)) × (firstFault (stringChecks (values (now b))) ≡ Accepted) ⌝ }
+    requires { ⌜ Tables (now t) × Known (now b) names × Held (now b) s (now segments) (now buckets)
+        × (heldTable (now b) s (now buckets) ≡ values (now b)) × (firstFault (stringChecks (values (now b))) ≡ Accepted) ⌝ }
     requires { ⌜ Mapped attributeSize (now b) (attributesAt (now b)) attributes
-        × Starts attributeSize (now b) (attributesAt (now b)) (attributes .shift) (now «attribute_starts») × (x + 24 ≤ length (now b)) × Live (now b) x
+        × Starts attributeSize (now b) (attributesAt (now b)) (attributes .shift) (now «attribute_segments») × (x + 24 ≤ length (now b)) × Live (now b) x
         × Sure (NoDoubt (now doubts)) known × AllTrusted (now b) (now doubts) × Remembers (noted (now b)) (now memo) ⌝ }
     ensures answer { λ r. ⌜ r ≡ firstFault (attributeRangeChecks (now (b .entry)) x) ⌝ }
     ensures memo { λ _. ⌜ Remembers (noted (now (b .entry))) (now (memo .exit)) ⌝ }
@@ -133,7 +132,7 @@ fn check_attribute_range(
         b,
         attributes,
         12,
-        attribute_starts,
+        attribute_segments,
         le::u16_at(b, x + 8),
         le::u16_at(b, x + 10),
         n,
@@ -144,8 +143,8 @@ fn check_attribute_range(
             t,
             names,
             s,
-            samples,
-            starts,
+            segments,
+            buckets,
             x,
             a,
             n,
@@ -163,9 +162,9 @@ pub fn check_node(
     t: &[u32; 2048],
     p: Places,
     names: Names,
-    attribute_starts: &[u32; 1024],
-    node_starts: &[u32; 1024],
-    value_starts: &[u32; 1024],
+    attribute_segments: &[u32; 1024],
+    node_segments: &[u32; 1024],
+    value_segments: &[u32; 1024],
     value_buckets: &[u32],
     seg: usize,
     el: usize,
@@ -174,7 +173,7 @@ pub fn check_node(
     doubts: &[u32; 4096],
     memo: &mut [u32; 3072],
 ) -> Verdict
-    requires { ⌜ Tables (now t) × Ready (now b) p names (now «attribute_starts») (now «node_starts») (now «value_starts») (now «value_buckets»)
+    requires { ⌜ Tables (now t) × Ready (now b) p names (now «attribute_segments») (now «node_segments») (now «value_segments») (now «value_buckets»)
         × Resolves nodeSize (now b) (nodesAt (now b)) seg el × (x ≡ nodeAt (now b) seg el) × Sure (NoDoubt (now doubts)) known
         × AllTrusted (now b) (now doubts) × Remembers (noted (now b)) (now memo) ⌝ }
     ensures answer { λ r. ⌜ r ≡ firstFault (nodeChecks (now (b .entry)) seg el) ⌝ }
@@ -196,9 +195,9 @@ pub fn check_node(
         t,
         p.attributes,
         names,
-        attribute_starts,
+        attribute_segments,
         s,
-        value_starts,
+        value_segments,
         value_buckets,
         x,
         known,
@@ -208,7 +207,7 @@ pub fn check_node(
     if let Verdict::Refused(num, place) = v {
         return Verdict::Refused(num, place);
     }
-    if !children_right(b, p.nodes, node_starts, x) {
+    if !children_right(b, p.nodes, node_segments, x) {
         return Verdict::Refused(23, x);
     }
     Verdict::Accepted

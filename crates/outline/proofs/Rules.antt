@@ -24,16 +24,16 @@ use Rattle.outline.specs.inner.Ready.{NodeReady, OutlineReady}
 
 -- a view that fits an accepted file
 pub outline-ready : (b : List ℕ) (room : ℕ) (v : View) → Fits b v → verdictOf b room ≡ Accepted
-    → OutlineReady b (v .places) (v .«attribute_starts») (v .«node_starts») (v .«value_starts») (v .«name_starts»)
+    → OutlineReady b (v .places) (v .«attribute_segments») (v .«node_segments») (v .«value_segments») (v .«name_segments»)
 outline-ready b room v f e = record {
   line = record {
     rules = accepted-iff b room .0 e .0;
     placed = f .places;
-    attributes = f .«attribute_starts»;
-    values = f .«value_starts»;
-    names = f .«name_starts»;
+    attributes = f .«attribute_segments»;
+    values = f .«value_segments»;
+    names = f .«name_segments»;
   };
-  nodes = f .«node_starts»;
+  nodes = f .«node_segments»;
 }
 
 module _ (b : List ℕ) (r : FileRules b) where

@@ -16,20 +16,29 @@ use tree::ranges;
 fn put_node(
     b: &[u8],
     p: Places,
-    attribute_starts: &[u32; 1024],
-    value_starts: &[u32; 1024],
-    name_starts: &[u32; 1024],
+    attribute_segments: &[u32; 1024],
+    value_segments: &[u32; 1024],
+    name_segments: &[u32; 1024],
     level: usize,
     x: usize,
     out: &mut [u8],
     at: usize,
 ) -> usize
-    requires { ⌜ LineReady (now b) p (now «attribute_starts») (now «value_starts») (now «name_starts») × NodeReady (now b) x × (level ≤ 63) ⌝ }
+    requires { ⌜ LineReady (now b) p (now «attribute_segments») (now «value_segments») (now «name_segments») × NodeReady (now b) x × (level ≤ 63) ⌝ }
     ensures { λ r. ⌜ Put (now (out .entry)) at (line (now (b .entry)) level x) r (now (out .exit)) ⌝ }
 {
     let c = print::put_spaces(out, at, 2 * level);
-    let d = texts::put_name(b, p, name_starts, le::u16_at(b, x), out, c);
-    let e = values::put_attributes(b, p, attribute_starts, value_starts, name_starts, x, out, d);
+    let d = texts::put_name(b, p, name_segments, le::u16_at(b, x), out, c);
+    let e = values::put_attributes(
+        b,
+        p,
+        attribute_segments,
+        value_segments,
+        name_segments,
+        x,
+        out,
+        d,
+    );
     print::put(out, e, b'\n')
 }
 
@@ -37,10 +46,10 @@ fn put_node(
 pub fn write_node(
     b: &[u8],
     p: Places,
-    attribute_starts: &[u32; 1024],
-    node_starts: &[u32; 1024],
-    value_starts: &[u32; 1024],
-    name_starts: &[u32; 1024],
+    attribute_segments: &[u32; 1024],
+    node_segments: &[u32; 1024],
+    value_segments: &[u32; 1024],
+    name_segments: &[u32; 1024],
     a: usize,
     x: usize,
     level: usize,
@@ -48,16 +57,16 @@ pub fn write_node(
     out: &mut [u8],
     at: usize,
 ) -> usize
-    requires { ⌜ OutlineReady (now b) p (now «attribute_starts») (now «node_starts») (now «value_starts») (now «name_starts») ⌝ }
+    requires { ⌜ OutlineReady (now b) p (now «attribute_segments») (now «node_segments») (now «value_segments») (now «name_segments») ⌝ }
     requires { ⌜ Used (now b) a × (x ≡ nodeOf (now b) a) × Live (now b) x × (level + left ≤ 63) ⌝ }
     ensures { λ r. ⌜ Put (now (out .entry)) at (block (now (b .entry)) left level a) r (now (out .exit)) ⌝ }
 {
     let e = put_node(
         b,
         p,
-        attribute_starts,
-        value_starts,
-        name_starts,
+        attribute_segments,
+        value_segments,
+        name_segments,
         level,
         x,
         out,
@@ -69,10 +78,10 @@ pub fn write_node(
     write_range(
         b,
         p,
-        attribute_starts,
-        node_starts,
-        value_starts,
-        name_starts,
+        attribute_segments,
+        node_segments,
+        value_segments,
+        name_segments,
         a,
         x,
         level + 1,
@@ -86,10 +95,10 @@ pub fn write_node(
 fn write_range(
     b: &[u8],
     p: Places,
-    attribute_starts: &[u32; 1024],
-    node_starts: &[u32; 1024],
-    value_starts: &[u32; 1024],
-    name_starts: &[u32; 1024],
+    attribute_segments: &[u32; 1024],
+    node_segments: &[u32; 1024],
+    value_segments: &[u32; 1024],
+    name_segments: &[u32; 1024],
     a: usize,
     x: usize,
     level: usize,
@@ -97,12 +106,12 @@ fn write_range(
     out: &mut [u8],
     at: usize,
 ) -> usize
-    requires { ⌜ OutlineReady (now b) p (now «attribute_starts») (now «node_starts») (now «value_starts») (now «name_starts») ⌝ }
+    requires { ⌜ OutlineReady (now b) p (now «attribute_segments») (now «node_segments») (now «value_segments») (now «name_segments») ⌝ }
     requires { ⌜ Used (now b) a × (x ≡ nodeOf (now b) a) × (level + left ≤ 63) ⌝ }
     ensures { λ r. ⌜ Put (now (out .entry)) at (ranged (shown (now (b .entry)) (block (now (b .entry)) left level))
         (treeOf (now (b .entry)) .first a) (treeOf (now (b .entry)) .count a)) r (now (out .exit)) ⌝ }
 {
-    let k = ranges::children_of(b, p.nodes, node_starts, x);
+    let k = ranges::children_of(b, p.nodes, node_segments, x);
     let mut e = at;
     let mut j = 0;
     while j < k.count {
@@ -111,10 +120,10 @@ fn write_range(
             e = write_node(
                 b,
                 p,
-                attribute_starts,
-                node_starts,
-                value_starts,
-                name_starts,
+                attribute_segments,
+                node_segments,
+                value_segments,
+                name_segments,
                 k.first + j,
                 c,
                 level,

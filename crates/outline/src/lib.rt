@@ -22,13 +22,13 @@ pub struct Outlined {
 pub fn write_outline(
     b: &[u8],
     p: Places,
-    attribute_starts: &[u32; 1024],
-    node_starts: &[u32; 1024],
-    value_starts: &[u32; 1024],
-    name_starts: &[u32; 1024],
+    attribute_segments: &[u32; 1024],
+    node_segments: &[u32; 1024],
+    value_segments: &[u32; 1024],
+    name_segments: &[u32; 1024],
     out: &mut [u8],
 ) -> Outlined
-    requires { ⌜ OutlineReady (now b) p (now «attribute_starts») (now «node_starts») (now «value_starts») (now «name_starts») ⌝ }
+    requires { ⌜ OutlineReady (now b) p (now «attribute_segments») (now «node_segments») (now «value_segments») (now «name_segments») ⌝ }
     ensures answer { λ r. ⌜ OutlineWritten (now (b .entry)) (length (now (out .entry))) r ⌝ }
     ensures buffer { λ r. ⌜ now (out .exit) ≡ outlineAfter (now (b .entry)) (now (out .entry)) (r .answer) ⌝ }
 {
@@ -38,10 +38,10 @@ pub fn write_outline(
     let n = blocks::write_node(
         b,
         p,
-        attribute_starts,
-        node_starts,
-        value_starts,
-        name_starts,
+        attribute_segments,
+        node_segments,
+        value_segments,
+        name_segments,
         0,
         root,
         0,
@@ -58,10 +58,10 @@ pub fn write_outline(
     let m = blocks::write_node(
         b,
         p,
-        attribute_starts,
-        node_starts,
-        value_starts,
-        name_starts,
+        attribute_segments,
+        node_segments,
+        value_segments,
+        name_segments,
         0,
         root,
         0,

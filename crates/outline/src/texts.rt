@@ -35,16 +35,16 @@ fn put_chars(b: &[u8], q: usize, n: usize, out: &mut [u8], at: usize) -> usize
 pub fn put_text(
     b: &[u8],
     chars: Region,
-    samples: &[u32; 1024],
+    segments: &[u32; 1024],
     seg: usize,
     el: usize,
     out: &mut [u8],
     at: usize,
 ) -> usize
-    requires { ⌜ TextHeld (now b) chars (now samples) seg el ⌝ }
+    requires { ⌜ TextHeld (now b) chars (now segments) seg el ⌝ }
     ensures { λ r. ⌜ Put (now (out .entry)) at (escaped (textAt (now (b .entry)) (chars .at) seg el)) r (now (out .exit)) ⌝ }
 {
-    let Spot::At(q, n) = spot::spot_at(b, chars, samples, seg, el) else {
+    let Spot::At(q, n) = spot::spot_at(b, chars, segments, seg, el) else {
         return at;
     };
     put_chars(b, q, n, out, at)
@@ -54,19 +54,19 @@ pub fn put_text(
 pub fn put_name(
     b: &[u8],
     p: Places,
-    samples: &[u32; 1024],
+    segments: &[u32; 1024],
     i: usize,
     out: &mut [u8],
     at: usize,
 ) -> usize
-    requires { ⌜ FileRules (now b) × PlacesFit (now b) p × NameStarts (now b) p (now samples) × (1 ≤ i) × (i ≤ nameCount (now b)) ⌝ }
+    requires { ⌜ FileRules (now b) × PlacesFit (now b) p × NameStarts (now b) p (now segments) × (1 ≤ i) × (i ≤ nameCount (now b)) ⌝ }
     ensures { λ r. ⌜ Put (now (out .entry)) at (escaped (nameText (now (b .entry)) i)) r (now (out .exit)) ⌝ }
 {
     let x = p.name_list + 4 * i;
     put_text(
         b,
         p.name_chars,
-        samples,
+        segments,
         le::u16_at(b, x),
         le::u16_at(b, x + 2),
         out,

@@ -27,12 +27,12 @@ fn put_truth(t: bool, out: &mut [u8], at: usize) -> usize
 fn put_value(
     b: &[u8],
     p: Places,
-    samples: &[u32; 1024],
+    segments: &[u32; 1024],
     q: usize,
     out: &mut [u8],
     at: usize,
 ) -> usize
-    requires { ⌜ FileRules (now b) × PlacesFit (now b) p × ValueStarts (now b) p (now samples) × AttributeReady (now b) q ⌝ }
+    requires { ⌜ FileRules (now b) × PlacesFit (now b) p × ValueStarts (now b) p (now segments) × AttributeReady (now b) q ⌝ }
     ensures { λ r. ⌜ Put (now (out .entry)) at (valueText (now (b .entry)) (valueOf (now (b .entry)) q)) r (now (out .exit)) ⌝ }
 {
     let v = value::value_at(b, q);
@@ -48,7 +48,7 @@ fn put_value(
         }
         Value::Text(seg, el) => {
             let e = print::put_bytes(out, at, b"s:");
-            texts::put_text(b, p.value_chars, samples, seg, el, out, e)
+            texts::put_text(b, p.value_chars, segments, seg, el, out, e)
         }
     }
 }
@@ -57,34 +57,34 @@ fn put_value(
 fn put_attribute(
     b: &[u8],
     p: Places,
-    value_starts: &[u32; 1024],
-    name_starts: &[u32; 1024],
+    value_segments: &[u32; 1024],
+    name_segments: &[u32; 1024],
     q: usize,
     out: &mut [u8],
     at: usize,
 ) -> usize
-    requires { ⌜ FileRules (now b) × PlacesFit (now b) p × ValueStarts (now b) p (now «value_starts») × NameStarts (now b) p (now «name_starts»)
+    requires { ⌜ FileRules (now b) × PlacesFit (now b) p × ValueStarts (now b) p (now «value_segments») × NameStarts (now b) p (now «name_segments»)
         × AttributeReady (now b) q ⌝ }
     ensures { λ r. ⌜ Put (now (out .entry)) at (attributeText (now (b .entry)) q) r (now (out .exit)) ⌝ }
 {
     let c = print::put(out, at, b' ');
-    let d = texts::put_name(b, p, name_starts, le::u16_at(b, q), out, c);
+    let d = texts::put_name(b, p, name_segments, le::u16_at(b, q), out, c);
     let e = print::put(out, d, b'=');
-    put_value(b, p, value_starts, q, out, e)
+    put_value(b, p, value_segments, q, out, e)
 }
 
 // The attributes of the live node at x.
 pub fn put_attributes(
     b: &[u8],
     p: Places,
-    attribute_starts: &[u32; 1024],
-    value_starts: &[u32; 1024],
-    name_starts: &[u32; 1024],
+    attribute_segments: &[u32; 1024],
+    value_segments: &[u32; 1024],
+    name_segments: &[u32; 1024],
     x: usize,
     out: &mut [u8],
     at: usize,
 ) -> usize
-    requires { ⌜ LineReady (now b) p (now «attribute_starts») (now «value_starts») (now «name_starts») × NodeReady (now b) x ⌝ }
+    requires { ⌜ LineReady (now b) p (now «attribute_segments») (now «value_segments») (now «name_segments») × NodeReady (now b) x ⌝ }
     ensures { λ r. ⌜ Put (now (out .entry)) at (ranged (λ i. attributeText (now (b .entry)) (attributeAt (now (b .entry)) x i)) 0 (attributeCount (now (b .entry)) x)) r (now (out .exit)) ⌝ }
 {
     let n = le::u16_at(b, x + 4);
@@ -93,13 +93,13 @@ pub fn put_attributes(
     }
     let seg = le::u16_at(b, x + 8);
     let el = le::u16_at(b, x + 10);
-    let Place::At(q) = region::range_at(b, p.attributes, 12, attribute_starts, seg, el, n) else {
+    let Place::At(q) = region::range_at(b, p.attributes, 12, attribute_segments, seg, el, n) else {
         return at;
     };
     let mut e = at;
     let mut i = 0;
     while i < n {
-        e = put_attribute(b, p, value_starts, name_starts, q + i * 12, out, e);
+        e = put_attribute(b, p, value_segments, name_segments, q + i * 12, out, e);
         i += 1;
     }
     e

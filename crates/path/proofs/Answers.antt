@@ -80,6 +80,6 @@ module _ (b path : List ℕ) (r : FileRules b) (w : Wanted) (h : WantedIs b path
       0 (r .nodes .root))
 
 -- where the root stands
-pub root-place : {b : List ℕ} {nodes : Region} {starts : List ℕ} → TreeReady b nodes starts → nodes .at + 12 ≡ nodeOf b 0
+pub root-place : {b : List ℕ} {nodes : Region} {segments : List ℕ} → TreeReady b nodes segments → nodes .at + 12 ≡ nodeOf b 0
 unfolding nodeOf nodeAt placeOf startOf
 root-place g = omega (arith, g .nodes .at-is)

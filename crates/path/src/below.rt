@@ -14,7 +14,7 @@ use tree::ranges;
 pub fn list_below(
     b: &[u8],
     nodes: Region,
-    starts: &[u32; 1024],
+    segments: &[u32; 1024],
     wanted: &[u32; 64],
     n: usize,
     at: usize,
@@ -23,7 +23,7 @@ pub fn list_below(
     list: &mut [u8],
     k: usize,
 ) -> usize
-    requires { ⌜ TreeReady (now b) nodes (now starts) × Used (now b) a × (p ≡ nodeOf (now b) a) ⌝ }
+    requires { ⌜ TreeReady (now b) nodes (now segments) × Used (now b) a × (p ≡ nodeOf (now b) a) ⌝ }
     requires { ⌜ (length (now wanted) ≡ 64) × (at ≤ n) × (n ≤ 63)
         × (k + length (matchesAt (treeOf (now b)) (indicesFrom (now wanted) n at) a) ≤ 4294967296) ⌝ }
     ensures { λ r. ⌜ Wrote (now (list .entry)) k (matchesAt (treeOf (now (b .entry))) (indicesFrom (now (wanted .entry)) n at) a) r
@@ -36,13 +36,24 @@ pub fn list_below(
         return k + 1;
     }
     let name = le::wide(wanted[at]);
-    let c = ranges::children_of(b, nodes, starts, p);
+    let c = ranges::children_of(b, nodes, segments, p);
     let mut m = k;
     let mut j = 0;
     while j < c.count {
         let x = c.place + j * 24;
         if le::u16_at(b, x) == name {
-            m = list_below(b, nodes, starts, wanted, n, at + 1, c.first + j, x, list, m);
+            m = list_below(
+                b,
+                nodes,
+                segments,
+                wanted,
+                n,
+                at + 1,
+                c.first + j,
+                x,
+                list,
+                m,
+            );
         }
         j += 1;
     }

@@ -26,15 +26,15 @@ pub fn list_path(
     b: &[u8],
     t: &[u32; 2048],
     s: Strings,
-    samples: &[u32; 1024],
-    buckets: &[u32],
+    name_segments: &[u32; 1024],
+    name_buckets: &[u32],
     nodes: Region,
-    starts: &[u32; 1024],
+    node_segments: &[u32; 1024],
     path: &[u8],
     list: &mut [u8],
 ) -> Listing
-    requires { ⌜ Tables (now t) × Held (now b) s (now samples) (now buckets) × (heldTable (now b) s (now buckets) ≡ names (now b))
-        × TreeReady (now b) nodes (now starts) × FileRules (now b) ⌝ }
+    requires { ⌜ Tables (now t) × Held (now b) s (now «name_segments») (now «name_buckets») × (heldTable (now b) s (now «name_buckets») ≡ names (now b))
+        × TreeReady (now b) nodes (now «node_segments») × FileRules (now b) ⌝ }
     ensures answer { λ r. ⌜ PathListed (now (b .entry)) (now (path .entry)) (length (now (list .entry))) r ⌝ }
     ensures listing { λ r. ⌜ now (list .exit) ≡ listingAfter (now (b .entry)) (now (path .entry)) (now (list .entry)) (r .answer) ⌝ }
 {
@@ -45,7 +45,7 @@ pub fn list_path(
             matches: 0,
         };
     }
-    let w = names::find_names(b, t, s, samples, buckets, path);
+    let w = names::find_names(b, t, s, name_segments, name_buckets, path);
     if !w.known {
         return Listing {
             answer: Verdict::Accepted,
@@ -56,14 +56,25 @@ pub fn list_path(
     let indices = w.indices;
     let root = nodes.at + 12;
     let mut none = [0u8; 0];
-    let k = below::list_below(b, nodes, starts, &indices, n, 0, 0, root, &mut none, 0);
+    let k = below::list_below(
+        b,
+        nodes,
+        node_segments,
+        &indices,
+        n,
+        0,
+        0,
+        root,
+        &mut none,
+        0,
+    );
     if list.len() / 4 < k {
         return Listing {
             answer: Verdict::Refused(25, k),
             matches: 0,
         };
     }
-    let m = below::list_below(b, nodes, starts, &indices, n, 0, 0, root, list, 0);
+    let m = below::list_below(b, nodes, node_segments, &indices, n, 0, 0, root, list, 0);
     Listing {
         answer: Verdict::Accepted,
         matches: m,

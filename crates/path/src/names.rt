@@ -55,11 +55,11 @@ pub(crate) fn find_names(
     b: &[u8],
     t: &[u32; 2048],
     s: Strings,
-    samples: &[u32; 1024],
-    starts: &[u32],
+    segments: &[u32; 1024],
+    buckets: &[u32],
     path: &[u8],
 ) -> Wanted
-    requires { ⌜ Tables (now t) × Held (now b) s (now samples) (now starts) × (heldTable (now b) s (now starts) ≡ names (now b))
+    requires { ⌜ Tables (now t) × Held (now b) s (now segments) (now buckets) × (heldTable (now b) s (now buckets) ≡ names (now b))
         × (firstFault (stringChecks (names (now b))) ≡ Accepted) × (firstFault (pathChecks (now path)) ≡ Accepted) ⌝ }
     ensures { λ r. ⌜ WantedIs (now (b .entry)) (now (path .entry)) r ⌝ }
 {
@@ -73,7 +73,17 @@ pub(crate) fn find_names(
             break;
         }
         let e = name_end(path, at);
-        match lookup::find_text(b, t, s, samples, starts, Kind::Name, path, at, (e - at) / 2) {
+        match lookup::find_text(
+            b,
+            t,
+            s,
+            segments,
+            buckets,
+            Kind::Name,
+            path,
+            at,
+            (e - at) / 2,
+        ) {
             Lookup::Found(i) => {
                 indices[n] = i as u32;
             }

@@ -49,10 +49,10 @@ module _ (t : Table) where
   list-place = places (t .buckets)
 
 -- by the start of the first bucket, as it is read
-pub list-held : (b : List ℕ) (s : Strings) (samples starts : List ℕ) → Held b s samples starts → (x : ℕ) → x ≡ getD starts 0 0
-    → s .list ≡ x + 4 * length starts + 16 * allEntries (heldTable b s starts)
-list-held b s samples starts h x e =
-    omega (arith, h .list, h .buckets .at 0 (h .some-bucket), list-place (heldTable b s starts))
+pub list-held : (b : List ℕ) (s : Strings) (segments buckets : List ℕ) → Held b s segments buckets → (x : ℕ) → x ≡ getD buckets 0 0
+    → s .list ≡ x + 4 * length buckets + 16 * allEntries (heldTable b s buckets)
+list-held b s segments buckets h x e =
+    omega (arith, h .list, h .bucket-starts .at 0 (h .some-bucket), list-place (heldTable b s buckets))
 
-pub few-entries : (b : List ℕ) (s : Strings) (samples starts : List ℕ) → Held b s samples starts → allEntries (heldTable b s starts) < 2 ^ 32
-few-entries b s samples starts h = omega (arith, h .small, h .laid .list, list-place (heldTable b s starts))
+pub few-entries : (b : List ℕ) (s : Strings) (segments buckets : List ℕ) → Held b s segments buckets → allEntries (heldTable b s buckets) < 2 ^ 32
+few-entries b s segments buckets h = omega (arith, h .small, h .laid .list, list-place (heldTable b s buckets))

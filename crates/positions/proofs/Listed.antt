@@ -20,25 +20,25 @@ use Rattle.strings.proofs.Spots.{Spotted, spot-out, spot-text}
 abbrev pub ListedIn : Table → ℕ → Type 0
 ListedIn t i = Resolves 2 (t .bytes) (t .at) (listedSegment t i) (listedElement t i)
 
-module _ (b : List ℕ) (s : Strings) (samples starts : List ℕ) (h : Held b s samples starts) (i : ℕ) where
+module _ (b : List ℕ) (s : Strings) (segments buckets : List ℕ) (h : Held b s segments buckets) (i : ℕ) where
   -- its place, which lies in the file
-  pub listed-is : s .list + 4 * i ≡ positionAt (heldTable b s starts) i
+  pub listed-is : s .list + 4 * i ≡ positionAt (heldTable b s buckets) i
   unfolding positionAt
   listed-is = ap (λ (a : ℕ). a + 4 * i) (h .list)
 
-  pub listed-in : i < count (heldTable b s starts) → s .list + 4 * i + 4 ≤ length b
-  listed-in l = omega (arith, listed-is, position-fits (heldTable b s starts) (h .laid) i l)
+  pub listed-in : i < count (heldTable b s buckets) → s .list + 4 * i + 4 ≤ length b
+  listed-in l = omega (arith, listed-is, position-fits (heldTable b s buckets) (h .laid) i l)
 
   -- the spot that is found by its address
   module _ {r : Spot} (f : r ≡ spotAt b (s .chars .at) (u16At b (s .list + 4 * i)) (u16At b (s .list + 4 * i + 2))) where
-    found : spotAt b (s .chars .at) (listedSegment (heldTable b s starts) i) (listedElement (heldTable b s starts) i) ≡ r
+    found : spotAt b (s .chars .at) (listedSegment (heldTable b s buckets) i) (listedElement (heldTable b s buckets) i) ≡ r
     found =
-        let x = listed-segment-at b s samples starts h i _ refl in
-        let y = listed-element-at b s samples starts h i _ refl in cc
+        let x = listed-segment-at b s segments buckets h i _ refl in
+        let y = listed-element-at b s segments buckets h i _ refl in cc
 
-    pub unspotted : r ≡ Nowhere → ListedIn (heldTable b s starts) i → ⊥
+    pub unspotted : r ≡ Nowhere → ListedIn (heldTable b s buckets) i → ⊥
     unspotted g = spot-out _ _ _ _ (found ∙ g)
 
     pub spotted : {p n : ℕ} → r ≡ At p n
-        → Spotted (heldTable b s starts) (listedSegment (heldTable b s starts) i) (listedElement (heldTable b s starts) i) p n
-    spotted g = spot-text (heldTable b s starts) _ _ (h .laid .characters) (found ∙ g)
+        → Spotted (heldTable b s buckets) (listedSegment (heldTable b s buckets) i) (listedElement (heldTable b s buckets) i) p n
+    spotted g = spot-text (heldTable b s buckets) _ _ (h .laid .characters) (found ∙ g)

@@ -26,33 +26,33 @@ fn carried(
     b: &[u8],
     t: &[u32; 2048],
     s: Strings,
-    samples: &[u32; 1024],
-    starts: &[u32],
+    segments: &[u32; 1024],
+    buckets: &[u32],
     i: usize,
 ) -> bool
-    requires { ⌜ Tables (now t) × Held (now b) s (now samples) (now starts)
-        × (firstFault (allEntryChecks (heldTable (now b) s (now starts))) ≡ Accepted)
-        × (1 ≤ i) × (i < count (heldTable (now b) s (now starts))) ⌝ }
-    ensures { λ r. ⌜ Tells (Carried (heldTable (now (b .entry)) s (now (starts .entry))) i) r ⌝ }
+    requires { ⌜ Tables (now t) × Held (now b) s (now segments) (now buckets)
+        × (firstFault (allEntryChecks (heldTable (now b) s (now buckets))) ≡ Accepted)
+        × (1 ≤ i) × (i < count (heldTable (now b) s (now buckets))) ⌝ }
+    ensures { λ r. ⌜ Tells (Carried (heldTable (now (b .entry)) s (now (buckets .entry))) i) r ⌝ }
 {
-    let a = spot::spot_to(b, s.chars, samples, s.list + 4 * i);
+    let a = spot::spot_to(b, s.chars, segments, s.list + 4 * i);
     let Spot::At(q, n) = a else {
         return false;
     };
     let m = text::measure(b, t, q, n);
     let h = m.hash;
-    let k = hash::bucket(h, starts.len());
-    let low = search::lower(b, s, samples, starts, k, h);
-    run::run_has(b, s, samples, starts, k, h, low, 8, i)
+    let k = hash::bucket(h, buckets.len());
+    let low = search::lower(b, s, segments, buckets, k, h);
+    run::run_has(b, s, segments, buckets, k, h, low, 8, i)
 }
 
 // The number of entries of all buckets, by the bytes that they take: from the first bucket's start up to the address
 // count there are 4 a bucket and 16 an entry.
-fn entry_total(b: &[u8], s: Strings, samples: &[u32; 1024], starts: &[u32]) -> usize
-    requires { ⌜ Held (now b) s (now samples) (now starts) ⌝ }
-    ensures { λ r. ⌜ (r ≡ allEntries (heldTable (now (b .entry)) s (now (starts .entry)))) × (r < 2 ^ 32) ⌝ }
+fn entry_total(b: &[u8], s: Strings, segments: &[u32; 1024], buckets: &[u32]) -> usize
+    requires { ⌜ Held (now b) s (now segments) (now buckets) ⌝ }
+    ensures { λ r. ⌜ (r ≡ allEntries (heldTable (now (b .entry)) s (now (buckets .entry)))) × (r < 2 ^ 32) ⌝ }
 {
-    (s.list - le::wide(starts[0]) - 4 * starts.len()) / 16
+    (s.list - le::wide(buckets[0]) - 4 * buckets.len()) / 16
 }
 
 // Refusal 13 of every list position, where the entries passed 7 to 12.
@@ -60,22 +60,22 @@ fn check_positions(
     b: &[u8],
     t: &[u32; 2048],
     s: Strings,
-    samples: &[u32; 1024],
-    starts: &[u32],
+    segments: &[u32; 1024],
+    buckets: &[u32],
 ) -> Verdict
-    requires { ⌜ Tables (now t) × Held (now b) s (now samples) (now starts)
-        × (firstFault (allEntryChecks (heldTable (now b) s (now starts))) ≡ Accepted) ⌝ }
-    ensures { λ r. ⌜ r ≡ firstFault (allPositionChecks (heldTable (now (b .entry)) s (now (starts .entry)))) ⌝ }
+    requires { ⌜ Tables (now t) × Held (now b) s (now segments) (now buckets)
+        × (firstFault (allEntryChecks (heldTable (now b) s (now buckets))) ≡ Accepted) ⌝ }
+    ensures { λ r. ⌜ r ≡ firstFault (allPositionChecks (heldTable (now (b .entry)) s (now (buckets .entry)))) ⌝ }
 {
     let n = le::u32_at(b, s.list);
     // No two entries carry one index: they would bear one text, and 12 refuses that. So where there are as many entries
     // as list positions, each position is carried, and none has to be looked for.
-    if entry_total(b, s, samples, starts) + 1 == n {
+    if entry_total(b, s, segments, buckets) + 1 == n {
         return Verdict::Accepted;
     }
     let mut i = 1;
     while i < n {
-        if !carried(b, t, s, samples, starts, i) {
+        if !carried(b, t, s, segments, buckets, i) {
             return Verdict::Refused(13, s.list + 4 * i);
         }
         i += 1;
@@ -94,14 +94,14 @@ pub fn check_table(
     b: &[u8],
     t: &[u32; 2048],
     s: Strings,
-    samples: &[u32; 1024],
-    starts: &[u32],
+    segments: &[u32; 1024],
+    buckets: &[u32],
 ) -> CheckedTable
-    requires { ⌜ Tables (now t) × Held (now b) s (now samples) (now starts) ⌝ }
-    ensures answer { λ r. ⌜ r .answer ≡ firstFault (stringChecks (heldTable (now (b .entry)) s (now (starts .entry)))) ⌝ }
-    ensures packed { λ r. ⌜ Sure (Packed (heldTable (now (b .entry)) s (now (starts .entry)))) (r .packed) ⌝ }
+    requires { ⌜ Tables (now t) × Held (now b) s (now segments) (now buckets) ⌝ }
+    ensures answer { λ r. ⌜ r .answer ≡ firstFault (stringChecks (heldTable (now (b .entry)) s (now (buckets .entry)))) ⌝ }
+    ensures packed { λ r. ⌜ Sure (Packed (heldTable (now (b .entry)) s (now (buckets .entry)))) (r .packed) ⌝ }
 {
-    let c = table::check_entries(b, t, s, samples, starts);
+    let c = table::check_entries(b, t, s, segments, buckets);
     let found = c.answer;
     if let Verdict::Refused(num, place) = found {
         return CheckedTable {
@@ -110,7 +110,7 @@ pub fn check_table(
         };
     }
     CheckedTable {
-        answer: check_positions(b, t, s, samples, starts),
-        packed: packing::is_packed(b, s, samples, starts, c.begun),
+        answer: check_positions(b, t, s, segments, buckets),
+        packed: packing::is_packed(b, s, segments, buckets, c.begun),
     }
 }

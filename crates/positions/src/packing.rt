@@ -42,13 +42,13 @@ fn count_begun(b: &[u8], chars: Region) -> usize
 }
 
 // Whether texts begin nowhere but at entries' addresses, when those are all places where texts can: there are as many entries as such places.
-pub fn is_packed(b: &[u8], s: Strings, samples: &[u32; 1024], starts: &[u32], begun: bool) -> bool
-    requires { ⌜ Held (now b) s (now samples) (now starts)
-        × (firstFault (allEntryChecks (heldTable (now b) s (now starts))) ≡ Accepted) × Sure (AllBegun (heldTable (now b) s (now starts))) begun ⌝ }
-    ensures { λ r. ⌜ Sure (Packed (heldTable (now (b .entry)) s (now (starts .entry)))) r ⌝ }
+pub fn is_packed(b: &[u8], s: Strings, segments: &[u32; 1024], buckets: &[u32], begun: bool) -> bool
+    requires { ⌜ Held (now b) s (now segments) (now buckets)
+        × (firstFault (allEntryChecks (heldTable (now b) s (now buckets))) ≡ Accepted) × Sure (AllBegun (heldTable (now b) s (now buckets))) begun ⌝ }
+    ensures { λ r. ⌜ Sure (Packed (heldTable (now (b .entry)) s (now (buckets .entry)))) r ⌝ }
 {
     if !begun {
         return false;
     }
-    count_begun(b, s.chars) == crate::entry_total(b, s, samples, starts)
+    count_begun(b, s.chars) == crate::entry_total(b, s, segments, buckets)
 }

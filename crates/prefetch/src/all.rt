@@ -32,19 +32,19 @@ fn doubt(
     b: &[u8],
     t: &[u32; 2048],
     s: Strings,
-    samples: &[u32; 1024],
-    starts: &[u32],
+    segments: &[u32; 1024],
+    buckets: &[u32],
     q: usize,
     doubts: &mut [u32; 4096],
     memo: &mut [u32; 3072],
 )
-    requires { ⌜ Tables (now t) × Held (now b) s (now samples) (now starts) × (heldTable (now b) s (now starts) ≡ values (now b))
+    requires { ⌜ Tables (now t) × Held (now b) s (now segments) (now buckets) × (heldTable (now b) s (now buckets) ≡ values (now b))
         × (firstFault (stringChecks (values (now b))) ≡ Accepted) × (q + 12 ≤ length (now b)) × (length (now doubts) ≡ 4096)
         × Remembers (noted (now b)) (now memo) ⌝ }
     ensures doubts { λ _. ⌜ Trusted (now (b .entry)) (now (doubts .exit)) q × Kept (now (doubts .entry)) (now (doubts .exit)) ⌝ }
     ensures memo { λ _. ⌜ Remembers (noted (now (b .entry))) (now (memo .exit)) ⌝ }
 {
-    if attribute::text_right(b, t, s, samples, starts, q, memo) {
+    if attribute::text_right(b, t, s, segments, buckets, q, memo) {
         return;
     }
     doubts[q / 4 % 4096] = 1;
@@ -55,14 +55,14 @@ fn doubt_wrong(
     b: &[u8],
     t: &[u32; 2048],
     s: Strings,
-    samples: &[u32; 1024],
-    starts: &[u32],
+    segments: &[u32; 1024],
+    buckets: &[u32],
     slots: &[u32; 64],
     n: usize,
     doubts: &mut [u32; 4096],
     memo: &mut [u32; 3072],
 )
-    requires { ⌜ Tables (now t) × Held (now b) s (now samples) (now starts) × (heldTable (now b) s (now starts) ≡ values (now b))
+    requires { ⌜ Tables (now t) × Held (now b) s (now segments) (now buckets) × (heldTable (now b) s (now buckets) ≡ values (now b))
         × (firstFault (stringChecks (values (now b))) ≡ Accepted) × (length (now slots) ≡ 64) × SlotsIn (now b) (now slots) n × (n ≤ 64)
         × (length (now doubts) ≡ 4096) × Remembers (noted (now b)) (now memo) ⌝ }
     ensures doubts { λ _. ⌜ Examined (now (b .entry)) (now (slots .entry)) n (now (doubts .entry)) (now (doubts .exit)) ⌝ }
@@ -70,7 +70,7 @@ fn doubt_wrong(
 {
     let mut j = 0;
     while j < n {
-        doubt(b, t, s, samples, starts, le::wide(slots[j]), doubts, memo);
+        doubt(b, t, s, segments, buckets, le::wide(slots[j]), doubts, memo);
         j += 1;
     }
 }
@@ -81,8 +81,8 @@ fn examine_batch(
     b: &[u8],
     t: &[u32; 2048],
     s: Strings,
-    samples: &[u32; 1024],
-    starts: &[u32],
+    segments: &[u32; 1024],
+    buckets: &[u32],
     packed: bool,
     slots: &[u32; 64],
     n: usize,
@@ -90,7 +90,7 @@ fn examine_batch(
     doubts: &mut [u32; 4096],
     memo: &mut [u32; 3072],
 ) -> bool
-    requires { ⌜ Tables (now t) × Held (now b) s (now samples) (now starts) × (heldTable (now b) s (now starts) ≡ values (now b))
+    requires { ⌜ Tables (now t) × Held (now b) s (now segments) (now buckets) × (heldTable (now b) s (now buckets) ≡ values (now b))
         × (firstFault (stringChecks (values (now b))) ≡ Accepted) × (length (now slots) ≡ 64) × SlotsIn (now b) (now slots) n × (n ≤ 64)
         × Sure (Packed (values (now b))) packed × Remembers (noted (now b)) (now memo) ⌝ }
     requires { ⌜ (length (now doubts) ≡ 4096) × Sure (NoDoubt (now doubts)) known ⌝ }
@@ -98,10 +98,10 @@ fn examine_batch(
     ensures doubts { λ _. ⌜ Examined (now (b .entry)) (now (slots .entry)) n (now (doubts .entry)) (now (doubts .exit)) ⌝ }
     ensures memo { λ _. ⌜ Remembers (noted (now (b .entry))) (now (memo .exit)) ⌝ }
 {
-    if steps::batch_right(b, t, s, samples, starts, slots, n, packed, memo) {
+    if steps::batch_right(b, t, s, segments, buckets, slots, n, packed, memo) {
         return known;
     }
-    doubt_wrong(b, t, s, samples, starts, slots, n, doubts, memo);
+    doubt_wrong(b, t, s, segments, buckets, slots, n, doubts, memo);
     false
 }
 
@@ -112,13 +112,13 @@ fn find_doubts(
     t: &[u32; 2048],
     attributes: Region,
     s: Strings,
-    samples: &[u32; 1024],
-    starts: &[u32],
+    segments: &[u32; 1024],
+    buckets: &[u32],
     packed: bool,
     doubts: &mut [u32; 4096],
     memo: &mut [u32; 3072],
 ) -> bool
-    requires { ⌜ Tables (now t) × Held (now b) s (now samples) (now starts) × (heldTable (now b) s (now starts) ≡ values (now b))
+    requires { ⌜ Tables (now t) × Held (now b) s (now segments) (now buckets) × (heldTable (now b) s (now buckets) ≡ values (now b))
         × (firstFault (stringChecks (values (now b))) ≡ Accepted) × Sure (Packed (values (now b))) packed
         × Mapped attributeSize (now b) (attributesAt (now b)) attributes × Remembers (noted (now b)) (now memo) ⌝ }
     requires { ⌜ (length (now doubts) ≡ 4096) × NoDoubt (now doubts) ⌝ }
@@ -139,8 +139,8 @@ fn find_doubts(
                 b,
                 t,
                 s,
-                samples,
-                starts,
+                segments,
+                buckets,
                 packed,
                 &slots,
                 taken.count,
@@ -162,13 +162,13 @@ pub fn check_nodes(
     t: &[u32; 2048],
     p: Places,
     names: Names,
-    attribute_starts: &[u32; 1024],
-    node_starts: &[u32; 1024],
-    value_starts: &[u32; 1024],
+    attribute_segments: &[u32; 1024],
+    node_segments: &[u32; 1024],
+    value_segments: &[u32; 1024],
     value_buckets: &[u32],
     packed: bool,
 ) -> Verdict
-    requires { ⌜ Tables (now t) × Ready (now b) p names (now «attribute_starts») (now «node_starts») (now «value_starts») (now «value_buckets»)
+    requires { ⌜ Tables (now t) × Ready (now b) p names (now «attribute_segments») (now «node_segments») (now «value_segments») (now «value_buckets»)
         × Sure (Packed (values (now b))) packed ⌝ }
     ensures { λ r. ⌜ r ≡ firstFault (allNodeChecks (now (b .entry))) ⌝ }
 {
@@ -184,7 +184,7 @@ pub fn check_nodes(
         t,
         p.attributes,
         s,
-        value_starts,
+        value_segments,
         value_buckets,
         packed,
         &mut doubts,
@@ -195,9 +195,9 @@ pub fn check_nodes(
         t,
         p,
         names,
-        attribute_starts,
-        node_starts,
-        value_starts,
+        attribute_segments,
+        node_segments,
+        value_segments,
         value_buckets,
         known,
         &doubts,

@@ -38,13 +38,13 @@ use strings::spot::Spot;
 fn find_spots(
     b: &[u8],
     chars: Region,
-    samples: &[u32; 1024],
+    segments: &[u32; 1024],
     slots: &[u32; 64],
     n: usize,
     at: &mut [u32; 64],
     left: &mut [u32; 64],
 ) -> bool
-    requires { ⌜ Mapped 2 (now b) (chars .at) chars × Starts 2 (now b) (chars .at) (chars .shift) (now samples) × (length (now b) < 2 ^ 32)
+    requires { ⌜ Mapped 2 (now b) (chars .at) chars × Starts 2 (now b) (chars .at) (chars .shift) (now segments) × (length (now b) < 2 ^ 32)
         × (length (now slots) ≡ 64) × SlotsIn (now b) (now slots) n × (n ≤ 64) × (length (now at) ≡ 64) × (length (now left) ≡ 64) ⌝ }
     ensures answer { λ r. ⌜ Sure (AllSpots (now (b .entry)) (chars .at) (now (slots .entry)) n (now (at .exit)) (now (left .exit))
         × AllFit (now (b .entry)) n (now (at .exit)) (now (left .exit))) r ⌝ }
@@ -52,7 +52,7 @@ fn find_spots(
 {
     let mut j = 0;
     while j < n {
-        let a = spot::spot_to(b, chars, samples, le::wide(slots[j]) + 4);
+        let a = spot::spot_to(b, chars, segments, le::wide(slots[j]) + 4);
         let Spot::At(x, m) = a else {
             return false;
         };
@@ -178,43 +178,43 @@ fn hash_texts(
 fn found(
     b: &[u8],
     s: Strings,
-    samples: &[u32; 1024],
-    starts: &[u32],
+    segments: &[u32; 1024],
+    buckets: &[u32],
     q: usize,
     h: usize,
     low: usize,
 ) -> bool
-    requires { ⌜ Held (now b) s (now samples) (now starts) × (firstFault (allEntryChecks (heldTable (now b) s (now starts))) ≡ Accepted)
-        × Lower (heldTable (now b) s (now starts)) (bucketOf (length (now starts)) h) h low × (q + 12 ≤ length (now b)) ⌝ }
-    ensures { λ r. ⌜ Sure (EntryAddress (heldTable (now (b .entry)) s (now (starts .entry))) (textSegment (now (b .entry)) q) (textElement (now (b .entry)) q)) r ⌝ }
+    requires { ⌜ Held (now b) s (now segments) (now buckets) × (firstFault (allEntryChecks (heldTable (now b) s (now buckets))) ≡ Accepted)
+        × Lower (heldTable (now b) s (now buckets)) (bucketOf (length (now buckets)) h) h low × (q + 12 ≤ length (now b)) ⌝ }
+    ensures { λ r. ⌜ Sure (EntryAddress (heldTable (now (b .entry)) s (now (buckets .entry))) (textSegment (now (b .entry)) q) (textElement (now (b .entry)) q)) r ⌝ }
 {
-    let k = hash::bucket(h, starts.len());
-    run::run_has(b, s, samples, starts, k, h, low, 12, le::u32_at(b, q + 4))
+    let k = hash::bucket(h, buckets.len());
+    run::run_has(b, s, segments, buckets, k, h, low, 12, le::u32_at(b, q + 4))
 }
 
 // Whether each is.
 fn find_entries(
     b: &[u8],
     s: Strings,
-    samples: &[u32; 1024],
-    starts: &[u32],
+    segments: &[u32; 1024],
+    buckets: &[u32],
     slots: &[u32; 64],
     n: usize,
     hashes: &[u32; 64],
     low: &[usize; 64],
 ) -> bool
-    requires { ⌜ Held (now b) s (now samples) (now starts) × (firstFault (allEntryChecks (heldTable (now b) s (now starts))) ≡ Accepted)
+    requires { ⌜ Held (now b) s (now segments) (now buckets) × (firstFault (allEntryChecks (heldTable (now b) s (now buckets))) ≡ Accepted)
         × SlotsIn (now b) (now slots) n × (n ≤ 64) × (length (now slots) ≡ 64) × (length (now hashes) ≡ 64)
-        × AllLow (heldTable (now b) s (now starts)) (now hashes) n (now low) ⌝ }
-    ensures { λ r. ⌜ Sure (AllFound (now (b .entry)) (heldTable (now (b .entry)) s (now (starts .entry))) (now (slots .entry)) n) r ⌝ }
+        × AllLow (heldTable (now b) s (now buckets)) (now hashes) n (now low) ⌝ }
+    ensures { λ r. ⌜ Sure (AllFound (now (b .entry)) (heldTable (now (b .entry)) s (now (buckets .entry))) (now (slots .entry)) n) r ⌝ }
 {
     let mut j = 0;
     while j < n {
         if !found(
             b,
             s,
-            samples,
-            starts,
+            segments,
+            buckets,
             le::wide(slots[j]),
             le::wide(hashes[j]),
             low[j],
@@ -232,14 +232,14 @@ pub fn batch_right(
     b: &[u8],
     t: &[u32; 2048],
     s: Strings,
-    samples: &[u32; 1024],
-    starts: &[u32],
+    segments: &[u32; 1024],
+    buckets: &[u32],
     slots: &[u32; 64],
     n: usize,
     packed: bool,
     memo: &mut [u32; 3072],
 ) -> bool
-    requires { ⌜ Tables (now t) × Held (now b) s (now samples) (now starts) × (heldTable (now b) s (now starts) ≡ values (now b))
+    requires { ⌜ Tables (now t) × Held (now b) s (now segments) (now buckets) × (heldTable (now b) s (now buckets) ≡ values (now b))
         × (firstFault (stringChecks (values (now b))) ≡ Accepted) × (length (now slots) ≡ 64) × SlotsIn (now b) (now slots) n × (n ≤ 64)
         × Sure (Packed (values (now b))) packed × Remembers (noted (now b)) (now memo) ⌝ }
     ensures answer { λ r. ⌜ Sure (AllRight (now (b .entry)) (now (slots .entry)) n) r ⌝ }
@@ -247,7 +247,7 @@ pub fn batch_right(
 {
     let mut at = [0u32; 64];
     let mut left = [0u32; 64];
-    if !find_spots(b, s.chars, samples, slots, n, &mut at, &mut left) {
+    if !find_spots(b, s.chars, segments, slots, n, &mut at, &mut left) {
         return false;
     }
     let mut seen = [0u32; 64];
@@ -261,6 +261,6 @@ pub fn batch_right(
     let mut hashes = [0u32; 64];
     hash_texts(b, t, n, &at, &left, &mut hashes, memo);
     let mut low = [0usize; 64];
-    group::settle(b, s, samples, starts, &hashes, n, &mut low);
-    find_entries(b, s, samples, starts, slots, n, &hashes, &low)
+    group::settle(b, s, segments, buckets, &hashes, n, &mut low);
+    find_entries(b, s, segments, buckets, slots, n, &hashes, &low)
 }

@@ -109,16 +109,16 @@ pub fn mapped(b: &[u8], at: usize, size: usize) -> Region
 }
 
 // Fills the samples of segment starts.
-pub fn sample_starts(b: &[u8], r: Region, size: usize, starts: &mut [u32; 1024])
-    requires { ⌜ Mapped size (now b) (r .at) r × (length (now starts) ≡ 1024) ⌝ }
-    ensures { λ _. ⌜ Starts size (now (b .entry)) (r .at) (r .shift) (now (starts .exit)) ⌝ }
+pub fn sample_starts(b: &[u8], r: Region, size: usize, segments: &mut [u32; 1024])
+    requires { ⌜ Mapped size (now b) (r .at) r × (length (now segments) ≡ 1024) ⌝ }
+    ensures { λ _. ⌜ Starts size (now (b .entry)) (r .at) (r .shift) (now (segments .exit)) ⌝ }
 {
     let mask = r.mask;
     let mut p = r.at + 4;
     let mut s = 0;
     while s < r.count {
         if s & mask == 0 {
-            starts[s >> r.shift] = p as u32;
+            segments[s >> r.shift] = p as u32;
         }
         p = next_start(b, p, size);
         s += 1;
@@ -146,12 +146,12 @@ pub fn sample_counts(b: &[u8], r: Region, size: usize, counts: &mut [u32; 1024])
 }
 
 // Where segment seg starts: from the sample before it, at most mask headers on.
-pub fn locate(b: &[u8], r: Region, size: usize, starts: &[u32; 1024], seg: usize) -> usize
-    requires { ⌜ Mapped size (now b) (r .at) r × Starts size (now b) (r .at) (r .shift) (now starts) × (seg < r .count) ⌝ }
+pub fn locate(b: &[u8], r: Region, size: usize, segments: &[u32; 1024], seg: usize) -> usize
+    requires { ⌜ Mapped size (now b) (r .at) r × Starts size (now b) (r .at) (r .shift) (now segments) × (seg < r .count) ⌝ }
     ensures { λ p. ⌜ p ≡ startOf size (now (b .entry)) (r .at) seg ⌝ }
 {
     let mut left = seg & r.mask;
-    let mut p = le::wide(starts[seg >> r.shift]);
+    let mut p = le::wide(segments[seg >> r.shift]);
     while left > 0 {
         p = next_start(b, p, size);
         left -= 1;
@@ -164,19 +164,19 @@ pub fn range_at(
     b: &[u8],
     r: Region,
     size: usize,
-    starts: &[u32; 1024],
+    segments: &[u32; 1024],
     seg: usize,
     el: usize,
     n: usize,
 ) -> Place
-    requires { ⌜ Mapped size (now b) (r .at) r × Starts size (now b) (r .at) (r .shift) (now starts) ⌝ }
+    requires { ⌜ Mapped size (now b) (r .at) r × Starts size (now b) (r .at) (r .shift) (now segments) ⌝ }
     requires { ⌜ (el < 65536) × (n < 65536) ⌝ }
     ensures { λ p. ⌜ p ≡ rangeAt size (now (b .entry)) (r .at) seg el n ⌝ }
 {
     if seg >= r.count {
         return Place::Nowhere;
     }
-    let p = locate(b, r, size, starts, seg);
+    let p = locate(b, r, size, segments, seg);
     if el + n > le::u32_at(b, p + 4) {
         return Place::Nowhere;
     }
@@ -188,18 +188,18 @@ pub fn number(
     b: &[u8],
     r: Region,
     size: usize,
-    starts: &[u32; 1024],
+    segments: &[u32; 1024],
     counts: &[u32; 1024],
     seg: usize,
     el: usize,
 ) -> usize
-    requires { ⌜ Mapped size (now b) (r .at) r × Starts size (now b) (r .at) (r .shift) (now starts) × Counts size (now b) (r .at) (r .shift) (now counts) ⌝ }
+    requires { ⌜ Mapped size (now b) (r .at) r × Starts size (now b) (r .at) (r .shift) (now segments) × Counts size (now b) (r .at) (r .shift) (now counts) ⌝ }
     requires { ⌜ (seg < r .count) × (el < 65536) ⌝ }
     ensures { λ n. ⌜ n ≡ numberOf size (now (b .entry)) (r .at) seg el ⌝ }
 {
     let k = seg >> r.shift;
     let mut left = seg & r.mask;
-    let mut p = le::wide(starts[k]);
+    let mut p = le::wide(segments[k]);
     let mut n = le::wide(counts[k]);
     while left > 0 {
         n += le::u32_at(b, p + 4);

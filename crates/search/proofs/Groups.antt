@@ -17,12 +17,12 @@ use Rattle.search.specs.inner.Group.{AllLow, Within, Aimed}
 -- ---- where the buckets stand
 
 -- the first bucket stands before the address count, by what is read as its start
-pub buckets-held : (b : List ℕ) (s : Strings) (samples starts : List ℕ) → Held b s samples starts → {x : ℕ} → x ≡ getD starts 0 0
-    → (x ≡ bucketAt (heldTable b s starts) 0) × (x ≤ s .list)
+pub buckets-held : (b : List ℕ) (s : Strings) (segments buckets : List ℕ) → Held b s segments buckets → {x : ℕ} → x ≡ getD buckets 0 0
+    → (x ≡ bucketAt (heldTable b s buckets) 0) × (x ≤ s .list)
 unfolding listAt
-buckets-held b s samples starts h {x} e =
-    let z : x ≡ bucketAt (heldTable b s starts) 0 = e ∙ h .buckets .at 0 (h .some-bucket) in
-    (z, omega (arith, z, h .list, bucket-order (heldTable b s starts) 0 (length starts) (h .some-bucket)))
+buckets-held b s segments buckets h {x} e =
+    let z : x ≡ bucketAt (heldTable b s buckets) 0 = e ∙ h .bucket-starts .at 0 (h .some-bucket) in
+    (z, omega (arith, z, h .list, bucket-order (heldTable b s buckets) 0 (length buckets) (h .some-bucket)))
 
 -- ---- offsets to look at
 

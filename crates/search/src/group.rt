@@ -24,11 +24,11 @@ struct Target {
 }
 
 // Whether the buckets of a table take that many bytes: where they do, most looks at what they lead to would wait for memory.
-pub fn spread(b: &[u8], s: Strings, samples: &[u32; 1024], starts: &[u32], bytes: usize) -> bool
-    requires { ⌜ Held (now b) s (now samples) (now starts) ⌝ }
-    ensures { λ r. ⌜ Tells (bucketAt (heldTable (now (b .entry)) s (now (starts .entry))) 0 + bytes ≤ s .list) r ⌝ }
+pub fn spread(b: &[u8], s: Strings, segments: &[u32; 1024], buckets: &[u32], bytes: usize) -> bool
+    requires { ⌜ Held (now b) s (now segments) (now buckets) ⌝ }
+    ensures { λ r. ⌜ Tells (bucketAt (heldTable (now (b .entry)) s (now (buckets .entry))) 0 + bytes ≤ s .list) r ⌝ }
 {
-    if s.list - le::wide(starts[0]) < bytes {
+    if s.list - le::wide(buckets[0]) < bytes {
         return false;
     }
     true
@@ -38,25 +38,25 @@ pub fn spread(b: &[u8], s: Strings, samples: &[u32; 1024], starts: &[u32], bytes
 fn aim_at(
     b: &[u8],
     s: Strings,
-    samples: &[u32; 1024],
-    starts: &[u32],
+    segments: &[u32; 1024],
+    buckets: &[u32],
     h: usize,
     g: usize,
     w: usize,
 ) -> Target
-    requires { ⌜ Held (now b) s (now samples) (now starts) × (h < 2 ^ 32) × (g < 2 ^ 32) × (w < 2 ^ 32) ⌝ }
+    requires { ⌜ Held (now b) s (now segments) (now buckets) × (h < 2 ^ 32) × (g < 2 ^ 32) × (w < 2 ^ 32) ⌝ }
     ensures { λ r. ⌜ r .at + 4 ≤ length (now (b .entry)) ⌝ }
 {
-    let k = hash::bucket(h, starts.len());
-    let n = entry::entry_count(b, s, samples, starts, k);
+    let k = hash::bucket(h, buckets.len());
+    let n = entry::entry_count(b, s, segments, buckets, k);
     if n == 0 {
         return Target {
             guess: 0,
-            at: starts[k],
+            at: buckets[k],
         };
     }
     let r = crate::expected(n, h, g, w);
-    let e = entry::entry_at(b, s, samples, starts, k, r);
+    let e = entry::entry_at(b, s, segments, buckets, k, r);
     Target {
         guess: r as u32,
         at: e as u32,
@@ -67,15 +67,15 @@ fn aim_at(
 fn aim(
     b: &[u8],
     s: Strings,
-    samples: &[u32; 1024],
-    starts: &[u32],
+    segments: &[u32; 1024],
+    buckets: &[u32],
     hashes: &[u32; 64],
     n: usize,
     met: &[u32; 64],
     guess: &mut [u32; 64],
     at: &mut [u32; 64],
 )
-    requires { ⌜ Held (now b) s (now samples) (now starts) × (n ≤ 64) × (length (now hashes) ≡ 64) × (length (now met) ≡ 64)
+    requires { ⌜ Held (now b) s (now segments) (now buckets) × (n ≤ 64) × (length (now hashes) ≡ 64) × (length (now met) ≡ 64)
         × (length (now guess) ≡ 64) × (length (now at) ≡ 64) ⌝ }
     ensures { λ _. ⌜ Aimed (now (b .entry)) n (now (guess .exit)) (now (at .exit)) ⌝ }
 {
@@ -84,8 +84,8 @@ fn aim(
         let a = aim_at(
             b,
             s,
-            samples,
-            starts,
+            segments,
+            buckets,
             le::wide(hashes[j]),
             le::wide(guess[j]),
             le::wide(met[j]),
@@ -113,24 +113,24 @@ fn look(b: &[u8], n: usize, at: &[u32; 64], met: &mut [u32; 64])
 fn come_near(
     b: &[u8],
     s: Strings,
-    samples: &[u32; 1024],
-    starts: &[u32],
+    segments: &[u32; 1024],
+    buckets: &[u32],
     hashes: &[u32; 64],
     n: usize,
     guess: &mut [u32; 64],
     met: &mut [u32; 64],
 )
-    requires { ⌜ Held (now b) s (now samples) (now starts) × (n ≤ 64) × (length (now hashes) ≡ 64) × (length (now guess) ≡ 64)
+    requires { ⌜ Held (now b) s (now segments) (now buckets) × (n ≤ 64) × (length (now hashes) ≡ 64) × (length (now guess) ≡ 64)
         × (length (now met) ≡ 64) ⌝ }
     ensures { λ _. ⌜ (length (now (guess .exit)) ≡ 64) × (length (now (met .exit)) ≡ 64) ⌝ }
 {
     let mut at = [0u32; 64];
-    aim(b, s, samples, starts, hashes, n, met, guess, &mut at);
+    aim(b, s, segments, buckets, hashes, n, met, guess, &mut at);
     look(b, n, &at, met);
-    if !spread(b, s, samples, starts, 1048576) {
+    if !spread(b, s, segments, buckets, 1048576) {
         return;
     }
-    aim(b, s, samples, starts, hashes, n, met, guess, &mut at);
+    aim(b, s, segments, buckets, hashes, n, met, guess, &mut at);
     look(b, n, &at, met);
 }
 
@@ -145,28 +145,28 @@ struct Eight {
 fn span_at(
     b: &[u8],
     s: Strings,
-    samples: &[u32; 1024],
-    starts: &[u32],
+    segments: &[u32; 1024],
+    buckets: &[u32],
     h: usize,
     g: usize,
     w: usize,
 ) -> Eight
-    requires { ⌜ Held (now b) s (now samples) (now starts) × (h < 2 ^ 32) × (g < 2 ^ 32) × (w < 2 ^ 32) ⌝ }
+    requires { ⌜ Held (now b) s (now segments) (now buckets) × (h < 2 ^ 32) × (g < 2 ^ 32) × (w < 2 ^ 32) ⌝ }
     ensures { λ r. ⌜ (r .first + 4 ≤ length (now (b .entry))) × (r .last + 4 ≤ length (now (b .entry))) ⌝ }
 {
-    let k = hash::bucket(h, starts.len());
-    let n = entry::entry_count(b, s, samples, starts, k);
+    let k = hash::bucket(h, buckets.len());
+    let n = entry::entry_count(b, s, segments, buckets, k);
     if n < 8 {
         return Eight {
             start: 0,
-            first: starts[k],
-            last: starts[k],
+            first: buckets[k],
+            last: buckets[k],
         };
     }
     let r = crate::expected(n, h, g, w);
     let f = near::window(if r < 4 { 0 } else { r - 4 }, n);
-    let e = entry::entry_at(b, s, samples, starts, k, f);
-    let l = entry::entry_at(b, s, samples, starts, k, f + 7);
+    let e = entry::entry_at(b, s, segments, buckets, k, f);
+    let l = entry::entry_at(b, s, segments, buckets, k, f + 7);
     Eight {
         start: f as u32,
         first: e as u32,
@@ -178,8 +178,8 @@ fn span_at(
 fn find_spans(
     b: &[u8],
     s: Strings,
-    samples: &[u32; 1024],
-    starts: &[u32],
+    segments: &[u32; 1024],
+    buckets: &[u32],
     hashes: &[u32; 64],
     n: usize,
     met: &[u32; 64],
@@ -187,7 +187,7 @@ fn find_spans(
     first: &mut [u32; 64],
     last: &mut [u32; 64],
 )
-    requires { ⌜ Held (now b) s (now samples) (now starts) × (n ≤ 64) × (length (now hashes) ≡ 64) × (length (now met) ≡ 64)
+    requires { ⌜ Held (now b) s (now segments) (now buckets) × (n ≤ 64) × (length (now hashes) ≡ 64) × (length (now met) ≡ 64)
         × Lengths (now guess) (now first) (now last) ⌝ }
     ensures { λ _. ⌜ Aimed (now (b .entry)) n (now (guess .exit)) (now (first .exit)) × Within (now (b .entry)) n (now (last .exit)) ⌝ }
 {
@@ -196,8 +196,8 @@ fn find_spans(
         let a = span_at(
             b,
             s,
-            samples,
-            starts,
+            segments,
+            buckets,
             le::wide(hashes[j]),
             le::wide(guess[j]),
             le::wide(met[j]),
@@ -214,29 +214,29 @@ fn find_spans(
 fn approach(
     b: &[u8],
     s: Strings,
-    samples: &[u32; 1024],
-    starts: &[u32],
+    segments: &[u32; 1024],
+    buckets: &[u32],
     hashes: &[u32; 64],
     n: usize,
     guess: &mut [u32; 64],
     least: &mut [u32; 64],
     most: &mut [u32; 64],
 )
-    requires { ⌜ Held (now b) s (now samples) (now starts) × (n ≤ 64) × (length (now hashes) ≡ 64)
+    requires { ⌜ Held (now b) s (now segments) (now buckets) × (n ≤ 64) × (length (now hashes) ≡ 64)
         × Lengths (now guess) (now least) (now most) ⌝ }
     ensures { λ _. ⌜ Lengths (now (guess .exit)) (now (least .exit)) (now (most .exit)) ⌝ }
 {
-    if !spread(b, s, samples, starts, 65536) {
+    if !spread(b, s, segments, buckets, 65536) {
         return;
     }
-    come_near(b, s, samples, starts, hashes, n, guess, least);
+    come_near(b, s, segments, buckets, hashes, n, guess, least);
     let mut first = [0u32; 64];
     let mut last = [0u32; 64];
     find_spans(
         b,
         s,
-        samples,
-        starts,
+        segments,
+        buckets,
         hashes,
         n,
         least,
@@ -266,35 +266,35 @@ fn moved(h: usize, g: usize, least: usize, most: usize) -> usize
 fn low_from(
     b: &[u8],
     s: Strings,
-    samples: &[u32; 1024],
-    starts: &[u32],
+    segments: &[u32; 1024],
+    buckets: &[u32],
     h: usize,
     g: usize,
     least: usize,
     most: usize,
 ) -> usize
-    requires { ⌜ Held (now b) s (now samples) (now starts) × (firstFault (allEntryChecks (heldTable (now b) s (now starts))) ≡ Accepted)
+    requires { ⌜ Held (now b) s (now segments) (now buckets) × (firstFault (allEntryChecks (heldTable (now b) s (now buckets))) ≡ Accepted)
         × (g < 2 ^ 32) ⌝ }
-    ensures { λ r. ⌜ Lower (heldTable (now (b .entry)) s (now (starts .entry))) (bucketOf (length (now (starts .entry))) h) h r ⌝ }
+    ensures { λ r. ⌜ Lower (heldTable (now (b .entry)) s (now (buckets .entry))) (bucketOf (length (now (buckets .entry))) h) h r ⌝ }
 {
-    let k = hash::bucket(h, starts.len());
+    let k = hash::bucket(h, buckets.len());
     let r = moved(h, g, least, most);
-    near::lower_near(b, s, samples, starts, k, h, r)
+    near::lower_near(b, s, segments, buckets, k, h, r)
 }
 
 // The places of the first n hashes, each in its bucket.
 pub fn settle(
     b: &[u8],
     s: Strings,
-    samples: &[u32; 1024],
-    starts: &[u32],
+    segments: &[u32; 1024],
+    buckets: &[u32],
     hashes: &[u32; 64],
     n: usize,
     low: &mut [usize; 64],
 )
-    requires { ⌜ Held (now b) s (now samples) (now starts) × (firstFault (allEntryChecks (heldTable (now b) s (now starts))) ≡ Accepted)
+    requires { ⌜ Held (now b) s (now segments) (now buckets) × (firstFault (allEntryChecks (heldTable (now b) s (now buckets))) ≡ Accepted)
         × (n ≤ 64) × (length (now hashes) ≡ 64) × (length (now low) ≡ 64) ⌝ }
-    ensures { λ _. ⌜ AllLow (heldTable (now (b .entry)) s (now (starts .entry))) (now (hashes .entry)) n (now (low .exit)) ⌝ }
+    ensures { λ _. ⌜ AllLow (heldTable (now (b .entry)) s (now (buckets .entry))) (now (hashes .entry)) n (now (low .exit)) ⌝ }
 {
     let mut guess = [0u32; 64];
     let mut least = [0u32; 64];
@@ -302,8 +302,8 @@ pub fn settle(
     approach(
         b,
         s,
-        samples,
-        starts,
+        segments,
+        buckets,
         hashes,
         n,
         &mut guess,
@@ -315,8 +315,8 @@ pub fn settle(
         low[j] = low_from(
             b,
             s,
-            samples,
-            starts,
+            segments,
+            buckets,
             le::wide(hashes[j]),
             le::wide(guess[j]),
             le::wide(least[j]),

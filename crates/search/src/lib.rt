@@ -35,20 +35,20 @@ fn expected(n: usize, h: usize, g: usize, w: usize) -> usize
 fn guess(
     b: &[u8],
     s: Strings,
-    samples: &[u32; 1024],
-    starts: &[u32],
+    segments: &[u32; 1024],
+    buckets: &[u32],
     k: usize,
     n: usize,
     h: usize,
 ) -> usize
-    requires { ⌜ Held (now b) s (now samples) (now starts) × (k < length (now starts))
-        × (n ≡ entries (heldTable (now b) s (now starts)) k) ⌝ }
+    requires { ⌜ Held (now b) s (now segments) (now buckets) × (k < length (now buckets))
+        × (n ≡ entries (heldTable (now b) s (now buckets)) k) ⌝ }
 {
     if n == 0 {
         return 0;
     }
     let j = expected(n, h % 4294967296, 0, 0);
-    let e = entry::entry_at(b, s, samples, starts, k, j);
+    let e = entry::entry_at(b, s, segments, buckets, k, j);
     expected(n, h % 4294967296, j, le::u32_at(b, e))
 }
 // The entry to look at next: reach entries from the end that moved last, or the middle where that is not between the ends.
@@ -68,25 +68,25 @@ fn probe(lo: usize, hi: usize, up: bool, reach: usize) -> usize
 pub fn lower(
     b: &[u8],
     s: Strings,
-    samples: &[u32; 1024],
-    starts: &[u32],
+    segments: &[u32; 1024],
+    buckets: &[u32],
     k: usize,
     h: usize,
 ) -> usize
-    requires { ⌜ Held (now b) s (now samples) (now starts) × (k < length (now starts))
-        × (firstFault (allEntryChecks (heldTable (now b) s (now starts))) ≡ Accepted) ⌝ }
-    ensures { λ r. ⌜ Lower (heldTable (now (b .entry)) s (now (starts .entry))) k h r ⌝ }
+    requires { ⌜ Held (now b) s (now segments) (now buckets) × (k < length (now buckets))
+        × (firstFault (allEntryChecks (heldTable (now b) s (now buckets))) ≡ Accepted) ⌝ }
+    ensures { λ r. ⌜ Lower (heldTable (now (b .entry)) s (now (buckets .entry))) k h r ⌝ }
 {
     let mut lo = 0;
-    let mut hi = entry::entry_count(b, s, samples, starts, k);
+    let mut hi = entry::entry_count(b, s, segments, buckets, k);
     let mut up = true;
-    let mut reach = guess(b, s, samples, starts, k, hi, h);
+    let mut reach = guess(b, s, segments, buckets, k, hi, h);
     let mut step = 0;
     while lo < hi {
         let mid = probe(lo, hi, up, reach);
         reach = step;
         step = (2 * step + 1) % 4294967296;
-        let e = entry::entry_at(b, s, samples, starts, k, mid);
+        let e = entry::entry_at(b, s, segments, buckets, k, mid);
         if le::u32_at(b, e) < h {
             lo = mid + 1;
             up = true;

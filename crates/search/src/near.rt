@@ -17,21 +17,21 @@ use strings::entry;
 fn below(
     b: &[u8],
     s: Strings,
-    samples: &[u32; 1024],
-    starts: &[u32],
+    segments: &[u32; 1024],
+    buckets: &[u32],
     k: usize,
     h: usize,
     w: usize,
 ) -> usize
-    requires { ⌜ Held (now b) s (now samples) (now starts) × (k < length (now starts))
-        × (firstFault (allEntryChecks (heldTable (now b) s (now starts))) ≡ Accepted)
-        × (w + 8 ≤ entries (heldTable (now b) s (now starts)) k) ⌝ }
-    ensures { λ r. ⌜ Below (heldTable (now (b .entry)) s (now (starts .entry))) k h w 8 r ⌝ }
+    requires { ⌜ Held (now b) s (now segments) (now buckets) × (k < length (now buckets))
+        × (firstFault (allEntryChecks (heldTable (now b) s (now buckets))) ≡ Accepted)
+        × (w + 8 ≤ entries (heldTable (now b) s (now buckets)) k) ⌝ }
+    ensures { λ r. ⌜ Below (heldTable (now (b .entry)) s (now (buckets .entry))) k h w 8 r ⌝ }
 {
     let mut c = 0usize;
     let mut i = 0;
     while i < 8 {
-        let e = entry::entry_at(b, s, samples, starts, k, w + i);
+        let e = entry::entry_at(b, s, segments, buckets, k, w + i);
         if le::u32_at(b, e) < h {
             c += 1;
         }
@@ -53,21 +53,21 @@ fn at_most(i: usize, n: usize) -> usize
 fn lower_few(
     b: &[u8],
     s: Strings,
-    samples: &[u32; 1024],
-    starts: &[u32],
+    segments: &[u32; 1024],
+    buckets: &[u32],
     k: usize,
     h: usize,
     n: usize,
 ) -> usize
-    requires { ⌜ Held (now b) s (now samples) (now starts) × (k < length (now starts))
-        × (firstFault (allEntryChecks (heldTable (now b) s (now starts))) ≡ Accepted)
-        × (n ≡ entries (heldTable (now b) s (now starts)) k) × (1 ≤ n) × (n ≤ 8) ⌝ }
-    ensures { λ r. ⌜ Lower (heldTable (now (b .entry)) s (now (starts .entry))) k h r ⌝ }
+    requires { ⌜ Held (now b) s (now segments) (now buckets) × (k < length (now buckets))
+        × (firstFault (allEntryChecks (heldTable (now b) s (now buckets))) ≡ Accepted)
+        × (n ≡ entries (heldTable (now b) s (now buckets)) k) × (1 ≤ n) × (n ≤ 8) ⌝ }
+    ensures { λ r. ⌜ Lower (heldTable (now (b .entry)) s (now (buckets .entry))) k h r ⌝ }
 {
     let mut c = 0usize;
     let mut i = 0;
     while i < 8 {
-        let e = entry::entry_at(b, s, samples, starts, k, at_most(i, n));
+        let e = entry::entry_at(b, s, segments, buckets, k, at_most(i, n));
         if le::u32_at(b, e) < h {
             c += 1;
         }
@@ -103,27 +103,27 @@ fn settled(w: usize, c: usize, n: usize) -> bool
 pub fn lower_near(
     b: &[u8],
     s: Strings,
-    samples: &[u32; 1024],
-    starts: &[u32],
+    segments: &[u32; 1024],
+    buckets: &[u32],
     k: usize,
     h: usize,
     g: usize,
 ) -> usize
-    requires { ⌜ Held (now b) s (now samples) (now starts) × (k < length (now starts))
-        × (firstFault (allEntryChecks (heldTable (now b) s (now starts))) ≡ Accepted) ⌝ }
-    ensures { λ r. ⌜ Lower (heldTable (now (b .entry)) s (now (starts .entry))) k h r ⌝ }
+    requires { ⌜ Held (now b) s (now segments) (now buckets) × (k < length (now buckets))
+        × (firstFault (allEntryChecks (heldTable (now b) s (now buckets))) ≡ Accepted) ⌝ }
+    ensures { λ r. ⌜ Lower (heldTable (now (b .entry)) s (now (buckets .entry))) k h r ⌝ }
 {
-    let n = entry::entry_count(b, s, samples, starts, k);
+    let n = entry::entry_count(b, s, segments, buckets, k);
     if n == 0 {
         return 0;
     }
     if n < 8 {
-        return lower_few(b, s, samples, starts, k, h, n);
+        return lower_few(b, s, segments, buckets, k, h, n);
     }
     let w = window(g, n);
-    let c = below(b, s, samples, starts, k, h, w);
+    let c = below(b, s, segments, buckets, k, h, w);
     if settled(w, c, n) {
         return w + c;
     }
-    crate::lower(b, s, samples, starts, k, h)
+    crate::lower(b, s, segments, buckets, k, h)
 }

@@ -16,23 +16,23 @@ use strings::entry;
 pub fn run_has(
     b: &[u8],
     s: Strings,
-    samples: &[u32; 1024],
-    starts: &[u32],
+    segments: &[u32; 1024],
+    buckets: &[u32],
     k: usize,
     h: usize,
     low: usize,
     field: usize,
     w: usize,
 ) -> bool
-    requires { ⌜ Held (now b) s (now samples) (now starts) × (k < length (now starts))
-        × (firstFault (allEntryChecks (heldTable (now b) s (now starts))) ≡ Accepted)
-        × Lower (heldTable (now b) s (now starts)) k h low × (field + 4 ≤ 16) ⌝ }
-    ensures { λ r. ⌜ Meets (heldTable (now (b .entry)) s (now (starts .entry))) k h field w r ⌝ }
+    requires { ⌜ Held (now b) s (now segments) (now buckets) × (k < length (now buckets))
+        × (firstFault (allEntryChecks (heldTable (now b) s (now buckets))) ≡ Accepted)
+        × Lower (heldTable (now b) s (now buckets)) k h low × (field + 4 ≤ 16) ⌝ }
+    ensures { λ r. ⌜ Meets (heldTable (now (b .entry)) s (now (buckets .entry))) k h field w r ⌝ }
 {
-    let n = entry::entry_count(b, s, samples, starts, k);
+    let n = entry::entry_count(b, s, segments, buckets, k);
     let mut j = low;
     while j < n {
-        let e = entry::entry_at(b, s, samples, starts, k, j);
+        let e = entry::entry_at(b, s, segments, buckets, k, j);
         if le::u32_at(b, e) != h {
             return false;
         }

@@ -11,56 +11,56 @@ use Rattle.strings.specs.inner.Held.{Held, heldTable, Here}
 use Rattle.strings.specs.declared.Strings.{Strings}
 
 -- an entry in the file, by its bucket's start
-pub record Inside (b starts : List ℕ) (k j : ℕ) : Type 0 where
-  pub bucket : k < length starts
-  pub entry : getD starts k 0 + 4 + 16 * j + 16 ≤ length b
+pub record Inside (b buckets : List ℕ) (k j : ℕ) : Type 0 where
+  pub bucket : k < length buckets
+  pub entry : getD buckets k 0 + 4 + 16 * j + 16 ≤ length b
   pub small : length b ≤ 1073741824
 
-module _ (b : List ℕ) (s : Strings) (samples starts : List ℕ) (h : Held b s samples starts) where
+module _ (b : List ℕ) (s : Strings) (segments buckets : List ℕ) (h : Held b s segments buckets) where
   -- an entry, by what is read as its bucket's start
-  pub entry-is : (k j x : ℕ) → k < length starts → x ≡ getD starts k 0 → x + 4 + 16 * j ≡ entryAt (heldTable b s starts) k j
+  pub entry-is : (k j x : ℕ) → k < length buckets → x ≡ getD buckets k 0 → x + 4 + 16 * j ≡ entryAt (heldTable b s buckets) k j
   unfolding entryAt
-  entry-is k j x l e = ap (λ (a : ℕ). a + 4 + 16 * j) (e ∙ h .buckets .at k l)
+  entry-is k j x l e = ap (λ (a : ℕ). a + 4 + 16 * j) (e ∙ h .bucket-starts .at k l)
 
-  pub inside : (k j : ℕ) → Here (heldTable b s starts) k j → Inside b starts k j
+  pub inside : (k j : ℕ) → Here (heldTable b s buckets) k j → Inside b buckets k j
   inside k j w = record {
     bucket = w .bucket;
-    entry = omega (arith, entry-is k j _ (w .bucket) refl, entry-fits (heldTable b s starts) (h .laid) k j (w .bucket) (w .entry));
+    entry = omega (arith, entry-is k j _ (w .bucket) refl, entry-fits (heldTable b s buckets) (h .laid) k j (w .bucket) (w .entry));
     small = h .small;
   }
 
   -- the entry count of a bucket
-  pub count-in : (k : ℕ) → k < length starts → getD starts k 0 + 4 ≤ length b
-  count-in k l = omega (arith, h .buckets .at k l, bucket-fits (heldTable b s starts) (h .laid) k l)
+  pub count-in : (k : ℕ) → k < length buckets → getD buckets k 0 + 4 ≤ length b
+  count-in k l = omega (arith, h .bucket-starts .at k l, bucket-fits (heldTable b s buckets) (h .laid) k l)
 
   -- by where it starts and ends
-  pub ends-at : (k x y : ℕ) → k < length starts → x ≡ getD starts k 0 → y ≡ bucketAt (heldTable b s starts) (k + 1)
-      → y ≡ x + 4 + 16 * entries (heldTable b s starts) k
-  ends-at k x y l e q = omega (arith, e, q, h .buckets .at k l, bucket-next (heldTable b s starts) k)
+  pub ends-at : (k x y : ℕ) → k < length buckets → x ≡ getD buckets k 0 → y ≡ bucketAt (heldTable b s buckets) (k + 1)
+      → y ≡ x + 4 + 16 * entries (heldTable b s buckets) k
+  ends-at k x y l e q = omega (arith, e, q, h .bucket-starts .at k l, bucket-next (heldTable b s buckets) k)
 
   -- the last bucket ends where the address count stands
-  pub last-end : (k : ℕ) → k < length starts → length starts ≤ k + 1 → s .list ≡ bucketAt (heldTable b s starts) (k + 1)
+  pub last-end : (k : ℕ) → k < length buckets → length buckets ≤ k + 1 → s .list ≡ bucketAt (heldTable b s buckets) (k + 1)
   unfolding listAt
-  last-end k l m = let e : length starts ≡ k + 1 = omega arith in h .list ∙ ap (bucketAt (heldTable b s starts)) e
+  last-end k l m = let e : length buckets ≡ k + 1 = omega arith in h .list ∙ ap (bucketAt (heldTable b s buckets)) e
 
-  pub few-entries : (k : ℕ) → k < length starts → entries (heldTable b s starts) k ≤ 1073741824
+  pub few-entries : (k : ℕ) → k < length buckets → entries (heldTable b s buckets) k ≤ 1073741824
   few-entries k l = omega (arith, h .laid .bucket k l, h .small)
 
   -- the address count, and a list position
-  pub list-is : (n : ℕ) → n ≡ u32At b (s .list) → n ≡ count (heldTable b s starts)
+  pub list-is : (n : ℕ) → n ≡ u32At b (s .list) → n ≡ count (heldTable b s buckets)
   unfolding count
   list-is n e = e ∙ ap (u32At b) (h .list)
 
   pub position-in : (n i : ℕ) → n ≡ u32At b (s .list) → i < n → s .list + 4 * i + 4 ≤ length b
   unfolding positionAt
   position-in n i e l =
-      omega (arith, h .list, list-is n e, position-fits (heldTable b s starts) (h .laid) i (omega (arith, list-is n e)))
+      omega (arith, h .list, list-is n e, position-fits (heldTable b s buckets) (h .laid) i (omega (arith, list-is n e)))
 
-  pub listed-segment-at : (i x : ℕ) → x ≡ u16At b (s .list + 4 * i) → x ≡ listedSegment (heldTable b s starts) i
+  pub listed-segment-at : (i x : ℕ) → x ≡ u16At b (s .list + 4 * i) → x ≡ listedSegment (heldTable b s buckets) i
   unfolding listedSegment positionAt
   listed-segment-at i x e = e ∙ ap (λ (a : ℕ). u16At b (a + 4 * i)) (h .list)
 
-  pub listed-element-at : (i x : ℕ) → x ≡ u16At b (s .list + 4 * i + 2) → x ≡ listedElement (heldTable b s starts) i
+  pub listed-element-at : (i x : ℕ) → x ≡ u16At b (s .list + 4 * i + 2) → x ≡ listedElement (heldTable b s buckets) i
   unfolding listedElement positionAt
   listed-element-at i x e = e ∙ ap (λ (a : ℕ). u16At b (a + 4 * i + 2)) (h .list)
 

@@ -65,16 +65,16 @@ fn touch_whole(b: &[u8], p: usize, n: usize, told: usize) -> usize
 fn stretch_at(
     b: &[u8],
     s: Strings,
-    samples: &[u32; 1024],
-    starts: &[u32],
+    segments: &[u32; 1024],
+    buckets: &[u32],
     k: usize,
     j: usize,
 ) -> Stretch
-    requires { ⌜ Held (now b) s (now samples) (now starts) × Here (heldTable (now b) s (now starts)) k j ⌝ }
-    ensures { λ r. ⌜ Standing (heldTable (now (b .entry)) s (now (starts .entry))) k j (r .at) (r .left) ⌝ }
+    requires { ⌜ Held (now b) s (now segments) (now buckets) × Here (heldTable (now b) s (now buckets)) k j ⌝ }
+    ensures { λ r. ⌜ Standing (heldTable (now (b .entry)) s (now (buckets .entry))) k j (r .at) (r .left) ⌝ }
 {
-    let e = entry::entry_at(b, s, samples, starts, k, j);
-    let a = spot::spot_to(b, s.chars, samples, e + 12);
+    let e = entry::entry_at(b, s, segments, buckets, k, j);
+    let a = spot::spot_to(b, s.chars, segments, e + 12);
     let Spot::At(p, n) = a else {
         return Stretch { at: 0, left: 0 };
     };
@@ -85,21 +85,21 @@ fn stretch_at(
 fn find_stretches(
     b: &[u8],
     s: Strings,
-    samples: &[u32; 1024],
-    starts: &[u32],
+    segments: &[u32; 1024],
+    buckets: &[u32],
     k: usize,
     j: usize,
     m: usize,
     at: &mut [usize; 64],
     left: &mut [usize; 64],
 )
-    requires { ⌜ Held (now b) s (now samples) (now starts) × (k < length (now starts))
-        × (j + m ≤ entries (heldTable (now b) s (now starts)) k) × (m ≤ 64) × (length (now at) ≡ 64) × (length (now left) ≡ 64) ⌝ }
-    ensures { λ _. ⌜ Stood (heldTable (now (b .entry)) s (now (starts .entry))) k j m (now (at .exit)) (now (left .exit)) ⌝ }
+    requires { ⌜ Held (now b) s (now segments) (now buckets) × (k < length (now buckets))
+        × (j + m ≤ entries (heldTable (now b) s (now buckets)) k) × (m ≤ 64) × (length (now at) ≡ 64) × (length (now left) ≡ 64) ⌝ }
+    ensures { λ _. ⌜ Stood (heldTable (now (b .entry)) s (now (buckets .entry))) k j m (now (at .exit)) (now (left .exit)) ⌝ }
 {
     let mut i = 0;
     while i < m {
-        let w = stretch_at(b, s, samples, starts, k, j + i);
+        let w = stretch_at(b, s, segments, buckets, k, j + i);
         at[i] = w.at;
         left[i] = w.left;
         i += 1;
@@ -111,8 +111,8 @@ fn find_stretches(
 fn load_ahead(
     b: &[u8],
     s: Strings,
-    samples: &[u32; 1024],
-    starts: &[u32],
+    segments: &[u32; 1024],
+    buckets: &[u32],
     k: usize,
     j: usize,
     m: usize,
@@ -120,14 +120,14 @@ fn load_ahead(
     left: &[usize; 64],
     seen: &mut [usize; 64],
 )
-    requires { ⌜ Held (now b) s (now samples) (now starts) × (k < length (now starts))
-        × (j + m ≤ entries (heldTable (now b) s (now starts)) k) × (m ≤ 64) × (length (now seen) ≡ 64)
-        × Stood (heldTable (now b) s (now starts)) k j m (now at) (now left) ⌝ }
+    requires { ⌜ Held (now b) s (now segments) (now buckets) × (k < length (now buckets))
+        × (j + m ≤ entries (heldTable (now b) s (now buckets)) k) × (m ≤ 64) × (length (now seen) ≡ 64)
+        × Stood (heldTable (now b) s (now buckets)) k j m (now at) (now left) ⌝ }
     ensures { λ _. ⌜ SeenBefore (now (b .entry)) m (now (at .entry)) (now (left .entry)) (now (seen .exit)) ⌝ }
 {
     let mut i = 0;
     while i < m {
-        let e = entry::entry_at(b, s, samples, starts, k, j + i);
+        let e = entry::entry_at(b, s, segments, buckets, k, j + i);
         seen[i] = touch_whole(b, at[i], left[i], le::u32_at(b, e + 4));
         i += 1;
     }
@@ -138,8 +138,8 @@ fn load_ahead(
 pub(crate) fn keep_ahead(
     b: &[u8],
     s: Strings,
-    samples: &[u32; 1024],
-    starts: &[u32],
+    segments: &[u32; 1024],
+    buckets: &[u32],
     k: usize,
     n: usize,
     j: usize,
@@ -147,15 +147,15 @@ pub(crate) fn keep_ahead(
     left: &mut [usize; 64],
     seen: &mut [usize; 64],
 )
-    requires { ⌜ Held (now b) s (now samples) (now starts) × (k < length (now starts))
-        × (n ≡ entries (heldTable (now b) s (now starts)) k) × (j ≤ n)
-        × Ahead (heldTable (now b) s (now starts)) k j (now at) (now left) (now seen) ⌝ }
-    ensures { λ _. ⌜ ReadAhead (heldTable (now (b .entry)) s (now (starts .entry))) k (j - j % 64) (now (at .exit)) (now (left .exit)) (now (seen .exit)) ⌝ }
+    requires { ⌜ Held (now b) s (now segments) (now buckets) × (k < length (now buckets))
+        × (n ≡ entries (heldTable (now b) s (now buckets)) k) × (j ≤ n)
+        × Ahead (heldTable (now b) s (now buckets)) k j (now at) (now left) (now seen) ⌝ }
+    ensures { λ _. ⌜ ReadAhead (heldTable (now (b .entry)) s (now (buckets .entry))) k (j - j % 64) (now (at .exit)) (now (left .exit)) (now (seen .exit)) ⌝ }
 {
     if j % 64 != 0 {
         return;
     }
     let m = least(n - j, 64);
-    find_stretches(b, s, samples, starts, k, j, m, at, left);
-    load_ahead(b, s, samples, starts, k, j, m, at, left, seen);
+    find_stretches(b, s, segments, buckets, k, j, m, at, left);
+    load_ahead(b, s, segments, buckets, k, j, m, at, left, seen);
 }

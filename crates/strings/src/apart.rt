@@ -30,16 +30,16 @@ pub struct Round {
 fn fingerprint_at(
     b: &[u8],
     s: Strings,
-    samples: &[u32; 1024],
-    starts: &[u32],
+    segments: &[u32; 1024],
+    buckets: &[u32],
     k: usize,
     j: usize,
 ) -> usize
-    requires { ⌜ Held (now b) s (now samples) (now starts) × Here (heldTable (now b) s (now starts)) k j ⌝ }
-    ensures { λ r. ⌜ Fingerprinted (heldTable (now (b .entry)) s (now (starts .entry))) k j r ⌝ }
+    requires { ⌜ Held (now b) s (now segments) (now buckets) × Here (heldTable (now b) s (now buckets)) k j ⌝ }
+    ensures { λ r. ⌜ Fingerprinted (heldTable (now (b .entry)) s (now (buckets .entry))) k j r ⌝ }
 {
-    let e = entry::entry_at(b, s, samples, starts, k, j);
-    let a = spot::spot_to(b, s.chars, samples, e + 12);
+    let e = entry::entry_at(b, s, segments, buckets, k, j);
+    let a = spot::spot_to(b, s.chars, segments, e + 12);
     let Spot::At(p, n) = a else {
         return 0;
     };
@@ -57,8 +57,8 @@ fn fingerprint_at(
 fn met(
     b: &[u8],
     s: Strings,
-    samples: &[u32; 1024],
-    starts: &[u32],
+    segments: &[u32; 1024],
+    buckets: &[u32],
     k: usize,
     from: usize,
     n: usize,
@@ -66,13 +66,13 @@ fn met(
     x: usize,
     map: &[u16; 20480],
 ) -> bool
-    requires { ⌜ Held (now b) s (now samples) (now starts) × Here (heldTable (now b) s (now starts)) k j × (from + n ≤ j)
-        × Fingerprinted (heldTable (now b) s (now starts)) k j x × Collected (heldTable (now b) s (now starts)) k from n (now map) ⌝ }
-    ensures { λ r. ⌜ Met (heldTable (now (b .entry)) s (now (starts .entry))) k from n j r ⌝ }
+    requires { ⌜ Held (now b) s (now segments) (now buckets) × Here (heldTable (now b) s (now buckets)) k j × (from + n ≤ j)
+        × Fingerprinted (heldTable (now b) s (now buckets)) k j x × Collected (heldTable (now b) s (now buckets)) k from n (now map) ⌝ }
+    ensures { λ r. ⌜ Met (heldTable (now (b .entry)) s (now (buckets .entry))) k from n j r ⌝ }
 {
     let mut c = multimap::last(map, n, x);
     while c > 0 {
-        if entry::same_text(b, s, samples, starts, k, from + (c - 1), j) {
+        if entry::same_text(b, s, segments, buckets, k, from + (c - 1), j) {
             return true;
         }
         c = multimap::before(map, n, c - 1, x);
@@ -84,22 +84,22 @@ fn met(
 fn collect(
     b: &[u8],
     s: Strings,
-    samples: &[u32; 1024],
-    starts: &[u32],
+    segments: &[u32; 1024],
+    buckets: &[u32],
     k: usize,
     from: usize,
     most: usize,
     map: &mut [u16; 20480],
 ) -> usize
-    requires { ⌜ Held (now b) s (now samples) (now starts) × (k < length (now starts))
-        × (from + most ≤ entries (heldTable (now b) s (now starts)) k) × (most ≤ 8192) × Filled 0 (now map) ⌝ }
-    ensures answer { λ r. ⌜ Sifted (heldTable (now (b .entry)) s (now (starts .entry))) k from r most ⌝ }
-    ensures map { λ r. ⌜ Collected (heldTable (now (b .entry)) s (now (starts .entry))) k from r (now (map .exit)) ⌝ }
+    requires { ⌜ Held (now b) s (now segments) (now buckets) × (k < length (now buckets))
+        × (from + most ≤ entries (heldTable (now b) s (now buckets)) k) × (most ≤ 8192) × Filled 0 (now map) ⌝ }
+    ensures answer { λ r. ⌜ Sifted (heldTable (now (b .entry)) s (now (buckets .entry))) k from r most ⌝ }
+    ensures map { λ r. ⌜ Collected (heldTable (now (b .entry)) s (now (buckets .entry))) k from r (now (map .exit)) ⌝ }
 {
     let mut n = 0;
     while n < most {
-        let x = fingerprint_at(b, s, samples, starts, k, from + n);
-        if met(b, s, samples, starts, k, from, n, from + n, x, map) {
+        let x = fingerprint_at(b, s, segments, buckets, k, from + n);
+        if met(b, s, segments, buckets, k, from, n, from + n, x, map) {
             return n;
         }
         multimap::insert(map, n, x);
@@ -112,23 +112,23 @@ fn collect(
 fn sift(
     b: &[u8],
     s: Strings,
-    samples: &[u32; 1024],
-    starts: &[u32],
+    segments: &[u32; 1024],
+    buckets: &[u32],
     k: usize,
     from: usize,
     n: usize,
     end: usize,
     map: &[u16; 20480],
 ) -> usize
-    requires { ⌜ Held (now b) s (now samples) (now starts) × (k < length (now starts)) × (from + n ≤ end)
-        × (end ≤ entries (heldTable (now b) s (now starts)) k) × Apart (heldTable (now b) s (now starts)) k from (from + n)
-        × Collected (heldTable (now b) s (now starts)) k from n (now map) ⌝ }
-    ensures { λ r. ⌜ Clear (heldTable (now (b .entry)) s (now (starts .entry))) k from n r × (r ≤ end) ⌝ }
+    requires { ⌜ Held (now b) s (now segments) (now buckets) × (k < length (now buckets)) × (from + n ≤ end)
+        × (end ≤ entries (heldTable (now b) s (now buckets)) k) × Apart (heldTable (now b) s (now buckets)) k from (from + n)
+        × Collected (heldTable (now b) s (now buckets)) k from n (now map) ⌝ }
+    ensures { λ r. ⌜ Clear (heldTable (now (b .entry)) s (now (buckets .entry))) k from n r × (r ≤ end) ⌝ }
 {
     let mut j = from + n;
     while j < end {
-        let x = fingerprint_at(b, s, samples, starts, k, j);
-        if met(b, s, samples, starts, k, from, n, j, x, map) {
+        let x = fingerprint_at(b, s, segments, buckets, k, j);
+        if met(b, s, segments, buckets, k, from, n, j, x, map) {
             return j;
         }
         j += 1;
@@ -140,20 +140,20 @@ fn sift(
 fn sift_some(
     b: &[u8],
     s: Strings,
-    samples: &[u32; 1024],
-    starts: &[u32],
+    segments: &[u32; 1024],
+    buckets: &[u32],
     k: usize,
     from: usize,
     end: usize,
 ) -> Round
-    requires { ⌜ Held (now b) s (now samples) (now starts) × (k < length (now starts)) × (from < end)
-        × (end ≤ entries (heldTable (now b) s (now starts)) k) ⌝ }
-    ensures { λ r. ⌜ Clear (heldTable (now (b .entry)) s (now (starts .entry))) k from (r .collected) (r .clear) × (r .clear ≤ end) × (0 < r .collected) ⌝ }
+    requires { ⌜ Held (now b) s (now segments) (now buckets) × (k < length (now buckets)) × (from < end)
+        × (end ≤ entries (heldTable (now b) s (now buckets)) k) ⌝ }
+    ensures { λ r. ⌜ Clear (heldTable (now (b .entry)) s (now (buckets .entry))) k from (r .collected) (r .clear) × (r .clear ≤ end) × (0 < r .collected) ⌝ }
 {
     let mut map = [0u16; 20480];
     let most = ahead::least(end - from, 8192);
-    let collected = collect(b, s, samples, starts, k, from, most, &mut map);
-    let clear = sift(b, s, samples, starts, k, from, collected, end, &map);
+    let collected = collect(b, s, segments, buckets, k, from, most, &mut map);
+    let clear = sift(b, s, segments, buckets, k, from, collected, end, &map);
     Round { collected, clear }
 }
 
@@ -161,20 +161,20 @@ fn sift_some(
 pub(crate) fn apart_until(
     b: &[u8],
     s: Strings,
-    samples: &[u32; 1024],
-    starts: &[u32],
+    segments: &[u32; 1024],
+    buckets: &[u32],
     k: usize,
     from: usize,
     end: usize,
 ) -> usize
-    requires { ⌜ Held (now b) s (now samples) (now starts) × (k < length (now starts)) × (from ≤ end)
-        × (end ≤ entries (heldTable (now b) s (now starts)) k) ⌝ }
-    ensures { λ r. ⌜ Apart (heldTable (now (b .entry)) s (now (starts .entry))) k from r ⌝ }
+    requires { ⌜ Held (now b) s (now segments) (now buckets) × (k < length (now buckets)) × (from ≤ end)
+        × (end ≤ entries (heldTable (now b) s (now buckets)) k) ⌝ }
+    ensures { λ r. ⌜ Apart (heldTable (now (b .entry)) s (now (buckets .entry))) k from r ⌝ }
 {
     let mut done = from;
     let mut clear = end;
     while done < clear {
-        let r = sift_some(b, s, samples, starts, k, done, clear);
+        let r = sift_some(b, s, segments, buckets, k, done, clear);
         done += r.collected;
         clear = r.clear;
     }
@@ -185,18 +185,18 @@ pub(crate) fn apart_until(
 fn run_start(
     b: &[u8],
     s: Strings,
-    samples: &[u32; 1024],
-    starts: &[u32],
+    segments: &[u32; 1024],
+    buckets: &[u32],
     k: usize,
     j: usize,
     h: usize,
 ) -> usize
-    requires { ⌜ Held (now b) s (now samples) (now starts) × Here (heldTable (now b) s (now starts)) k j ⌝ }
+    requires { ⌜ Held (now b) s (now segments) (now buckets) × Here (heldTable (now b) s (now buckets)) k j ⌝ }
     ensures { λ r. ⌜ r ≤ j ⌝ }
 {
     let mut i = j;
     while i > 0 {
-        let e = entry::entry_at(b, s, samples, starts, k, i - 1);
+        let e = entry::entry_at(b, s, segments, buckets, k, i - 1);
         if le::u32_at(b, e) != h {
             return i;
         }
@@ -209,20 +209,20 @@ fn run_start(
 fn run_end(
     b: &[u8],
     s: Strings,
-    samples: &[u32; 1024],
-    starts: &[u32],
+    segments: &[u32; 1024],
+    buckets: &[u32],
     k: usize,
     n: usize,
     j: usize,
     h: usize,
 ) -> usize
-    requires { ⌜ Held (now b) s (now samples) (now starts) × (k < length (now starts)) × (j ≤ n)
-        × (n ≤ entries (heldTable (now b) s (now starts)) k) ⌝ }
+    requires { ⌜ Held (now b) s (now segments) (now buckets) × (k < length (now buckets)) × (j ≤ n)
+        × (n ≤ entries (heldTable (now b) s (now buckets)) k) ⌝ }
     ensures { λ r. ⌜ (j ≤ r) × (r ≤ n) ⌝ }
 {
     let mut i = j;
     while i < n {
-        let e = entry::entry_at(b, s, samples, starts, k, i);
+        let e = entry::entry_at(b, s, segments, buckets, k, i);
         if le::u32_at(b, e) != h {
             return i;
         }
@@ -236,16 +236,16 @@ fn run_end(
 pub(crate) fn span_at(
     b: &[u8],
     s: Strings,
-    samples: &[u32; 1024],
-    starts: &[u32],
+    segments: &[u32; 1024],
+    buckets: &[u32],
     k: usize,
     n: usize,
     j: usize,
     span: Span,
 ) -> Span
-    requires { ⌜ Held (now b) s (now samples) (now starts) × (k < length (now starts)) × (n ≡ entries (heldTable (now b) s (now starts)) k)
-        × (j < n) × Apart (heldTable (now b) s (now starts)) k (span .start) (span .end) ⌝ }
-    ensures { λ r. ⌜ Apart (heldTable (now (b .entry)) s (now (starts .entry))) k (r .start) (r .end) ⌝ }
+    requires { ⌜ Held (now b) s (now segments) (now buckets) × (k < length (now buckets)) × (n ≡ entries (heldTable (now b) s (now buckets)) k)
+        × (j < n) × Apart (heldTable (now b) s (now buckets)) k (span .start) (span .end) ⌝ }
+    ensures { λ r. ⌜ Apart (heldTable (now (b .entry)) s (now (buckets .entry))) k (r .start) (r .end) ⌝ }
 {
     if j % 64 != 0 {
         return span;
@@ -256,13 +256,13 @@ pub(crate) fn span_at(
     if n - j < 64 {
         return span;
     }
-    let h = le::u32_at(b, entry::entry_at(b, s, samples, starts, k, j));
-    if le::u32_at(b, entry::entry_at(b, s, samples, starts, k, j + 63)) != h {
+    let h = le::u32_at(b, entry::entry_at(b, s, segments, buckets, k, j));
+    if le::u32_at(b, entry::entry_at(b, s, segments, buckets, k, j + 63)) != h {
         return span;
     }
-    let start = run_start(b, s, samples, starts, k, j, h);
-    let end = run_end(b, s, samples, starts, k, n, j, h);
-    let clear = apart_until(b, s, samples, starts, k, start, end);
+    let start = run_start(b, s, segments, buckets, k, j, h);
+    let end = run_end(b, s, segments, buckets, k, n, j, h);
+    let clear = apart_until(b, s, segments, buckets, k, start, end);
     Span { start, end: clear }
 }
 

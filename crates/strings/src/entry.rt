@@ -22,38 +22,38 @@ use verdict::Verdict;
 pub fn entry_at(
     b: &[u8],
     s: Strings,
-    samples: &[u32; 1024],
-    starts: &[u32],
+    segments: &[u32; 1024],
+    buckets: &[u32],
     k: usize,
     j: usize,
 ) -> usize
-    requires { ⌜ Held (now b) s (now samples) (now starts) × Here (heldTable (now b) s (now starts)) k j ⌝ }
-    ensures { λ r. ⌜ (r ≡ entryAt (heldTable (now (b .entry)) s (now (starts .entry))) k j) × (r + 16 ≤ length (now (b .entry))) ⌝ }
+    requires { ⌜ Held (now b) s (now segments) (now buckets) × Here (heldTable (now b) s (now buckets)) k j ⌝ }
+    ensures { λ r. ⌜ (r ≡ entryAt (heldTable (now (b .entry)) s (now (buckets .entry))) k j) × (r + 16 ≤ length (now (b .entry))) ⌝ }
 {
-    le::wide(starts[k]) + 4 + 16 * j
+    le::wide(buckets[k]) + 4 + 16 * j
 }
 
 // The number of entries of bucket k: as many as fit between its start and where the next bucket starts, or the address count. The starts are
 // near, while the count in the file may have to be waited for.
-pub fn entry_count(b: &[u8], s: Strings, samples: &[u32; 1024], starts: &[u32], k: usize) -> usize
-    requires { ⌜ Held (now b) s (now samples) (now starts) × (k < length (now starts)) ⌝ }
-    ensures { λ r. ⌜ r ≡ entries (heldTable (now (b .entry)) s (now (starts .entry))) k ⌝ }
+pub fn entry_count(b: &[u8], s: Strings, segments: &[u32; 1024], buckets: &[u32], k: usize) -> usize
+    requires { ⌜ Held (now b) s (now segments) (now buckets) × (k < length (now buckets)) ⌝ }
+    ensures { λ r. ⌜ r ≡ entries (heldTable (now (b .entry)) s (now (buckets .entry))) k ⌝ }
 {
-    let at = le::wide(starts[k]);
-    if k + 1 < starts.len() {
-        return (le::wide(starts[k + 1]) - at - 4) / 16;
+    let at = le::wide(buckets[k]);
+    if k + 1 < buckets.len() {
+        return (le::wide(buckets[k + 1]) - at - 4) / 16;
     }
     (s.list - at - 4) / 16
 }
 
 // Refusal 10 is not due.
-fn placed(b: &[u8], s: Strings, samples: &[u32; 1024], starts: &[u32], k: usize, j: usize) -> bool
-    requires { ⌜ Held (now b) s (now samples) (now starts) × Here (heldTable (now b) s (now starts)) k j ⌝ }
-    ensures { λ r. ⌜ Tells (Placed (heldTable (now (b .entry)) s (now (starts .entry))) k j) r ⌝ }
+fn placed(b: &[u8], s: Strings, segments: &[u32; 1024], buckets: &[u32], k: usize, j: usize) -> bool
+    requires { ⌜ Held (now b) s (now segments) (now buckets) × Here (heldTable (now b) s (now buckets)) k j ⌝ }
+    ensures { λ r. ⌜ Tells (Placed (heldTable (now (b .entry)) s (now (buckets .entry))) k j) r ⌝ }
 {
-    let e = entry_at(b, s, samples, starts, k, j);
+    let e = entry_at(b, s, segments, buckets, k, j);
     let h = le::u32_at(b, e);
-    if hash::bucket(h, starts.len()) != k {
+    if hash::bucket(h, buckets.len()) != k {
         return false;
     }
     if j == 0 {
@@ -66,15 +66,15 @@ fn placed(b: &[u8], s: Strings, samples: &[u32; 1024], starts: &[u32], k: usize,
 pub(crate) fn indexed(
     b: &[u8],
     s: Strings,
-    samples: &[u32; 1024],
-    starts: &[u32],
+    segments: &[u32; 1024],
+    buckets: &[u32],
     k: usize,
     j: usize,
 ) -> bool
-    requires { ⌜ Held (now b) s (now samples) (now starts) × Here (heldTable (now b) s (now starts)) k j ⌝ }
-    ensures { λ r. ⌜ Tells (Indexed (heldTable (now (b .entry)) s (now (starts .entry))) k j) r ⌝ }
+    requires { ⌜ Held (now b) s (now segments) (now buckets) × Here (heldTable (now b) s (now buckets)) k j ⌝ }
+    ensures { λ r. ⌜ Tells (Indexed (heldTable (now (b .entry)) s (now (buckets .entry))) k j) r ⌝ }
 {
-    let e = entry_at(b, s, samples, starts, k, j);
+    let e = entry_at(b, s, segments, buckets, k, j);
     let i = le::u32_at(b, e + 8);
     if i == 0 {
         return false;
@@ -94,23 +94,23 @@ pub(crate) fn indexed(
 pub(crate) fn same_text(
     b: &[u8],
     s: Strings,
-    samples: &[u32; 1024],
-    starts: &[u32],
+    segments: &[u32; 1024],
+    buckets: &[u32],
     k: usize,
     i: usize,
     j: usize,
 ) -> bool
-    requires { ⌜ Held (now b) s (now samples) (now starts) × Here (heldTable (now b) s (now starts)) k i
-        × Here (heldTable (now b) s (now starts)) k j ⌝ }
-    ensures { λ r. ⌜ Compared (heldTable (now (b .entry)) s (now (starts .entry))) k i j r ⌝ }
+    requires { ⌜ Held (now b) s (now segments) (now buckets) × Here (heldTable (now b) s (now buckets)) k i
+        × Here (heldTable (now b) s (now buckets)) k j ⌝ }
+    ensures { λ r. ⌜ Compared (heldTable (now (b .entry)) s (now (buckets .entry))) k i j r ⌝ }
 {
-    let d = entry_at(b, s, samples, starts, k, i);
-    let e = entry_at(b, s, samples, starts, k, j);
+    let d = entry_at(b, s, segments, buckets, k, i);
+    let e = entry_at(b, s, segments, buckets, k, j);
     if le::u32_at(b, d + 4) != le::u32_at(b, e + 4) {
         return false;
     }
-    let x = spot::spot_to(b, s.chars, samples, d + 12);
-    let y = spot::spot_to(b, s.chars, samples, e + 12);
+    let x = spot::spot_to(b, s.chars, segments, d + 12);
+    let y = spot::spot_to(b, s.chars, segments, e + 12);
     let Spot::At(p, m) = x else {
         return false;
     };
@@ -125,25 +125,25 @@ pub(crate) fn same_text(
 fn twin(
     b: &[u8],
     s: Strings,
-    samples: &[u32; 1024],
-    starts: &[u32],
+    segments: &[u32; 1024],
+    buckets: &[u32],
     k: usize,
     j: usize,
     from: usize,
 ) -> bool
-    requires { ⌜ Held (now b) s (now samples) (now starts) × Here (heldTable (now b) s (now starts)) k j
-        × Sorted (heldTable (now b) s (now starts)) k j × Away (heldTable (now b) s (now starts)) k from j ⌝ }
-    ensures { λ r. ⌜ Tells (Twin (heldTable (now (b .entry)) s (now (starts .entry))) k j) r ⌝ }
+    requires { ⌜ Held (now b) s (now segments) (now buckets) × Here (heldTable (now b) s (now buckets)) k j
+        × Sorted (heldTable (now b) s (now buckets)) k j × Away (heldTable (now b) s (now buckets)) k from j ⌝ }
+    ensures { λ r. ⌜ Tells (Twin (heldTable (now (b .entry)) s (now (buckets .entry))) k j) r ⌝ }
 {
-    let e = entry_at(b, s, samples, starts, k, j);
+    let e = entry_at(b, s, segments, buckets, k, j);
     let h = le::u32_at(b, e);
     let mut i = from;
     while i > 0 {
-        let d = entry_at(b, s, samples, starts, k, i - 1);
+        let d = entry_at(b, s, segments, buckets, k, i - 1);
         if le::u32_at(b, d) != h {
             return false;
         }
-        if same_text(b, s, samples, starts, k, i - 1, j) {
+        if same_text(b, s, segments, buckets, k, i - 1, j) {
             return true;
         }
         i -= 1;
@@ -155,27 +155,27 @@ fn twin(
 fn check_order(
     b: &[u8],
     s: Strings,
-    samples: &[u32; 1024],
-    starts: &[u32],
+    segments: &[u32; 1024],
+    buckets: &[u32],
     k: usize,
     j: usize,
     listed: bool,
     from: usize,
 ) -> Verdict
-    requires { ⌜ Held (now b) s (now samples) (now starts) × Here (heldTable (now b) s (now starts)) k j
-        × ((i : ℕ) → i < j → firstFault (entryChecks (heldTable (now b) s (now starts)) k i) ≡ Accepted)
-        × TextPasses (heldTable (now b) s (now starts)) k j × Tells (Indexed (heldTable (now b) s (now starts)) k j) listed
-        × Away (heldTable (now b) s (now starts)) k from j ⌝ }
-    ensures { λ r. ⌜ r ≡ firstFault (entryChecks (heldTable (now (b .entry)) s (now (starts .entry))) k j) ⌝ }
+    requires { ⌜ Held (now b) s (now segments) (now buckets) × Here (heldTable (now b) s (now buckets)) k j
+        × ((i : ℕ) → i < j → firstFault (entryChecks (heldTable (now b) s (now buckets)) k i) ≡ Accepted)
+        × TextPasses (heldTable (now b) s (now buckets)) k j × Tells (Indexed (heldTable (now b) s (now buckets)) k j) listed
+        × Away (heldTable (now b) s (now buckets)) k from j ⌝ }
+    ensures { λ r. ⌜ r ≡ firstFault (entryChecks (heldTable (now (b .entry)) s (now (buckets .entry))) k j) ⌝ }
 {
-    let e = entry_at(b, s, samples, starts, k, j);
-    if !placed(b, s, samples, starts, k, j) {
+    let e = entry_at(b, s, segments, buckets, k, j);
+    if !placed(b, s, segments, buckets, k, j) {
         return Verdict::Refused(10, e);
     }
     if !listed {
         return Verdict::Refused(11, e);
     }
-    if twin(b, s, samples, starts, k, j, from) {
+    if twin(b, s, segments, buckets, k, j, from) {
         return Verdict::Refused(12, e);
     }
     Verdict::Accepted
@@ -185,20 +185,20 @@ fn check_order(
 fn index_passes(
     b: &[u8],
     s: Strings,
-    samples: &[u32; 1024],
-    starts: &[u32],
+    segments: &[u32; 1024],
+    buckets: &[u32],
     k: usize,
     j: usize,
     known: bool,
 ) -> bool
-    requires { ⌜ Held (now b) s (now samples) (now starts) × Here (heldTable (now b) s (now starts)) k j
-        × Sure (Indexed (heldTable (now b) s (now starts)) k j) known ⌝ }
-    ensures { λ r. ⌜ Tells (Indexed (heldTable (now (b .entry)) s (now (starts .entry))) k j) r ⌝ }
+    requires { ⌜ Held (now b) s (now segments) (now buckets) × Here (heldTable (now b) s (now buckets)) k j
+        × Sure (Indexed (heldTable (now b) s (now buckets)) k j) known ⌝ }
+    ensures { λ r. ⌜ Tells (Indexed (heldTable (now (b .entry)) s (now (buckets .entry))) k j) r ⌝ }
 {
     if known {
         return true;
     }
-    indexed(b, s, samples, starts, k, j)
+    indexed(b, s, segments, buckets, k, j)
 }
 
 // Refusals 7 to 12 of an entry that was glanced at, where those before it in the bucket passed; 11 may be known not to be due.
@@ -206,20 +206,20 @@ pub(crate) fn check_entry(
     b: &[u8],
     t: &[u32; 2048],
     s: Strings,
-    samples: &[u32; 1024],
-    starts: &[u32],
+    segments: &[u32; 1024],
+    buckets: &[u32],
     k: usize,
     j: usize,
     g: Glance,
     listed: bool,
 ) -> Verdict
-    requires { ⌜ Tables (now t) × Held (now b) s (now samples) (now starts) × Here (heldTable (now b) s (now starts)) k j
-        × ((i : ℕ) → i < j → firstFault (entryChecks (heldTable (now b) s (now starts)) k i) ≡ Accepted)
-        × Glanced (heldTable (now b) s (now starts)) k j (g .at) (g .left) (g .seen) × Away (heldTable (now b) s (now starts)) k (g .from) j
-        × Sure (Indexed (heldTable (now b) s (now starts)) k j) listed ⌝ }
-    ensures { λ r. ⌜ r ≡ firstFault (entryChecks (heldTable (now (b .entry)) s (now (starts .entry))) k j) ⌝ }
+    requires { ⌜ Tables (now t) × Held (now b) s (now segments) (now buckets) × Here (heldTable (now b) s (now buckets)) k j
+        × ((i : ℕ) → i < j → firstFault (entryChecks (heldTable (now b) s (now buckets)) k i) ≡ Accepted)
+        × Glanced (heldTable (now b) s (now buckets)) k j (g .at) (g .left) (g .seen) × Away (heldTable (now b) s (now buckets)) k (g .from) j
+        × Sure (Indexed (heldTable (now b) s (now buckets)) k j) listed ⌝ }
+    ensures { λ r. ⌜ r ≡ firstFault (entryChecks (heldTable (now (b .entry)) s (now (buckets .entry))) k j) ⌝ }
 {
-    let e = entry_at(b, s, samples, starts, k, j);
+    let e = entry_at(b, s, segments, buckets, k, j);
     if g.left == 0 {
         return Verdict::Refused(7, e);
     }
@@ -230,6 +230,6 @@ pub(crate) fn check_entry(
     if le::u32_at(b, e) != m.hash {
         return Verdict::Refused(9, e);
     }
-    let right = index_passes(b, s, samples, starts, k, j, listed);
-    check_order(b, s, samples, starts, k, j, right, g.from)
+    let right = index_passes(b, s, segments, buckets, k, j, listed);
+    check_order(b, s, segments, buckets, k, j, right, g.from)
 }

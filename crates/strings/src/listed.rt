@@ -9,14 +9,14 @@ use crate::Strings;
 use crate::entry;
 
 // Whether the indices of bucket k are right.
-fn bucket_listed(b: &[u8], s: Strings, samples: &[u32; 1024], starts: &[u32], k: usize) -> bool
-    requires { ⌜ Held (now b) s (now samples) (now starts) × (k < length (now starts)) ⌝ }
-    ensures { λ r. ⌜ Sure (BucketIndexed (heldTable (now (b .entry)) s (now (starts .entry))) k) r ⌝ }
+fn bucket_listed(b: &[u8], s: Strings, segments: &[u32; 1024], buckets: &[u32], k: usize) -> bool
+    requires { ⌜ Held (now b) s (now segments) (now buckets) × (k < length (now buckets)) ⌝ }
+    ensures { λ r. ⌜ Sure (BucketIndexed (heldTable (now (b .entry)) s (now (buckets .entry))) k) r ⌝ }
 {
-    let n = entry::entry_count(b, s, samples, starts, k);
+    let n = entry::entry_count(b, s, segments, buckets, k);
     let mut j = 0;
     while j < n {
-        if !entry::indexed(b, s, samples, starts, k, j) {
+        if !entry::indexed(b, s, segments, buckets, k, j) {
             return false;
         }
         j += 1;
@@ -25,13 +25,13 @@ fn bucket_listed(b: &[u8], s: Strings, samples: &[u32; 1024], starts: &[u32], k:
 }
 
 // Whether those of every bucket are. False tells only that some entry is at fault, and not which fault comes first.
-pub fn all_listed(b: &[u8], s: Strings, samples: &[u32; 1024], starts: &[u32]) -> bool
-    requires { ⌜ Held (now b) s (now samples) (now starts) ⌝ }
-    ensures { λ r. ⌜ Sure (AllIndexed (heldTable (now (b .entry)) s (now (starts .entry)))) r ⌝ }
+pub fn all_listed(b: &[u8], s: Strings, segments: &[u32; 1024], buckets: &[u32]) -> bool
+    requires { ⌜ Held (now b) s (now segments) (now buckets) ⌝ }
+    ensures { λ r. ⌜ Sure (AllIndexed (heldTable (now (b .entry)) s (now (buckets .entry)))) r ⌝ }
 {
     let mut k = 0;
-    while k < starts.len() {
-        if !bucket_listed(b, s, samples, starts, k) {
+    while k < buckets.len() {
+        if !bucket_listed(b, s, segments, buckets, k) {
             return false;
         }
         k += 1;

@@ -14,14 +14,14 @@ pub enum Spot {
 }
 
 // The spot of an address, or nowhere where it does not resolve.
-pub fn spot_at(b: &[u8], chars: Region, samples: &[u32; 1024], seg: usize, el: usize) -> Spot
-    requires { ⌜ Mapped 2 (now b) (chars .at) chars × Starts 2 (now b) (chars .at) (chars .shift) (now samples) × (el < 65536) ⌝ }
+pub fn spot_at(b: &[u8], chars: Region, segments: &[u32; 1024], seg: usize, el: usize) -> Spot
+    requires { ⌜ Mapped 2 (now b) (chars .at) chars × Starts 2 (now b) (chars .at) (chars .shift) (now segments) × (el < 65536) ⌝ }
     ensures { λ r. ⌜ r ≡ spotAt (now (b .entry)) (chars .at) seg el ⌝ }
 {
     if seg >= chars.count {
         return Spot::Nowhere;
     }
-    let p = region::locate(b, chars, 2, samples, seg);
+    let p = region::locate(b, chars, 2, segments, seg);
     let used = le::u32_at(b, p + 4);
     if el >= used {
         return Spot::Nowhere;
@@ -30,9 +30,9 @@ pub fn spot_at(b: &[u8], chars: Region, samples: &[u32; 1024], seg: usize, el: u
 }
 
 // The same for the address that stands at an offset of the file: an entry's, or a list position's.
-pub fn spot_to(b: &[u8], chars: Region, samples: &[u32; 1024], at: usize) -> Spot
-    requires { ⌜ Mapped 2 (now b) (chars .at) chars × Starts 2 (now b) (chars .at) (chars .shift) (now samples) × (at + 4 ≤ length (now b)) ⌝ }
+pub fn spot_to(b: &[u8], chars: Region, segments: &[u32; 1024], at: usize) -> Spot
+    requires { ⌜ Mapped 2 (now b) (chars .at) chars × Starts 2 (now b) (chars .at) (chars .shift) (now segments) × (at + 4 ≤ length (now b)) ⌝ }
     ensures { λ r. ⌜ r ≡ spotAt (now (b .entry)) (chars .at) (u16At (now (b .entry)) at) (u16At (now (b .entry)) (at + 2)) ⌝ }
 {
-    spot_at(b, chars, samples, le::u16_at(b, at), le::u16_at(b, at + 2))
+    spot_at(b, chars, segments, le::u16_at(b, at), le::u16_at(b, at + 2))
 }

@@ -28,22 +28,22 @@ pub struct CheckedEntries {
 fn still_begun(
     b: &[u8],
     s: Strings,
-    samples: &[u32; 1024],
-    starts: &[u32],
+    segments: &[u32; 1024],
+    buckets: &[u32],
     k: usize,
     j: usize,
     g: Glance,
     before: bool,
 ) -> bool
-    requires { ⌜ Held (now b) s (now samples) (now starts) × Here (heldTable (now b) s (now starts)) k j
-        × (firstFault (entryChecks (heldTable (now b) s (now starts)) k j) ≡ Accepted)
-        × Glanced (heldTable (now b) s (now starts)) k j (g .at) (g .left) (g .seen) ⌝ }
-    ensures { λ r. ⌜ Sure ((before ≡ true) × Begun (heldTable (now (b .entry)) s (now (starts .entry))) k j) r ⌝ }
+    requires { ⌜ Held (now b) s (now segments) (now buckets) × Here (heldTable (now b) s (now buckets)) k j
+        × (firstFault (entryChecks (heldTable (now b) s (now buckets)) k j) ≡ Accepted)
+        × Glanced (heldTable (now b) s (now buckets)) k j (g .at) (g .left) (g .seen) ⌝ }
+    ensures { λ r. ⌜ Sure ((before ≡ true) × Begun (heldTable (now (b .entry)) s (now (buckets .entry))) k j) r ⌝ }
 {
     if !before {
         return false;
     }
-    let e = entry::entry_at(b, s, samples, starts, k, j);
+    let e = entry::entry_at(b, s, segments, buckets, k, j);
     if le::u16_at(b, e + 14) == 0 {
         return true;
     }
@@ -55,30 +55,30 @@ pub fn check_entries(
     b: &[u8],
     t: &[u32; 2048],
     s: Strings,
-    samples: &[u32; 1024],
-    starts: &[u32],
+    segments: &[u32; 1024],
+    buckets: &[u32],
 ) -> CheckedEntries
-    requires { ⌜ Tables (now t) × Held (now b) s (now samples) (now starts) ⌝ }
-    ensures answer { λ r. ⌜ r .answer ≡ firstFault (allEntryChecks (heldTable (now (b .entry)) s (now (starts .entry)))) ⌝ }
-    ensures begun { λ r. ⌜ Sure (AllBegun (heldTable (now (b .entry)) s (now (starts .entry)))) (r .begun) ⌝ }
+    requires { ⌜ Tables (now t) × Held (now b) s (now segments) (now buckets) ⌝ }
+    ensures answer { λ r. ⌜ r .answer ≡ firstFault (allEntryChecks (heldTable (now (b .entry)) s (now (buckets .entry)))) ⌝ }
+    ensures begun { λ r. ⌜ Sure (AllBegun (heldTable (now (b .entry)) s (now (buckets .entry)))) (r .begun) ⌝ }
 {
-    let right = listed::all_listed(b, s, samples, starts);
+    let right = listed::all_listed(b, s, segments, buckets);
     let mut at = [0usize; 64];
     let mut left = [0usize; 64];
     let mut seen = [0usize; 64];
     let mut fault = Verdict::Accepted;
     let mut begun = true;
     let mut k = 0;
-    'buckets: while k < starts.len() {
-        let n = entry::entry_count(b, s, samples, starts, k);
+    'buckets: while k < buckets.len() {
+        let n = entry::entry_count(b, s, segments, buckets, k);
         let mut span = Span { start: 0, end: 0 };
         let mut j = 0;
         while j < n {
             ahead::keep_ahead(
                 b,
                 s,
-                samples,
-                starts,
+                segments,
+                buckets,
                 k,
                 n,
                 j,
@@ -86,7 +86,7 @@ pub fn check_entries(
                 &mut left,
                 &mut seen,
             );
-            span = apart::span_at(b, s, samples, starts, k, n, j, span);
+            span = apart::span_at(b, s, segments, buckets, k, n, j, span);
             let i = j % 64;
             let g = Glance {
                 at: at[i],
@@ -94,7 +94,7 @@ pub fn check_entries(
                 seen: seen[i],
                 from: apart::away_from(span, j),
             };
-            match entry::check_entry(b, t, s, samples, starts, k, j, g, right) {
+            match entry::check_entry(b, t, s, segments, buckets, k, j, g, right) {
                 Verdict::Accepted => {}
                 Verdict::Refused(num, place) => {
                     fault = Verdict::Refused(num, place);
@@ -102,7 +102,7 @@ pub fn check_entries(
                     break 'buckets;
                 }
             }
-            begun = still_begun(b, s, samples, starts, k, j, g, begun);
+            begun = still_begun(b, s, segments, buckets, k, j, g, begun);
             j += 1;
         }
         k += 1;

@@ -29,13 +29,13 @@ module _ {b ws : List ℕ} {a : Acceptance} (j : Judged b ws a) (e : a .answer �
   to-find = (j .view e, accepted-iff b (length ws) .0 accepted .0)
 
   pub to-list : {t : List ℕ} → let v = a .view in Tables t
-      → Tables t × Held b (nameStrings (v .places)) (v .«name_starts») (v .«name_buckets»)
+      → Tables t × Held b (nameStrings (v .places)) (v .«name_segments») (v .«name_buckets»)
       × (heldTable b (nameStrings (v .places)) (v .«name_buckets») ≡ names b)
-      × TreeReady b (v .places .nodes) (v .«node_starts»)
+      × TreeReady b (v .places .nodes) (v .«node_segments»)
       × FileRules b
   to-list t =
       let f = to-find .0 in
       (t, names-held b _ f, names-table b _ f, tree-ready b _ f (nodes-iff b .1 (to-find .1 .nodes)), to-find .1)
 
-  pub to-outline : let v = a .view in OutlineReady b (v .places) (v .«attribute_starts») (v .«node_starts») (v .«value_starts») (v .«name_starts»)
+  pub to-outline : let v = a .view in OutlineReady b (v .places) (v .«attribute_segments») (v .«node_segments») (v .«value_segments») (v .«name_segments»)
   to-outline = outline-ready b (length ws) (a .view) (j .view e) accepted

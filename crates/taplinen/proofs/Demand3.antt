@@ -29,7 +29,6 @@ use Rattle.taplinen.specs.Answers.{answered}
 use Rattle.taplinen.specs.Questions.{acceptAnswer, textVerdict, nameAnswer, valueAnswer, pathVerdict, pathAnswer, pathListing, outlineVerdict, outlineAnswer, outlineBuffer}
 use Rattle.taplinen.specs.Batches.{batchVerdict, batchAnswer, namePlaces, valuePlaces}
 use Rattle.taplinen.specs.Demands.{Refuses, WellFormed, Malformed, Batch, Paths, Outlines}
-use Rattle.taplinen.specs.Answers.{answered}
 use Rattle.taplinen.proofs.Laws.{text-odd}
 use Rattle.taplinen.proofs.EachPlace.{name-place, value-place}
 use Rattle.taplinen.proofs.Demand2.{accept-zero}

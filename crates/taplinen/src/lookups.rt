@@ -25,22 +25,22 @@ pub fn find(file: &[u8], v: View, kind: Kind, text: &[u8]) -> Lookup
     let n = text.len() / 2;
     match kind {
         Kind::Name => {
-            let starts = v.name_starts;
+            let segments = v.name_segments;
             let chars = p.name_chars;
             let s = Strings {
                 chars,
                 list: p.name_list,
             };
-            lookup::find_text(file, &t, s, &starts, &v.name_buckets, kind, text, 0, n)
+            lookup::find_text(file, &t, s, &segments, &v.name_buckets, kind, text, 0, n)
         }
         Kind::Value => {
-            let starts = v.value_starts;
+            let segments = v.value_segments;
             let chars = p.value_chars;
             let s = Strings {
                 chars,
                 list: p.value_list,
             };
-            lookup::find_text(file, &t, s, &starts, &v.value_buckets, kind, text, 0, n)
+            lookup::find_text(file, &t, s, &segments, &v.value_buckets, kind, text, 0, n)
         }
     }
 }
@@ -56,22 +56,40 @@ pub fn find_each(file: &[u8], v: View, kind: Kind, texts: &[u8], answers: &mut [
     let p = v.places;
     match kind {
         Kind::Name => {
-            let starts = v.name_starts;
+            let segments = v.name_segments;
             let chars = p.name_chars;
             let s = Strings {
                 chars,
                 list: p.name_list,
             };
-            batch::find_each(file, &t, s, &starts, &v.name_buckets, kind, texts, answers)
+            batch::find_each(
+                file,
+                &t,
+                s,
+                &segments,
+                &v.name_buckets,
+                kind,
+                texts,
+                answers,
+            )
         }
         Kind::Value => {
-            let starts = v.value_starts;
+            let segments = v.value_segments;
             let chars = p.value_chars;
             let s = Strings {
                 chars,
                 list: p.value_list,
             };
-            batch::find_each(file, &t, s, &starts, &v.value_buckets, kind, texts, answers)
+            batch::find_each(
+                file,
+                &t,
+                s,
+                &segments,
+                &v.value_buckets,
+                kind,
+                texts,
+                answers,
+            )
         }
     }
 }

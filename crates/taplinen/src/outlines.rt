@@ -20,17 +20,17 @@ pub extern "C" fn taplinen_outline(file: &[u8], ws: &mut [u8], out: &mut [u8]) -
     }
     let view = a.view;
     let p = view.places;
-    let attribute_starts = view.attribute_starts;
-    let node_starts = view.node_starts;
-    let value_starts = view.value_starts;
-    let name_starts = view.name_starts;
+    let attribute_segments = view.attribute_segments;
+    let node_segments = view.node_segments;
+    let value_segments = view.value_segments;
+    let name_segments = view.name_segments;
     let r = outline::write_outline(
         file,
         p,
-        &attribute_starts,
-        &node_starts,
-        &value_starts,
-        &name_starts,
+        &attribute_segments,
+        &node_segments,
+        &value_segments,
+        &name_segments,
         out,
     );
     let w = r.answer;

@@ -73,8 +73,8 @@ pub extern "C" fn taplinen_path(file: &[u8], ws: &mut [u8], path: &[u8], list: &
     }
     let view = a.view;
     let p = view.places;
-    let samples = view.name_starts;
-    let starts = view.node_starts;
+    let name_segments = view.name_segments;
+    let node_segments = view.node_segments;
     let chars = p.name_chars;
     let s = Strings {
         chars,
@@ -85,10 +85,10 @@ pub extern "C" fn taplinen_path(file: &[u8], ws: &mut [u8], path: &[u8], list: &
         file,
         &t,
         s,
-        &samples,
+        &name_segments,
         &view.name_buckets,
         p.nodes,
-        &starts,
+        &node_segments,
         path,
         list,
     );

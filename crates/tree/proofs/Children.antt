@@ -36,10 +36,10 @@ module _ (b : List ℕ) (p : ℕ) where
   unfolding childCount nodeName childField
   count-field f = rw (ne-eqb (u16At b p) 0 f)
 
-module _ {b : List ℕ} {r : Region} {starts : List ℕ} (g : TreeReady b r starts) where
-  pub own-region : Mapped 24 b (r .at) r × Starts 24 b (r .at) (r .shift) starts
+module _ {b : List ℕ} {r : Region} {segments : List ℕ} (g : TreeReady b r segments) where
+  pub own-region : Mapped 24 b (r .at) r × Starts 24 b (r .at) (r .shift) segments
   unfolding nodeSize
-  own-region = subst (λ (x : ℕ). Mapped 24 b x r × Starts 24 b x (r .shift) starts) (sym (g .nodes .at-is)) (g .nodes, g .sampled)
+  own-region = subst (λ (x : ℕ). Mapped 24 b x r × Starts 24 b x (r .shift) segments) (sym (g .nodes .at-is)) (g .nodes, g .sampled)
 
   pub rules-hold : NodesRules b
   rules-hold = nodes-iff b .0 (g .accepted)

@@ -10,10 +10,9 @@ use Rattle.verdict.specs.declared.Verdict.the-variants.{Accepted, Refused}
 use Rattle.verdict.proofs.Laws.{pass, stop, fault-none, never}
 use Rattle.tree.specs.declared.depth.Found.{Found}
 use Rattle.tree.specs.declared.depth.Found.the-variants.{At, Nothing}
-use Rattle.tree.specs.Chain.{LiveIn, ranged, ends}
+use Rattle.tree.specs.Chain.{LiveIn, ranged, ends, firstOr}
 use Rattle.tree.specs.File.{nodeOf, treeOf}
 use Rattle.tree.specs.Rules.{FirstDeep}
-use Rattle.tree.specs.Chain.{firstOr}
 use Rattle.tree.specs.Order.{depthChecks}
 use Rattle.tree.specs.inner.Marking.{firstPlace}
 use Rattle.tree.proofs.Ranged.{not-cons, ranged-none, ranged-open}

@@ -22,10 +22,10 @@ use Rattle.tree.proofs.Children.{own-region}
 use Rattle.tree.proofs.Numbers.{range-room}
 
 -- the region of the nodes, with its samples of running numbers
-pub own-counts : {b : List ℕ} {r : Region} {starts counts : List ℕ} → TreeReady b r starts → Counts nodeSize b (nodesAt b) (r .shift) counts
-    → Mapped 24 b (r .at) r × Starts 24 b (r .at) (r .shift) starts × Counts 24 b (r .at) (r .shift) counts
+pub own-counts : {b : List ℕ} {r : Region} {segments counts : List ℕ} → TreeReady b r segments → Counts nodeSize b (nodesAt b) (r .shift) counts
+    → Mapped 24 b (r .at) r × Starts 24 b (r .at) (r .shift) segments × Counts 24 b (r .at) (r .shift) counts
 unfolding nodeSize
-own-counts {b} {r} {starts} {counts} g k =
+own-counts {b} {r} {segments} {counts} g k =
     (own-region g .0, own-region g .1, subst (λ (x : ℕ). Counts 24 b x (r .shift) counts) (sym (g .nodes .at-is)) k)
 
 module _ (b : List ℕ) (p : ℕ) where

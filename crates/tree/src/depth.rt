@@ -16,23 +16,23 @@ pub enum Found {
 pub fn find_deep(
     b: &[u8],
     nodes: Region,
-    starts: &[u32; 1024],
+    segments: &[u32; 1024],
     a: usize,
     p: usize,
     left: usize,
 ) -> Found
-    requires { ⌜ TreeReady (now b) nodes (now starts) × Used (now b) a × (p ≡ nodeOf (now b) a) × (left ≤ 64) ⌝ }
+    requires { ⌜ TreeReady (now b) nodes (now segments) × Used (now b) a × (p ≡ nodeOf (now b) a) × (left ≤ 64) ⌝ }
     ensures { λ r. ⌜ r ≡ firstPlace (now (b .entry)) (ends (treeOf (now (b .entry))) left a) ⌝ }
 {
     if left == 0 {
         return Found::At(p);
     }
-    let k = ranges::children_of(b, nodes, starts, p);
+    let k = ranges::children_of(b, nodes, segments, p);
     let mut j = 0;
     while j < k.count {
         let c = k.place + j * 24;
         if le::u16_at(b, c) != 0 {
-            if let Found::At(x) = find_deep(b, nodes, starts, k.first + j, c, left - 1) {
+            if let Found::At(x) = find_deep(b, nodes, segments, k.first + j, c, left - 1) {
                 return Found::At(x);
             }
         }

@@ -20,12 +20,12 @@ use verdict::Verdict;
 pub fn check_tree(
     b: &[u8],
     nodes: Region,
-    starts: &[u32; 1024],
+    segments: &[u32; 1024],
     counts: &[u32; 1024],
     used: usize,
     ws: &mut [u8],
 ) -> Verdict
-    requires { ⌜ TreeReady (now b) nodes (now starts) × Counts nodeSize (now b) (nodesAt (now b)) (nodes .shift) (now counts)
+    requires { ⌜ TreeReady (now b) nodes (now segments) × Counts nodeSize (now b) (nodesAt (now b)) (nodes .shift) (now counts)
         × (used ≡ usedNodes (now b)) ⌝ }
     ensures answer { λ r. ⌜ r ≡ firstFault (treeChecks (now (b .entry)) (length (now (ws .entry)))) ⌝ }
     ensures workspace { λ _. ⌜ now (ws .exit) ≡ workspaceAfter (now (b .entry)) (now (ws .entry)) (firstFault (treeChecks (now (b .entry)) (length (now (ws .entry))))) ⌝ }
@@ -33,11 +33,11 @@ pub fn check_tree(
     if ws.len() < used {
         return Verdict::Refused(20, used);
     }
-    let m = marks::mark_nodes(b, nodes, starts, counts, used, ws);
+    let m = marks::mark_nodes(b, nodes, segments, counts, used, ws);
     if let Verdict::Refused(num, place) = m {
         return Verdict::Refused(num, place);
     }
-    match depth::find_deep(b, nodes, starts, 0, nodes.at + 12, 64) {
+    match depth::find_deep(b, nodes, segments, 0, nodes.at + 12, 64) {
         Found::At(p) => {
             marks::set_range(ws, 0, used, 0);
             Verdict::Refused(22, p)

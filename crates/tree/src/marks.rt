@@ -51,12 +51,12 @@ pub fn set_range(ws: &mut [u8], i: usize, n: usize, x: u8)
 fn mark_node(
     b: &[u8],
     nodes: Region,
-    starts: &[u32; 1024],
+    segments: &[u32; 1024],
     counts: &[u32; 1024],
     p: usize,
     ws: &mut [u8],
 ) -> bool
-    requires { ⌜ TreeReady (now b) nodes (now starts) × Counts nodeSize (now b) (nodesAt (now b)) (nodes .shift) (now counts)
+    requires { ⌜ TreeReady (now b) nodes (now segments) × Counts nodeSize (now b) (nodesAt (now b)) (nodes .shift) (now counts)
         × (p + 24 ≤ length (now b)) × (usedNodes (now b) ≤ length (now ws)) ⌝ }
     requires { ⌜ Reached (now b) p ⌝ }
     ensures { λ r. ⌜ MarkedOne (now (b .entry)) p (now (ws .entry)) r (now (ws .exit)) ⌝ }
@@ -72,7 +72,7 @@ fn mark_node(
         b,
         nodes,
         24,
-        starts,
+        segments,
         counts,
         le::u16_at(b, p + 16),
         le::u16_at(b, p + 18),
@@ -88,12 +88,12 @@ fn mark_node(
 pub fn mark_nodes(
     b: &[u8],
     nodes: Region,
-    starts: &[u32; 1024],
+    segments: &[u32; 1024],
     counts: &[u32; 1024],
     used: usize,
     ws: &mut [u8],
 ) -> Verdict
-    requires { ⌜ TreeReady (now b) nodes (now starts) × Counts nodeSize (now b) (nodesAt (now b)) (nodes .shift) (now counts)
+    requires { ⌜ TreeReady (now b) nodes (now segments) × Counts nodeSize (now b) (nodesAt (now b)) (nodes .shift) (now counts)
         × (used ≡ usedNodes (now b)) × (usedNodes (now b) ≤ length (now ws)) ⌝ }
     ensures answer { λ r. ⌜ r ≡ firstFault (allRangeChecks (now (b .entry))) ⌝ }
     ensures workspace { λ _. ⌜ now (ws .exit) ≡ workspaceAfter (now (b .entry)) (now (ws .entry)) (firstFault (allRangeChecks (now (b .entry)))) ⌝ }
@@ -107,7 +107,7 @@ pub fn mark_nodes(
         let mut el = 0;
         while el < n {
             let p = at + 8 + el * 24;
-            if !mark_node(b, nodes, starts, counts, p, ws) {
+            if !mark_node(b, nodes, segments, counts, p, ws) {
                 fault = Verdict::Refused(21, p);
                 break 'segments;
             }

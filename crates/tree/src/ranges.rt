@@ -14,8 +14,8 @@ pub struct Children {
 }
 
 // The children of the node at p; a nameless node has none.
-pub fn children_of(b: &[u8], nodes: Region, starts: &[u32; 1024], p: usize) -> Children
-    requires { ⌜ TreeReady (now b) nodes (now starts) × Reached (now b) p × (p + 24 ≤ length (now b)) ⌝ }
+pub fn children_of(b: &[u8], nodes: Region, segments: &[u32; 1024], p: usize) -> Children
+    requires { ⌜ TreeReady (now b) nodes (now segments) × Reached (now b) p × (p + 24 ≤ length (now b)) ⌝ }
     ensures { λ r. ⌜ ChildrenOf (now (b .entry)) p r ⌝ }
 {
     let seg = le::u16_at(b, p + 16);
@@ -33,7 +33,7 @@ pub fn children_of(b: &[u8], nodes: Region, starts: &[u32; 1024], p: usize) -> C
     if count == 0 {
         return none;
     }
-    let Place::At(place) = region::range_at(b, nodes, 24, starts, seg, el, count) else {
+    let Place::At(place) = region::range_at(b, nodes, 24, segments, seg, el, count) else {
         return none;
     };
     Children {

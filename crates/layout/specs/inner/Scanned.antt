@@ -23,11 +23,11 @@ pub record FrontScanned (b : List ℕ) (r : FrontScan) : Type 0 where
 pub record BucketsScanned (t : Table) (r : Scan) (xs : List ℕ) : Type 0 where
   pub answer : r ≡ scanned (firstFault (each (bucketChecks t) (t .buckets) 0)) (listAt t)
   pub long : length xs ≡ t .buckets
-  pub starts : (e : ℕ) → r ≡ End e → BucketStarts t xs
+  pub buckets : (e : ℕ) → r ≡ End e → BucketStarts t xs
 
 -- The table: refusals 2 and 5, or where it ends with each bucket's start and the list's place kept.
 pub record TableScanned (t : Table) (most : ℕ) (r : TableScan) (xs : List ℕ) : Type 0 where
   pub answer : r .answer ≡ scanned (firstFault (tableChecks t most)) (tableEnd t)
   pub long : length xs ≡ t .buckets
   pub list : (e : ℕ) → r .answer ≡ End e → r .list ≡ listAt t
-  pub starts : (e : ℕ) → r .answer ≡ End e → BucketStarts t xs
+  pub buckets : (e : ℕ) → r .answer ≡ End e → BucketStarts t xs

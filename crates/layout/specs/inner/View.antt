@@ -30,11 +30,11 @@ pub record Fits (b : List ℕ) (v : View) : Type 0 where
   pub laid : LaidOut b
   pub header : v .header ≡ headerOf b
   pub places : PlacesFit b (v .places)
-  pub «attribute_starts» : Starts attributeSize b (attributesAt b) (v .places .attributes .shift) (v .«attribute_starts»)
-  pub «node_starts» : Starts nodeSize b (nodesAt b) (v .places .nodes .shift) (v .«node_starts»)
+  pub «attribute_segments» : Starts attributeSize b (attributesAt b) (v .places .attributes .shift) (v .«attribute_segments»)
+  pub «node_segments» : Starts nodeSize b (nodesAt b) (v .places .nodes .shift) (v .«node_segments»)
   pub «node_counts» : Counts nodeSize b (nodesAt b) (v .places .nodes .shift) (v .«node_counts»)
-  pub «value_starts» : Starts 2 b (values b .at) (v .places .«value_chars» .shift) (v .«value_starts»)
-  pub «name_starts» : Starts 2 b (names b .at) (v .places .«name_chars» .shift) (v .«name_starts»)
+  pub «value_segments» : Starts 2 b (values b .at) (v .places .«value_chars» .shift) (v .«value_segments»)
+  pub «name_segments» : Starts 2 b (names b .at) (v .places .«name_chars» .shift) (v .«name_segments»)
   pub «value_buckets» : BucketStarts (values b) (v .«value_buckets»)
   pub «name_buckets» : BucketStarts (names b) (v .«name_buckets»)
 

@@ -8,10 +8,10 @@ use Rattle.lookup.proofs.find_entry.Statement.{statement}
 use Rattle.lookup.proofs.find_entry.Tie as tie
 
 abbrev Inv-loop : tie.InvT-loop
-Inv-loop b s samples starts h low q p n k m j₀ j = Searched (heldTable b s starts) (chars q p n) h k m j
+Inv-loop b s segments buckets h low q p n k m j₀ j = Searched (heldTable b s buckets) (chars q p n) h k m j
 
 abbrev μ-loop : tie.MeasureT-loop
-μ-loop b s samples starts h low q p n k m j₀ j = m - j
+μ-loop b s segments buckets h low q p n k m j₀ j = m - j
 
 loop-holds : tie.Need-loop-holds Inv-loop μ-loop
 loop-holds c = let p = c .before .before .before .before .before .pre in

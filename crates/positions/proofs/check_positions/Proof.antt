@@ -15,10 +15,10 @@ use Rattle.positions.proofs.check_positions.Statement.{statement}
 use Rattle.positions.proofs.check_positions.Tie as tie
 
 abbrev Inv-loop : tie.InvT-loop
-Inv-loop b t s samples starts n i₀ i = (1 ≤ i) × (n ≡ count (heldTable b s starts)) × (firstFault (allPositionChecks (heldTable b s starts)) ≡ positionsLeft (heldTable b s starts) i)
+Inv-loop b t s segments buckets n i₀ i = (1 ≤ i) × (n ≡ count (heldTable b s buckets)) × (firstFault (allPositionChecks (heldTable b s buckets)) ≡ positionsLeft (heldTable b s buckets) i)
 
 abbrev μ-loop : tie.MeasureT-loop
-μ-loop b t s samples starts n i₀ i = n - i
+μ-loop b t s segments buckets n i₀ i = n - i
 
 returns : tie.Need-returns Inv-loop μ-loop
 returns c = let p = c .before .before .before .before .before .pre in

@@ -9,10 +9,10 @@ use Rattle.region.proofs.locate.Statement.{statement}
 use Rattle.region.proofs.locate.Tie as tie
 
 abbrev Inv-loop : tie.InvT-loop
-Inv-loop b size starts seg left₀ p₀ left p = (left ≤ seg) × ((at : ℕ) → p₀ ≡ startOf size b at (seg - left₀) → p ≡ startOf size b at (seg - left))
+Inv-loop b size segments seg left₀ p₀ left p = (left ≤ seg) × ((at : ℕ) → p₀ ≡ startOf size b at (seg - left₀) → p ≡ startOf size b at (seg - left))
 
 abbrev μ-loop : tie.MeasureT-loop
-μ-loop b size starts seg left₀ p₀ left p = left
+μ-loop b size segments seg left₀ p₀ left p = left
 
 here : (c : tie.At-loop Inv-loop μ-loop)
     → let a = c .before .before .before .before .before .before .args in c .loop .p ≡ startOf (a .size) (a .b .now) (a .r .at) (a .seg - c .loop .left)

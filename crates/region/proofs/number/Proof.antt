@@ -16,10 +16,10 @@ abbrev Stands : ℕ → List ℕ → ℕ → ℕ → ℕ → ℕ → Type 0
 Stands size b at s p n = (p ≡ startOf size b at s) × (n ≡ beforeOf size b at s)
 
 abbrev Inv-loop : tie.InvT-loop
-Inv-loop b size starts counts seg el k left₀ p₀ n₀ left p n = (left ≤ seg) × ((at : ℕ) → Stands size b at (seg - left₀) p₀ n₀ → Stands size b at (seg - left) p n)
+Inv-loop b size segments counts seg el k left₀ p₀ n₀ left p n = (left ≤ seg) × ((at : ℕ) → Stands size b at (seg - left₀) p₀ n₀ → Stands size b at (seg - left) p n)
 
 abbrev μ-loop : tie.MeasureT-loop
-μ-loop b size starts counts seg el k left₀ p₀ n₀ left p n = left
+μ-loop b size segments counts seg el k left₀ p₀ n₀ left p n = left
 
 here : (c : tie.At-loop Inv-loop μ-loop)
     → let a = c .before .before .before .before .before .before .before .before .args in

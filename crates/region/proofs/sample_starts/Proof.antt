@@ -13,11 +13,11 @@ use Rattle.region.proofs.sample_starts.Statement.{statement}
 use Rattle.region.proofs.sample_starts.Tie as tie
 
 abbrev Inv-loop : tie.InvT-loop
-Inv-loop b r size starts₀ mask p₀ s₀ starts p s = (s ≤ r .count) × (p ≡ startOf size b (r .at) s)
-    × Sampled (startOf size b (r .at)) (2 ^ r .shift) s starts × (length starts ≡ 1024)
+Inv-loop b r size starts₀ mask p₀ s₀ segments p s = (s ≤ r .count) × (p ≡ startOf size b (r .at) s)
+    × Sampled (startOf size b (r .at)) (2 ^ r .shift) s segments × (length segments ≡ 1024)
 
 abbrev μ-loop : tie.MeasureT-loop
-μ-loop b r size starts₀ mask p₀ s₀ starts p s = r .count - s
+μ-loop b r size starts₀ mask p₀ s₀ segments p s = r .count - s
 
 fits : (c : tie.Then1 Inv-loop μ-loop)
     → let s = c .before .before .before .before .before in let p = c .before .before .loop .p in
@@ -27,19 +27,19 @@ fits c = let l = c .before .before .loop in segment-fits _ _ _ (c .before .befor
 loop-holds : tie.Need-loop-holds Inv-loop μ-loop
 loop-holds c = (omega arith, start-zero _ _ _, sampled-none _ _ _, c .before .before .pre .1)
 
-cast-starts : tie.Need-cast-starts Inv-loop μ-loop
-cast-starts c = record { fits = omega (arith, fits (c .before), c .before .before .before .before .before .before .pre .0 .short) }
+cast-segments : tie.Need-cast-segments Inv-loop μ-loop
+cast-segments c = record { fits = omega (arith, fits (c .before), c .before .before .before .before .before .before .pre .0 .short) }
 
-shr-starts : tie.Need-shr-starts Inv-loop μ-loop
-shr-starts c = omega (arith, c .before .before .before .before .before .before .before .pre .0 .stride .low)
+shr-segments : tie.Need-shr-segments Inv-loop μ-loop
+shr-segments c = omega (arith, c .before .before .before .before .before .before .before .pre .0 .stride .low)
 
-mul-starts : tie.Need-mul-starts Inv-loop μ-loop
-mul-starts c =
+mul-segments : tie.Need-mul-segments Inv-loop μ-loop
+mul-segments c =
     let s = c .before .before .before .before .before .before .before in
     record { fits = omega (arith, sample-in (s .pre .0 .stride) _ (c .before .before .if1 .taken)) }
 
-element-write-starts : tie.Need-element-write-starts Inv-loop μ-loop
-element-write-starts c = sample-in (c .before .before .before .before .before .before .before .pre .0 .stride) _ (c .before .before .if1 .taken)
+element-write-segments : tie.Need-element-write-segments Inv-loop μ-loop
+element-write-segments c = sample-in (c .before .before .before .before .before .before .before .pre .0 .stride) _ (c .before .before .if1 .taken)
 
 next-start-requires : tie.Need-next-start-requires Inv-loop μ-loop
 next-start-requires c κs = fits (c .before)
@@ -62,5 +62,5 @@ returns c =
 pub sample-starts-spec : {M : Type 1} → statement M
 sample-starts-spec =
     tie.close
-    (tie.spec Inv-loop μ-loop (λ c. search needs) loop-holds cast-starts (λ c. search needs) shr-starts mul-starts element-write-starts
+    (tie.spec Inv-loop μ-loop (λ c. search needs) loop-holds cast-segments (λ c. search needs) shr-segments mul-segments element-write-segments
     next-start-requires (λ c. search needs) (λ c. search needs) loop-again returns)

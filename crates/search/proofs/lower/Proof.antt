@@ -9,10 +9,10 @@ use Rattle.search.proofs.lower.Statement.{statement}
 use Rattle.search.proofs.lower.Tie as tie
 
 abbrev Inv-loop : tie.InvT-loop
-Inv-loop b s samples starts k h lo₀ hi₀ up₀ reach₀ step₀ lo hi up reach step = Halved (heldTable b s starts) k h lo hi × (step < 4294967296)
+Inv-loop b s segments buckets k h lo₀ hi₀ up₀ reach₀ step₀ lo hi up reach step = Halved (heldTable b s buckets) k h lo hi × (step < 4294967296)
 
 abbrev μ-loop : tie.MeasureT-loop
-μ-loop b s samples starts k h lo₀ hi₀ up₀ reach₀ step₀ lo hi up reach step = hi - lo
+μ-loop b s segments buckets k h lo₀ hi₀ up₀ reach₀ step₀ lo hi up reach step = hi - lo
 
 loop-holds : tie.Need-loop-holds Inv-loop μ-loop
 loop-holds c = (halved-start _ _ _ _ (c .before .entry-count .ensures), search needs)

@@ -9,19 +9,19 @@ use Rattle.layout.specs.Layout.{valuesMost}
 use Rattle.strings.specs.Rules.{Resolved, Sized, Hashed}
 use Rattle.strings.specs.declared.Strings.{Strings}
 
--- The table that the code holds: it starts with its characters, and has as many buckets as there are starts.
+-- The table that the code holds: it starts with its characters, and has as many buckets as there are starts of buckets.
 abbrev pub heldTable : List ℕ → Strings → List ℕ → Table
-heldTable b s starts = table b (s .chars .at) (length starts)
+heldTable b s buckets = table b (s .chars .at) (length buckets)
 
 -- The parts are that table's, laid in a file that is small enough.
-pub record Held (b : List ℕ) (s : Strings) (samples starts : List ℕ) : Type 0 where
+pub record Held (b : List ℕ) (s : Strings) (segments buckets : List ℕ) : Type 0 where
   pub small : length b ≤ 1073741824
-  pub laid : TableLaid (heldTable b s starts) valuesMost
-  pub some-bucket : 1 ≤ length starts
+  pub laid : TableLaid (heldTable b s buckets) valuesMost
+  pub some-bucket : 1 ≤ length buckets
   pub chars : Mapped 2 b (s .chars .at) (s .chars)
-  pub sampled : Starts 2 b (s .chars .at) (s .chars .shift) samples
-  pub buckets : BucketStarts (heldTable b s starts) starts
-  pub list : s .list ≡ listAt (heldTable b s starts)
+  pub sampled : Starts 2 b (s .chars .at) (s .chars .shift) segments
+  pub bucket-starts : BucketStarts (heldTable b s buckets) buckets
+  pub list : s .list ≡ listAt (heldTable b s buckets)
 
 -- There is an entry j of bucket k.
 pub record Here (t : Table) (k j : ℕ) : Type 0 where

@@ -43,8 +43,8 @@ firstPlace b [] = Nothing
 firstPlace b (a ∷ l) = At (nodeOf b a)
 
 -- A file that is laid out and passed 16 to 19 and 23, and the region of its nodes.
-pub record TreeReady (b : List ℕ) (r : Region) (starts : List ℕ) : Type 0 where
+pub record TreeReady (b : List ℕ) (r : Region) (segments : List ℕ) : Type 0 where
   pub laid : LaidOut b
   pub nodes : Mapped nodeSize b (nodesAt b) r
-  pub sampled : Starts nodeSize b (nodesAt b) (r .shift) starts
+  pub sampled : Starts nodeSize b (nodesAt b) (r .shift) segments
   pub accepted : firstFault (allNodeChecks b) ≡ Accepted

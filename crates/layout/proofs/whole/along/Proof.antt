@@ -74,8 +74,8 @@ returns-4 c =
       «value_list» = λ e. v .list _ va;
       names-at = λ e. w .1;
       «name_list» = λ e. m .list _ na;
-      «value_buckets» = λ e. v .starts _ va;
-      «name_buckets» = λ e. m .starts _ na;
+      «value_buckets» = λ e. v .buckets _ va;
+      «name_buckets» = λ e. m .buckets _ na;
     }
 
 pub along-spec : {M : Type 1} → statement M

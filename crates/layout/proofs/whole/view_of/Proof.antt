@@ -65,11 +65,11 @@ returns c =
             «name_chars» = mm;
             «name_list» = g .«name_list» a;
           };
-      «attribute_starts» = own-starts am (c .before .before .before .before .before .before .before .before .before .before .sample-starts .ensures);
-      «node_starts» = own-starts nm (c .before .before .before .before .before .before .before .before .sample-starts2 .ensures);
+      «attribute_segments» = own-starts am (c .before .before .before .before .before .before .before .before .before .before .sample-starts .ensures);
+      «node_segments» = own-starts nm (c .before .before .before .before .before .before .before .before .sample-starts2 .ensures);
       «node_counts» = own-counts nm (counts .1);
-      «value_starts» = own-starts vm (c .before .before .before .before .sample-starts3 .ensures);
-      «name_starts» = own-starts mm (c .before .before .sample-starts4 .ensures);
+      «value_segments» = own-starts vm (c .before .before .before .before .sample-starts3 .ensures);
+      «name_segments» = own-starts mm (c .before .before .sample-starts4 .ensures);
       «value_buckets» = g .«value_buckets» a;
       «name_buckets» = g .«name_buckets» a;
     }

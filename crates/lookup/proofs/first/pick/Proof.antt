@@ -8,11 +8,11 @@ use Rattle.lookup.proofs.first.pick.Statement.{statement}
 use Rattle.lookup.proofs.first.pick.Tie as tie
 
 -- the entry is there
-here : (c : tie.After-entry-at) → let a = c .before .before .before .before .before .before .args in Here (heldTable (a .b .now) (a .s) (a .starts .now)) (c .before .before .before .bucket .result) (a .low)
+here : (c : tie.After-entry-at) → let a = c .before .before .before .before .before .before .args in Here (heldTable (a .b .now) (a .s) (a .buckets .now)) (c .before .before .before .bucket .result) (a .low)
 here c = here-in _ _ _ _ (c .before .before .before .bucket .ensures .1) (c .before .before .entry-count .ensures) (c .before .if1 .left)
 
 -- its text stands where it was located
-found : (c : tie.After-text-at) → let a = c .before .before .before .before .before .before .before .before .before .before .before .args in Standing (heldTable (a .b .now) (a .s) (a .starts .now)) (c .before .before .before .before .before .before .before .before .bucket .result) (a .low) (c .text-at .result) (a .n)
+found : (c : tie.After-text-at) → let a = c .before .before .before .before .before .before .before .before .before .before .before .args in Standing (heldTable (a .b .now) (a .s) (a .buckets .now)) (c .before .before .before .before .before .before .before .before .bucket .result) (a .low) (c .text-at .result) (a .n)
 found c = let p = c .before .before .before .before .before .before .before .before .before .before .before .pre in stands _ _ _ _ (p .1) (here (c .before .before .before .before .before)) (c .before .before .before .before .before .entry-at .ensures .0) _ (c .before .before .u32-at2 .ensures .0) (p .0 .laid) _ _ (c .text-at .ensures) (c .before .if3 .left)
 
 returns : tie.Need-returns

@@ -13,10 +13,10 @@ use Rattle.nodes.proofs.attribute.check_attributes.Statement.{statement
 use Rattle.nodes.proofs.attribute.check_attributes.Tie as tie
 
 abbrev Inv-loop : tie.InvT-loop
-Inv-loop b t names s samples starts p a n known doubts memo₀ i₀ memo i = (firstFault (nodeAttributeChecks b p) ≡ attributesLeft b p i) × Remembers (noted b) memo
+Inv-loop b t names s segments buckets p a n known doubts memo₀ i₀ memo i = (firstFault (nodeAttributeChecks b p) ≡ attributesLeft b p i) × Remembers (noted b) memo
 
 abbrev μ-loop : tie.MeasureT-loop
-μ-loop b t names s samples starts p a n known doubts memo₀ i₀ memo i = n - i
+μ-loop b t names s segments buckets p a n known doubts memo₀ i₀ memo i = n - i
 
 loop-holds : tie.Need-loop-holds Inv-loop μ-loop
 loop-holds c = (attributes-start _ _, c .before .before .pre .1 .5)

@@ -49,11 +49,11 @@ callees t = (
 )
 
 abbrev list-below-Inv-loop : list-below-lts.InvT-loop
-list-below-Inv-loop b nodes starts wanted n at a p list₀ k name c m₀ j₀ list m j =
+list-below-Inv-loop b nodes segments wanted n at a p list₀ k name c m₀ j₀ list m j =
     (j ≤ c .count) × Wrote list₀ k (passed b wanted n at (c .first) j) m list
 
 abbrev list-below-μ-loop : list-below-lts.MeasureT-loop
-list-below-μ-loop b nodes starts wanted n at a p list₀ k name c m₀ j₀ list m j = c .count - j
+list-below-μ-loop b nodes segments wanted n at a p list₀ k name c m₀ j₀ list m j = c .count - j
 
 -- there are as many indices as the code is told
 long : (t : ℕ) (s : list-below-lts.Start (callees t) (list-below-at t) list-below.Post list-below-Inv-loop list-below-μ-loop) → s .args .n ≤ length (s .args .wanted .now)

@@ -15,11 +15,11 @@ use Rattle.path.proofs.names.find_names.Statement.{statement}
 use Rattle.path.proofs.names.find_names.Tie as tie
 
 abbrev Inv-loop : tie.InvT-loop
-Inv-loop b t s samples starts path indices₀ known₀ n₀ at₀ indices known n at =
+Inv-loop b t s segments buckets path indices₀ known₀ n₀ at₀ indices known n at =
     (known ≡ true) × Sofar b path n at indices
 
 abbrev μ-loop : tie.MeasureT-loop
-μ-loop b t s samples starts path indices₀ known₀ n₀ at₀ indices known n at = length path - at
+μ-loop b t s segments buckets path indices₀ known₀ n₀ at₀ indices known n at = length path - at
 
 -- the index found is the name's
 bears : (c : tie.After-known-told Inv-loop μ-loop)

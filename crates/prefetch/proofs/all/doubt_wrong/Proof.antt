@@ -11,10 +11,10 @@ use Rattle.prefetch.proofs.all.doubt_wrong.Statement.{statement}
 use Rattle.prefetch.proofs.all.doubt_wrong.Tie as tie
 
 abbrev Inv-loop : tie.InvT-loop
-Inv-loop b t s samples starts slots n doubts₀ memo₀ j₀ doubts memo j = (length doubts ≡ 4096) × Examined b slots j doubts₀ doubts × Remembers (noted b) memo
+Inv-loop b t s segments buckets slots n doubts₀ memo₀ j₀ doubts memo j = (length doubts ≡ 4096) × Examined b slots j doubts₀ doubts × Remembers (noted b) memo
 
 abbrev μ-loop : tie.MeasureT-loop
-μ-loop b t s samples starts slots n doubts₀ memo₀ j₀ doubts memo j = n - j
+μ-loop b t s segments buckets slots n doubts₀ memo₀ j₀ doubts memo j = n - j
 
 loop-holds : tie.Need-loop-holds Inv-loop μ-loop
 loop-holds c = let p = c .before .before .pre in (p .7, examined-none _ _ _, p .8)

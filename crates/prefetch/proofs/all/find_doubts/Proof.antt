@@ -19,18 +19,18 @@ use Rattle.prefetch.proofs.all.find_doubts.Statement.{statement}
 use Rattle.prefetch.proofs.all.find_doubts.Tie as tie
 
 abbrev Inv-loop2 : tie.InvT-loop2
-Inv-loop2 b t attributes s samples starts packed doubts₀ memo₀ slots₀ known₀ at seg used el₀ doubts memo slots known el =
+Inv-loop2 b t attributes s segments buckets packed doubts₀ memo₀ slots₀ known₀ at seg used el₀ doubts memo slots known el =
     (el ≤ used) × (length slots ≡ 64) × (length doubts ≡ 4096) × Sure (NoDoubt doubts) known × RowsTrusted b doubts seg × ((i : ℕ) → i < el → Trusted b doubts (at + 8 + i * 12)) × Remembers (noted b) memo
 
 abbrev μ-loop2 : tie.MeasureT-loop2
-μ-loop2 b t attributes s samples starts packed doubts₀ memo₀ slots₀ known₀ at seg used el₀ doubts memo slots known el = used - el
+μ-loop2 b t attributes s segments buckets packed doubts₀ memo₀ slots₀ known₀ at seg used el₀ doubts memo slots known el = used - el
 
 abbrev Inv-loop : tie.InvT-loop
-Inv-loop b t attributes s samples starts packed doubts₀ memo₀ slots₀ known₀ at₀ seg₀ doubts memo slots known at seg =
+Inv-loop b t attributes s segments buckets packed doubts₀ memo₀ slots₀ known₀ at₀ seg₀ doubts memo slots known at seg =
     (seg ≤ attributes .count) × (at ≡ startOf attributeSize b (attributesAt b) seg) × (length slots ≡ 64) × (length doubts ≡ 4096) × Sure (NoDoubt doubts) known × RowsTrusted b doubts seg × Remembers (noted b) memo
 
 abbrev μ-loop : tie.MeasureT-loop
-μ-loop b t attributes s samples starts packed doubts₀ memo₀ slots₀ known₀ at₀ seg₀ doubts memo slots known at seg = attributes .count - seg
+μ-loop b t attributes s segments buckets packed doubts₀ memo₀ slots₀ known₀ at₀ seg₀ doubts memo slots known at seg = attributes .count - seg
 
 -- the segment that a turn is at lies in the file, and so does its used part
 turn : (c : tie.Then1 Inv-loop2 μ-loop2 Inv-loop μ-loop) → let at = c .before .before .loop .at in at + 8 + u32At (c .before .before .before .before .before .before .args .b .now) at * 12 ≤ length (c .before .before .before .before .before .before .args .b .now)

@@ -13,10 +13,10 @@ use Rattle.prefetch.proofs.steps.find_entries.Statement.{statement}
 use Rattle.prefetch.proofs.steps.find_entries.Tie as tie
 
 abbrev Inv-loop : tie.InvT-loop
-Inv-loop b s samples starts slots n hashes low j₀ j = AllFound b (heldTable b s starts) slots j
+Inv-loop b s segments buckets slots n hashes low j₀ j = AllFound b (heldTable b s buckets) slots j
 
 abbrev μ-loop : tie.MeasureT-loop
-μ-loop b s samples starts slots n hashes low j₀ j = n - j
+μ-loop b s segments buckets slots n hashes low j₀ j = n - j
 
 loop-holds : tie.Need-loop-holds Inv-loop μ-loop
 loop-holds c = below-none _

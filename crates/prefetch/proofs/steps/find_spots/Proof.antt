@@ -12,10 +12,10 @@ use Rattle.prefetch.proofs.steps.find_spots.Statement.{statement}
 use Rattle.prefetch.proofs.steps.find_spots.Tie as tie
 
 abbrev Inv-loop : tie.InvT-loop
-Inv-loop b chars samples slots n at₀ left₀ j₀ at left j = (length at ≡ 64) × (length left ≡ 64) × AllSpots b (chars .at) slots j at left × AllFit b j at left
+Inv-loop b chars segments slots n at₀ left₀ j₀ at left j = (length at ≡ 64) × (length left ≡ 64) × AllSpots b (chars .at) slots j at left × AllFit b j at left
 
 abbrev μ-loop : tie.MeasureT-loop
-μ-loop b chars samples slots n at₀ left₀ j₀ at left j = n - j
+μ-loop b chars segments slots n at₀ left₀ j₀ at left j = n - j
 
 fits : (c : tie.After-known-told Inv-loop μ-loop) → c .before .a .given .0 .0 + 2 * c .before .a .given .0 .1 .0 ≤ length (c .before .before .before .before .before .before .before .before .before .args .b .now)
 fits c = spot-fits _ _ _ _ (c .before .before .before .before .before .before .before .before .before .pre .0 .laid) (c .before .before .before .spot-to .ensures) (c .before .a .given .1)

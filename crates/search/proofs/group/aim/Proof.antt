@@ -7,10 +7,10 @@ use Rattle.search.proofs.group.aim.Statement.{statement}
 use Rattle.search.proofs.group.aim.Tie as tie
 
 abbrev Inv-loop : tie.InvT-loop
-Inv-loop b s samples starts hashes n met guess₀ at₀ j₀ guess at j = Aimed b j guess at
+Inv-loop b s segments buckets hashes n met guess₀ at₀ j₀ guess at j = Aimed b j guess at
 
 abbrev μ-loop : tie.MeasureT-loop
-μ-loop b s samples starts hashes n met guess₀ at₀ j₀ guess at j = n - j
+μ-loop b s segments buckets hashes n met guess₀ at₀ j₀ guess at j = n - j
 
 loop-holds : tie.Need-loop-holds Inv-loop μ-loop
 loop-holds c = let p = c .before .before .pre in aimed-none _ _ _ (p .4) (p .5)

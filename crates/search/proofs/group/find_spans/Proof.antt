@@ -7,10 +7,10 @@ use Rattle.search.proofs.group.find_spans.Statement.{statement}
 use Rattle.search.proofs.group.find_spans.Tie as tie
 
 abbrev Inv-loop : tie.InvT-loop
-Inv-loop b s samples starts hashes n met guess₀ first₀ last₀ j₀ guess first last j = Aimed b j guess first × Within b j last
+Inv-loop b s segments buckets hashes n met guess₀ first₀ last₀ j₀ guess first last j = Aimed b j guess first × Within b j last
 
 abbrev μ-loop : tie.MeasureT-loop
-μ-loop b s samples starts hashes n met guess₀ first₀ last₀ j₀ guess first last j = n - j
+μ-loop b s segments buckets hashes n met guess₀ first₀ last₀ j₀ guess first last j = n - j
 
 loop-holds : tie.Need-loop-holds Inv-loop μ-loop
 loop-holds c = let p = c .before .before .pre .4 in (aimed-none _ _ _ (p .first) (p .second), within-none _ _ (p .third))

@@ -8,10 +8,10 @@ use Rattle.search.proofs.group.settle.Statement.{statement}
 use Rattle.search.proofs.group.settle.Tie as tie
 
 abbrev Inv-loop : tie.InvT-loop
-Inv-loop b s samples starts hashes n low₀ guess least most j₀ low j = AllLow (heldTable b s starts) hashes j low
+Inv-loop b s segments buckets hashes n low₀ guess least most j₀ low j = AllLow (heldTable b s buckets) hashes j low
 
 abbrev μ-loop : tie.MeasureT-loop
-μ-loop b s samples starts hashes n low₀ guess least most j₀ low j = n - j
+μ-loop b s segments buckets hashes n low₀ guess least most j₀ low j = n - j
 
 loop-holds : tie.Need-loop-holds Inv-loop μ-loop
 loop-holds c = low-none _ _ _ (c .before .before .before .before .before .before .pre .4)

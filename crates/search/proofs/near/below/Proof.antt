@@ -10,10 +10,10 @@ use Rattle.search.proofs.near.below.Statement.{statement}
 use Rattle.search.proofs.near.below.Tie as tie
 
 abbrev Inv-loop : tie.InvT-loop
-Inv-loop b s samples starts k h w c₀ i₀ c i = (i ≤ 8) × Below (heldTable b s starts) k h w i c
+Inv-loop b s segments buckets k h w c₀ i₀ c i = (i ≤ 8) × Below (heldTable b s buckets) k h w i c
 
 abbrev μ-loop : tie.MeasureT-loop
-μ-loop b s samples starts k h w c₀ i₀ c i = 8 - i
+μ-loop b s segments buckets k h w c₀ i₀ c i = 8 - i
 
 loop-holds : tie.Need-loop-holds Inv-loop μ-loop
 loop-holds c = (omega arith, below-start _ _ _ _)

@@ -9,10 +9,10 @@ use Rattle.search.proofs.near.lower_few.Statement.{statement}
 use Rattle.search.proofs.near.lower_few.Tie as tie
 
 abbrev Inv-loop : tie.InvT-loop
-Inv-loop b s samples starts k h n c₀ i₀ c i = Filled (heldTable b s starts) k h n i c
+Inv-loop b s segments buckets k h n c₀ i₀ c i = Filled (heldTable b s buckets) k h n i c
 
 abbrev μ-loop : tie.MeasureT-loop
-μ-loop b s samples starts k h n c₀ i₀ c i = 8 - i
+μ-loop b s segments buckets k h n c₀ i₀ c i = 8 - i
 
 loop-holds : tie.Need-loop-holds Inv-loop μ-loop
 loop-holds c = filled-start _ _ _ _

@@ -7,10 +7,10 @@ use Rattle.search.proofs.run.run_has.Statement.{statement}
 use Rattle.search.proofs.run.run_has.Tie as tie
 
 abbrev Inv-loop : tie.InvT-loop
-Inv-loop b s samples starts k h low field w n j₀ j = Read (heldTable b s starts) k h field w n j
+Inv-loop b s segments buckets k h low field w n j₀ j = Read (heldTable b s buckets) k h field w n j
 
 abbrev μ-loop : tie.MeasureT-loop
-μ-loop b s samples starts k h low field w n j₀ j = n - j
+μ-loop b s segments buckets k h low field w n j₀ j = n - j
 
 loop-holds : tie.Need-loop-holds Inv-loop μ-loop
 loop-holds c = read-start _ _ _ _ _ _ _ (c .entry-count .ensures) (c .before .before .before .pre .3)

@@ -9,10 +9,10 @@ use Rattle.strings.proofs.ahead.find_stretches.Statement.{statement}
 use Rattle.strings.proofs.ahead.find_stretches.Tie as tie
 
 abbrev Inv-loop : tie.InvT-loop
-Inv-loop b s samples starts k j m at₀ left₀ i₀ at left i = Stood (heldTable b s starts) k j i at left
+Inv-loop b s segments buckets k j m at₀ left₀ i₀ at left i = Stood (heldTable b s buckets) k j i at left
 
 abbrev μ-loop : tie.MeasureT-loop
-μ-loop b s samples starts k j m at₀ left₀ i₀ at left i = m - i
+μ-loop b s segments buckets k j m at₀ left₀ i₀ at left i = m - i
 
 loop-holds : tie.Need-loop-holds Inv-loop μ-loop
 loop-holds c = stood-none (c .before .before .pre .4) (c .before .before .pre .5)

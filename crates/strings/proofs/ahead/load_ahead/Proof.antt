@@ -9,10 +9,10 @@ use Rattle.strings.proofs.ahead.load_ahead.Statement.{statement}
 use Rattle.strings.proofs.ahead.load_ahead.Tie as tie
 
 abbrev Inv-loop : tie.InvT-loop
-Inv-loop b s samples starts k j m at left seen₀ i₀ seen i = SeenBefore b i at left seen
+Inv-loop b s segments buckets k j m at left seen₀ i₀ seen i = SeenBefore b i at left seen
 
 abbrev μ-loop : tie.MeasureT-loop
-μ-loop b s samples starts k j m at left seen₀ i₀ seen i = m - i
+μ-loop b s segments buckets k j m at left seen₀ i₀ seen i = m - i
 
 loop-holds : tie.Need-loop-holds Inv-loop μ-loop
 loop-holds c = seen-none (c .before .before .pre .4)

@@ -7,10 +7,10 @@ use Rattle.strings.proofs.apart.apart_until.Statement.{statement}
 use Rattle.strings.proofs.apart.apart_until.Tie as tie
 
 abbrev Inv-loop : tie.InvT-loop
-Inv-loop b s samples starts k from end done₀ clear₀ done clear = Rounds (heldTable b s starts) k from done clear end
+Inv-loop b s segments buckets k from end done₀ clear₀ done clear = Rounds (heldTable b s buckets) k from done clear end
 
 abbrev μ-loop : tie.MeasureT-loop
-μ-loop b s samples starts k from end done₀ clear₀ done clear = clear - done
+μ-loop b s segments buckets k from end done₀ clear₀ done clear = clear - done
 
 loop-holds : tie.Need-loop-holds Inv-loop μ-loop
 loop-holds c = rounds-start _ _ _ _

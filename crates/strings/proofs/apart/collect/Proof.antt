@@ -9,10 +9,10 @@ use Rattle.strings.proofs.apart.collect.Statement.{statement}
 use Rattle.strings.proofs.apart.collect.Tie as tie
 
 abbrev Inv-loop : tie.InvT-loop
-Inv-loop b s samples starts k from most map₀ n₀ map n = Collecting (heldTable b s starts) k from n most map
+Inv-loop b s segments buckets k from most map₀ n₀ map n = Collecting (heldTable b s buckets) k from n most map
 
 abbrev μ-loop : tie.MeasureT-loop
-μ-loop b s samples starts k from most map₀ n₀ map n = most - n
+μ-loop b s segments buckets k from most map₀ n₀ map n = most - n
 
 loop-holds : tie.Need-loop-holds Inv-loop μ-loop
 loop-holds c = collecting-start _ _ _ _ _ (c .before .before .pre .4)

@@ -7,10 +7,10 @@ use Rattle.strings.proofs.apart.met.Statement.{statement}
 use Rattle.strings.proofs.apart.met.Tie as tie
 
 abbrev Inv-loop : tie.InvT-loop
-Inv-loop b s samples starts k from n j x map c₀ c = Meeting (heldTable b s starts) k from n j x map c
+Inv-loop b s segments buckets k from n j x map c₀ c = Meeting (heldTable b s buckets) k from n j x map c
 
 abbrev μ-loop : tie.MeasureT-loop
-μ-loop b s samples starts k from n j x map c₀ c = c
+μ-loop b s segments buckets k from n j x map c₀ c = c
 
 last-requires : tie.Need-last-requires Inv-loop μ-loop
 last-requires c κs = c .before .before .pre .4 .filled

@@ -6,10 +6,10 @@ use Rattle.strings.proofs.apart.run_end.Statement.{statement}
 use Rattle.strings.proofs.apart.run_end.Tie as tie
 
 abbrev Inv-loop : tie.InvT-loop
-Inv-loop b s samples starts k n j h i₀ i = (j ≤ i) × (i ≤ n)
+Inv-loop b s segments buckets k n j h i₀ i = (j ≤ i) × (i ≤ n)
 
 abbrev μ-loop : tie.MeasureT-loop
-μ-loop b s samples starts k n j h i₀ i = n - i
+μ-loop b s segments buckets k n j h i₀ i = n - i
 
 loop-holds : tie.Need-loop-holds Inv-loop μ-loop
 loop-holds c = (le-refl _, c .before .before .pre .2)

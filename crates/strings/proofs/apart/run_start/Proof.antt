@@ -7,10 +7,10 @@ use Rattle.strings.proofs.apart.run_start.Statement.{statement}
 use Rattle.strings.proofs.apart.run_start.Tie as tie
 
 abbrev Inv-loop : tie.InvT-loop
-Inv-loop b s samples starts k j h i₀ i = i ≤ j
+Inv-loop b s segments buckets k j h i₀ i = i ≤ j
 
 abbrev μ-loop : tie.MeasureT-loop
-μ-loop b s samples starts k j h i₀ i = i
+μ-loop b s segments buckets k j h i₀ i = i
 
 loop-holds : tie.Need-loop-holds Inv-loop μ-loop
 loop-holds c = le-refl _

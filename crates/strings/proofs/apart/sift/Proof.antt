@@ -11,10 +11,10 @@ use Rattle.strings.proofs.apart.sift.Statement.{statement}
 use Rattle.strings.proofs.apart.sift.Tie as tie
 
 abbrev Inv-loop : tie.InvT-loop
-Inv-loop b s samples starts k from n end map j₀ j = Clear (heldTable b s starts) k from n j × (j ≤ end)
+Inv-loop b s segments buckets k from n end map j₀ j = Clear (heldTable b s buckets) k from n j × (j ≤ end)
 
 abbrev μ-loop : tie.MeasureT-loop
-μ-loop b s samples starts k from n end map j₀ j = end - j
+μ-loop b s segments buckets k from n end map j₀ j = end - j
 
 add-j : tie.Need-add-j Inv-loop μ-loop
 add-j c = let p = c .before .before .pre in record { fits = omega (arith, p .2, p .3, few-entries _ _ _ _ (p .0) _ (p .1)) }
@@ -45,7 +45,7 @@ returns-2 c =
     let v = c .before .loop .inv in
     let s = c .before .before .before .before .args in
     let e : c .before .loop .j ≡ s .end = omega (arith, v .1, c .loop-test .left) in
-    (subst (Clear (heldTable (s .b .now) (s .s) (s .starts .now)) (s .k) (s .from) (s .n)) e (v .0), le-refl _)
+    (subst (Clear (heldTable (s .b .now) (s .s) (s .buckets .now)) (s .k) (s .from) (s .n)) e (v .0), le-refl _)
 
 pub sift-spec : {M : Type 1} → statement M
 sift-spec =

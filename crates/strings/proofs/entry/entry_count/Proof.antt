@@ -9,12 +9,12 @@ use Rattle.strings.proofs.entry.entry_count.Statement.{statement}
 use Rattle.strings.proofs.entry.entry_count.Tie as tie
 
 -- where the bucket ends, before another one and as the last
-inner : (c : tie.After-wide2) → let a = c .before .before .before .before .before .before .before .args in c .wide2 .result ≡ c .before .before .before .wide .result + 4 + 16 * entries (heldTable (a .b .now) (a .s) (a .starts .now)) (a .k)
+inner : (c : tie.After-wide2) → let a = c .before .before .before .before .before .before .before .args in c .wide2 .result ≡ c .before .before .before .wide .result + 4 + 16 * entries (heldTable (a .b .now) (a .s) (a .buckets .now)) (a .k)
 inner c =
     let p = c .before .before .before .before .before .before .before .pre in
-    ends-at _ _ _ _ (p .0) _ _ _ (p .1) (c .before .before .before .wide .ensures .0) (c .wide2 .ensures .0 ∙ p .0 .buckets .at _ (c .before .before .if1 .taken))
+    ends-at _ _ _ _ (p .0) _ _ _ (p .1) (c .before .before .before .wide .ensures .0) (c .wide2 .ensures .0 ∙ p .0 .bucket-starts .at _ (c .before .before .if1 .taken))
 
-last : (c : tie.After-struct-known) → let a = c .before .before .before .before .before .before .args in a .s .list ≡ c .before .before .wide .result + 4 + 16 * entries (heldTable (a .b .now) (a .s) (a .starts .now)) (a .k)
+last : (c : tie.After-struct-known) → let a = c .before .before .before .before .before .before .args in a .s .list ≡ c .before .before .wide .result + 4 + 16 * entries (heldTable (a .b .now) (a .s) (a .buckets .now)) (a .k)
 last c =
     let p = c .before .before .before .before .before .before .pre in
     ends-at _ _ _ _ (p .0) _ _ _ (p .1) (c .before .before .wide .ensures .0) (last-end _ _ _ _ (p .0) _ (p .1) (c .before .if1 .left))

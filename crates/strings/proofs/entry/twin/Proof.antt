@@ -10,10 +10,10 @@ use Rattle.strings.proofs.entry.twin.Statement.{statement}
 use Rattle.strings.proofs.entry.twin.Tie as tie
 
 abbrev Inv-loop : tie.InvT-loop
-Inv-loop b s samples starts k j from e h i₀ i = (i ≤ j) × Alone (heldTable b s starts) k j i
+Inv-loop b s segments buckets k j from e h i₀ i = (i ≤ j) × Alone (heldTable b s buckets) k j i
 
 abbrev μ-loop : tie.MeasureT-loop
-μ-loop b s samples starts k j from e h i₀ i = i
+μ-loop b s segments buckets k j from e h i₀ i = i
 
 loop-holds : tie.Need-loop-holds Inv-loop μ-loop
 loop-holds c = let p = c .before .before .before .before .pre in (p .3 .first, away-alone _ _ _ _ (p .3) (p .2))

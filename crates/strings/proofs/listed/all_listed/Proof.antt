@@ -11,10 +11,10 @@ use Rattle.strings.proofs.listed.all_listed.Statement.{statement}
 use Rattle.strings.proofs.listed.all_listed.Tie as tie
 
 abbrev Inv-loop : tie.InvT-loop
-Inv-loop b s samples starts k₀ k = (k ≤ length starts) × ((m : ℕ) → m < k → BucketIndexed (heldTable b s starts) m)
+Inv-loop b s segments buckets k₀ k = (k ≤ length buckets) × ((m : ℕ) → m < k → BucketIndexed (heldTable b s buckets) m)
 
 abbrev μ-loop : tie.MeasureT-loop
-μ-loop b s samples starts k₀ k = length starts - k
+μ-loop b s segments buckets k₀ k = length buckets - k
 
 loop-holds : tie.Need-loop-holds Inv-loop μ-loop
 loop-holds c = (search needs, below-none _)

@@ -11,10 +11,10 @@ use Rattle.strings.proofs.listed.bucket_listed.Statement.{statement}
 use Rattle.strings.proofs.listed.bucket_listed.Tie as tie
 
 abbrev Inv-loop : tie.InvT-loop
-Inv-loop b s samples starts k n j₀ j = (j ≤ n) × ((i : ℕ) → i < j → Indexed (heldTable b s starts) k i)
+Inv-loop b s segments buckets k n j₀ j = (j ≤ n) × ((i : ℕ) → i < j → Indexed (heldTable b s buckets) k i)
 
 abbrev μ-loop : tie.MeasureT-loop
-μ-loop b s samples starts k n j₀ j = n - j
+μ-loop b s segments buckets k n j₀ j = n - j
 
 loop-holds : tie.Need-loop-holds Inv-loop μ-loop
 loop-holds c = (search needs, below-none _)

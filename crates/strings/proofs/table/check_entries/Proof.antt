@@ -23,24 +23,24 @@ use Rattle.strings.proofs.table.check_entries.Statement.{statement}
 use Rattle.strings.proofs.table.check_entries.Tie as tie
 
 abbrev Inv-loop : tie.InvT-loop
-Inv-loop b t s samples starts right at₀ left₀ seen₀ fault₀ begun₀ k n span₀ j₀ at left seen fault begun span j =
-    (j ≤ n) × (n ≡ entries (heldTable b s starts) k) × (fault ≡ Accepted) × (firstFault (allEntryChecks (heldTable b s starts)) ≡ entriesLeft (heldTable b s starts) k j)
-    × ((i : ℕ) → i < j → firstFault (entryChecks (heldTable b s starts) k i) ≡ Accepted) × Ahead (heldTable b s starts) k j at left seen
-    × Sure (BegunBefore (heldTable b s starts) k × ((i : ℕ) → i < j → Begun (heldTable b s starts) k i)) begun
-    × Apart (heldTable b s starts) k (span .start) (span .end)
+Inv-loop b t s segments buckets right at₀ left₀ seen₀ fault₀ begun₀ k n span₀ j₀ at left seen fault begun span j =
+    (j ≤ n) × (n ≡ entries (heldTable b s buckets) k) × (fault ≡ Accepted) × (firstFault (allEntryChecks (heldTable b s buckets)) ≡ entriesLeft (heldTable b s buckets) k j)
+    × ((i : ℕ) → i < j → firstFault (entryChecks (heldTable b s buckets) k i) ≡ Accepted) × Ahead (heldTable b s buckets) k j at left seen
+    × Sure (BegunBefore (heldTable b s buckets) k × ((i : ℕ) → i < j → Begun (heldTable b s buckets) k i)) begun
+    × Apart (heldTable b s buckets) k (span .start) (span .end)
 
 abbrev μ-loop : tie.MeasureT-loop
-μ-loop b t s samples starts right at₀ left₀ seen₀ fault₀ begun₀ k n span₀ j₀ at left seen fault begun span j =
+μ-loop b t s segments buckets right at₀ left₀ seen₀ fault₀ begun₀ k n span₀ j₀ at left seen fault begun span j =
     n - j
 
 abbrev Inv-buckets : tie.InvT-buckets
-Inv-buckets b t s samples starts right at₀ left₀ seen₀ fault₀ begun₀ k₀ at left seen fault begun k =
-    (k ≤ length starts) × (fault ≡ Accepted) × (firstFault (allEntryChecks (heldTable b s starts)) ≡ bucketsLeft (heldTable b s starts) k)
-    × Room at left seen × Sure (BegunBefore (heldTable b s starts) k) begun
+Inv-buckets b t s segments buckets right at₀ left₀ seen₀ fault₀ begun₀ k₀ at left seen fault begun k =
+    (k ≤ length buckets) × (fault ≡ Accepted) × (firstFault (allEntryChecks (heldTable b s buckets)) ≡ bucketsLeft (heldTable b s buckets) k)
+    × Room at left seen × Sure (BegunBefore (heldTable b s buckets) k) begun
 
 abbrev μ-buckets : tie.MeasureT-buckets
-μ-buckets b t s samples starts right at₀ left₀ seen₀ fault₀ begun₀ k₀ at left seen fault begun k =
-    length starts - k
+μ-buckets b t s segments buckets right at₀ left₀ seen₀ fault₀ begun₀ k₀ at left seen fault begun k =
+    length buckets - k
 
 buckets-holds : tie.Need-buckets-holds Inv-loop μ-loop Inv-buckets μ-buckets
 buckets-holds c = (search needs, refl, left-start _, record { at-long = refl; left-long = refl; seen-long = refl }, λ z. below-none _)

@@ -34,11 +34,11 @@ abbrev callees : ℕ → find-deep-lts.Claims
 callees t = (children-of-reads.Asked, children-of-reads.Learnt, u16-at-reads.Asked, u16-at-reads.Learnt, find-deep-below t, find-deep.Post)
 
 abbrev find-deep-Inv-loop : find-deep-lts.InvT-loop
-find-deep-Inv-loop b nodes starts a p left k j₀ j =
+find-deep-Inv-loop b nodes segments a p left k j₀ j =
     (j ≤ k .count) × (firstPlace b (ends (treeOf b) left a) ≡ deepFrom b (left - 1) (k .first + j) (k .count - j))
 
 abbrev find-deep-μ-loop : find-deep-lts.MeasureT-loop
-find-deep-μ-loop b nodes starts a p left k j₀ j = k .count - j
+find-deep-μ-loop b nodes segments a p left k j₀ j = k .count - j
 
 -- the child lies in the file
 child : (t : ℕ) (c : find-deep-lts.Then2 (callees t) (find-deep-at t) find-deep.Post find-deep-Inv-loop find-deep-μ-loop)

@@ -16,16 +16,16 @@ use Rattle.tree.proofs.marks.mark_nodes.Statement.{statement}
 use Rattle.tree.proofs.marks.mark_nodes.Tie as tie
 
 abbrev Inv-loop : tie.InvT-loop
-Inv-loop b nodes starts counts used ws₀ fault₀ at seg n el₀ ws fault el = (n ≡ usedOf nodeSize b (nodesAt b) seg) × (fault ≡ Accepted) × AtNode b ws₀ seg el ws
+Inv-loop b nodes segments counts used ws₀ fault₀ at seg n el₀ ws fault el = (n ≡ usedOf nodeSize b (nodesAt b) seg) × (fault ≡ Accepted) × AtNode b ws₀ seg el ws
 
 abbrev μ-loop : tie.MeasureT-loop
-μ-loop b nodes starts counts used ws₀ fault₀ at seg n el₀ ws fault el = n - el
+μ-loop b nodes segments counts used ws₀ fault₀ at seg n el₀ ws fault el = n - el
 
 abbrev Inv-segments : tie.InvT-segments
-Inv-segments b nodes starts counts used ws₀ fault₀ at₀ seg₀ ws fault at seg = (fault ≡ Accepted) × AtSegment b ws₀ seg at ws
+Inv-segments b nodes segments counts used ws₀ fault₀ at₀ seg₀ ws fault at seg = (fault ≡ Accepted) × AtSegment b ws₀ seg at ws
 
 abbrev μ-segments : tie.MeasureT-segments
-μ-segments b nodes starts counts used ws₀ fault₀ at₀ seg₀ ws fault at seg = countOf b (nodesAt b) - seg
+μ-segments b nodes segments counts used ws₀ fault₀ at₀ seg₀ ws fault at seg = countOf b (nodesAt b) - seg
 
 add-at : tie.Need-add-at Inv-loop μ-loop Inv-segments μ-segments
 add-at c = let s = c .before .before .before .before .before .before .before in omega (arith, s .pre .0 .nodes .at-is, s .pre .0 .laid .nodes .head)

@@ -9,17 +9,17 @@ use Rattle.verdict.proofs.Scans.{scanned-end, scanned-fault, each-more, row-sam
 use Rattle.layout.specs.Table.{table, bucketAt, bucketChecks}
 use Rattle.layout.proofs.Filled.{Filled, filled-more, buckets-stop, buckets-done}
 use Rattle.layout.proofs.Accepted.{bucket-end}
-use Rattle.layout.proofs.tables.buckets.Statement.{statement}
-use Rattle.layout.proofs.tables.buckets.Tie as tie
+use Rattle.layout.proofs.tables.check_buckets.Statement.{statement}
+use Rattle.layout.proofs.tables.check_buckets.Tie as tie
 
 abbrev Inv-loop : tie.InvT-loop
-Inv-loop b at from starts₀ n p₀ k₀ starts p k =
-    (k ≤ length starts₀) × (length starts ≡ length starts₀) × (p ≤ length b) × (p ≡ bucketAt (table b at (length starts₀)) k)
+Inv-loop b at from starts₀ n p₀ k₀ buckets p k =
+    (k ≤ length starts₀) × (length buckets ≡ length starts₀) × (p ≤ length b) × (p ≡ bucketAt (table b at (length starts₀)) k)
     × (firstFault (each (bucketChecks (table b at (length starts₀))) (length starts₀) 0) ≡ firstFault (each (bucketChecks (table b at (length starts₀))) (length starts₀ - k) k))
-    × Filled (bucketAt (table b at (length starts₀))) k starts
+    × Filled (bucketAt (table b at (length starts₀))) k buckets
 
 abbrev μ-loop : tie.MeasureT-loop
-μ-loop b at from starts₀ n p₀ k₀ starts p k = length starts₀ - k
+μ-loop b at from starts₀ n p₀ k₀ buckets p k = length starts₀ - k
 
 loop-holds : tie.Need-loop-holds Inv-loop μ-loop
 loop-holds c = (search needs, refl, search needs, c .before .before .pre .0, row-same _ _ _ _ (omega arith), below-none _)
@@ -38,7 +38,7 @@ loop-again c =
       omega (arith, bucket-end _ _ (q .0), q .1),
       q .1,
       i .4 ∙ each-more _ _ _ _ (omega arith) (q .0),
-      filled-more _ _ _ (c .before .before .before .before .before .loop .starts) (i .5) (i .3) (omega arith),
+      filled-more _ _ _ (c .before .before .before .before .before .loop .buckets) (i .5) (i .3) (omega arith),
     )
 
 returns-2 : tie.Need-returns-2 Inv-loop μ-loop
@@ -46,8 +46,8 @@ returns-2 c =
     let i = c .before .loop .inv in
     buckets-done _ _ _ (i .1) (i .4) _ (omega arith) (i .3) (i .5)
 
-pub buckets-spec : {M : Type 1} → statement M
-buckets-spec =
+pub check-buckets-spec : {M : Type 1} → statement M
+check-buckets-spec =
     tie.close
     (tie.spec Inv-loop μ-loop loop-holds (λ c κs. search needs) (λ c. search needs) (λ c. search needs) (λ c. search needs)
     (λ c. search needs) (λ c. search needs) (λ c. search needs) returns (λ c. search needs) (λ c. search needs) loop-again
