@@ -20,9 +20,14 @@ foldTextBefore (c ∷ cs) = foldedBefore c ∷ foldTextBefore cs
 abbrev pub valueHashBefore : List ℕ → ℕ
 valueHashBefore cs = valueHashOf (hashText (foldTextBefore cs))
 
--- Two texts: `erdő` and one to which both folds give the same 14 bits.
+-- Two texts: `erdő` and `Kőfejtő és a főhős erői`.
 abbrev pub forest : List ℕ
 forest = 0x65 ∷ 0x72 ∷ 0x64 ∷ 0x151 ∷ []
+
+abbrev pub quarry : List ℕ
+quarry =
+    0x4b ∷ 0x151 ∷ 0x66 ∷ 0x65 ∷ 0x6a ∷ 0x74 ∷ 0x151 ∷ 0x20 ∷ 0xe9 ∷ 0x73 ∷ 0x20 ∷ 0x61 ∷ 0x20 ∷ 0x66 ∷ 0x151 ∷ 0x68 ∷ 0x151 ∷ 0x73 ∷ 0x20 ∷
+    0x65 ∷ 0x72 ∷ 0x151 ∷ 0x69 ∷ []
 
 pub record LetterMoved : Type 0 where
   -- 0151 stays; it was 0150. Every other character folds as before.
@@ -31,5 +36,6 @@ pub record LetterMoved : Type 0 where
   pub others : (c : ℕ) → (c ≡ 0x151 → ⊥) → folded c ≡ foldedBefore c
   -- A text without 0151 has the value hash that it had.
   pub without : (cs : List ℕ) → ((i : ℕ) → i < length cs → getD cs i 0 ≡ 0x151 → ⊥) → valueHash cs ≡ valueHashBefore cs
-  -- A text with it mostly has another ..
+  -- A text with it may have another, or the same.
   pub apart : valueHash forest ≡ valueHashBefore forest → ⊥
+  pub alike : valueHash quarry ≡ valueHashBefore quarry
