@@ -1,9 +1,10 @@
-//! Texts and hashes by the words of document 01 and request T-01, a character or a
-//! byte at a time: what the fast forms are compared with, and where wrong readings of
-//! the hashes differ.
+//! Texts and hashes by the words of document 01 and requests T-01 and T-10, a character
+//! or a byte at a time: what the fast forms are compared with, and where wrong readings
+//! of the hashes differ.
 
 use crate::crc_table::T;
 use crate::fold::fold;
+use crate::letter::{fold_at, with_capital};
 use crate::reading::{Mutant, Reading};
 
 /// The text at the start of some characters: those up to the first 0, or all of them
@@ -46,6 +47,9 @@ fn hashed<R: Reading>(reading: R, text: &[u8]) -> &[u8] {
 /// The string hash, on from `start` over all bytes of the text.
 pub fn hash_on<R: Reading>(reading: R, start: u32, text: &[u8]) -> u32 {
     let text = hashed(reading, text);
+    if reading.wrong(Mutant::StringHash0151) {
+        return steps(reading, start, &with_capital(text));
+    }
     if reading.wrong(Mutant::StartIgnored) {
         return steps(reading, 0, text);
     }
@@ -74,16 +78,23 @@ fn characters<R: Reading>(reading: R, text: &[u8]) -> impl Iterator<Item = u16> 
     all.take_while(move |&character| character != 0 || !zero_ends)
 }
 
+fn folded_characters<'a, R: Reading + 'a>(
+    reading: R,
+    text: &'a [u8],
+) -> impl Iterator<Item = u16> + 'a {
+    let all = characters(reading, text).enumerate();
+    all.map(move |(place, character)| fold_at(reading, text, place, character))
+}
+
 /// The folded characters of a text.
 pub fn folded<R: Reading>(reading: R, text: &[u8]) -> Vec<u8> {
-    let fold = |character| fold(reading, character).to_le_bytes();
-    characters(reading, text).flat_map(fold).collect()
+    folded_characters(reading, text).flat_map(u16::to_le_bytes).collect()
 }
 
 /// The string hash of the folded characters.
 pub fn folded_hash<R: Reading>(reading: R, text: &[u8]) -> u32 {
-    characters(reading, text)
-        .fold(0, |hash, character| steps(reading, hash, &fold(reading, character).to_le_bytes()))
+    folded_characters(reading, text)
+        .fold(0, |hash, character| steps(reading, hash, &character.to_le_bytes()))
 }
 
 /// The value hash of the whole characters of the text.

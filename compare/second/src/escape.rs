@@ -25,8 +25,9 @@ pub fn put_text<R: Reading>(reading: R, text: &[u8], sink: &mut impl Sink) {
         if stands(reading, character) {
             sink.put(&pair[..1]);
         } else {
+            let capital = character == 0x0151 && reading.wrong(Mutant::Outline0151);
             sink.put(b"\\");
-            put_hex(reading, character as u32, 4, sink);
+            put_hex(reading, character as u32 - capital as u32, 4, sink);
         }
     }
 }

@@ -4,6 +4,7 @@ use crate::bytes::u32_at;
 use crate::crowd::FEW;
 use crate::definition::folded_hash;
 use crate::hash::{bucket, string_hash};
+use crate::letter::is_same_but_for_it;
 use crate::prefetch::prefetch;
 use crate::reading::{Mutant, Reading};
 use crate::table::{Entry, Reader, Table, ENTRY};
@@ -189,5 +190,21 @@ pub fn find<R: Reading, const BUCKETS: usize>(
     sought.refine(file);
     let number = sought.first_entry(file);
     let same = |entry| bears(reading, reader, file, table, entry, text);
-    sought.entry(reading, file, number, same)
+    let found = sought.entry(reading, file, number, same);
+    found.or_else(|| find_either(reading, reader, file, table, text))
+}
+
+/// What a wrong reading finds that takes 0150 and 0151 for the same character, in any
+/// bucket.
+#[inline(always)]
+pub fn find_either<R: Reading, const BUCKETS: usize>(
+    reading: R,
+    reader: Reader,
+    file: &[u8],
+    table: &Table<BUCKETS>,
+    text: &[u8],
+) -> Option<Entry> {
+    let mutant = reader.either_letter(Table::<BUCKETS>::NAMES)?;
+    let same = |entry: &Entry| is_same_but_for_it(table.entry_text(file, *entry), text);
+    reading.wrong(mutant).then(|| table.entries(file).find(same)).flatten()
 }

@@ -1,17 +1,18 @@
 //! The fold of the value hash.
 
+use crate::letter::fold_above;
 use crate::reading::{Mutant, Reading, Right};
 
-/// One character, by the words of document 01.
+/// One character, by the words of document 01 and request T-10: 0151 stays.
 #[inline]
 pub fn fold<R: Reading>(reading: R, character: u16) -> u16 {
     match character {
         0x009c if !reading.wrong(Mutant::Fold009cStays) => 0x008c,
         0x00ff => 0x009f,
-        0x0151 if !reading.wrong(Mutant::Fold0151Stays) => 0x0150,
         0x00f7 if reading.wrong(Mutant::FoldF7) => 0x00d7,
         0x00f0 | 0x00f7 => character,
         0x0061..=0x007a | 0x00e0..=0x00fe => character - 0x20,
+        0x0100.. => fold_above(reading, character),
         _ => character,
     }
 }
@@ -76,7 +77,7 @@ fn fold_without_branch(character: u16) -> u16 {
     let among = |first, count| (character.wrapping_sub(first) < count) as u16;
     let stays = is(0xf0) | is(0xf7);
     let letter = among(0x61, 26) | among(0xe0, 31) & !stays;
-    character ^ (letter << 5) ^ (is(0x9c) << 4) ^ (is(0xff) * 0x60) ^ is(0x151)
+    character ^ (letter << 5) ^ (is(0x9c) << 4) ^ (is(0xff) * 0x60)
 }
 
 #[cfg(test)]
@@ -88,7 +89,8 @@ mod tests {
         assert_eq!(fold(Right, 0x00ff), 0x009f);
         assert_eq!(fold(Right, 0x00f7), 0x00f7);
         assert_eq!(fold(Right, 0x00f0), 0x00f0);
-        assert_eq!(fold(Right, 0x0151), 0x0150);
+        assert_eq!(fold(Right, 0x0151), 0x0151);
+        assert_eq!(fold(Right, 0x0150), 0x0150);
         assert_eq!(fold(Right, 0x009c), 0x008c);
         assert_eq!(fold(Right, 0x00fe), 0x00de);
         assert_eq!(fold(Right, 0x0060), 0x0060);
@@ -117,6 +119,26 @@ mod tests {
             let folded = fold_block(&block);
             assert_eq!(u16::from_le_bytes([folded[32], folded[33]]), right);
             assert_eq!(folded[..4], [0x41, 0, 0, 0]);
+        }
+    }
+
+    /// 0150 and 0151 at each place of a group and of a block, beside ASCII and others.
+    #[test]
+    fn the_letter_stays_at_every_place() {
+        for (letter, other) in [(0x0151u16, 0x61u16), (0x0151, 0xe1), (0x0150, 0x61)] {
+            for place in 0..BLOCK / 2 {
+                let character = |i| if i == place { letter } else { other };
+                let folded = |i| if i == place { letter } else { other - 0x20 };
+                let bytes = |of: &dyn Fn(usize) -> u16| {
+                    let all: Vec<u8> = (0..BLOCK / 2).flat_map(|i| of(i).to_le_bytes()).collect();
+                    all
+                };
+                let block: [u8; BLOCK] = bytes(&character).try_into().unwrap();
+                assert_eq!(fold_block(&block)[..], bytes(&folded));
+                let group = place / 4 * 8..place / 4 * 8 + 8;
+                let four = u64::from_le_bytes(block[group.clone()].try_into().unwrap());
+                assert_eq!(fold_four(four).to_le_bytes(), bytes(&folded)[group]);
+            }
         }
     }
 }

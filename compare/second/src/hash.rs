@@ -102,12 +102,13 @@ pub fn pack(bytes: &[u8]) -> u64 {
     packed
 }
 
-/// Whether a reading hashes by the definition: other hashes than document 01, or
+/// Whether a reading hashes by the definition: other hashes than the papers, or
 /// literally the same.
 #[inline(always)]
 pub fn otherwise<R: Reading>(reading: R) -> bool {
     let among = |mutants: &[Mutant]| mutants.iter().any(|&mutant| reading.wrong(mutant));
-    reading.literal() || among(Mutant::HASHES) || among(Mutant::HASHES_ALONE)
+    let hashes = [Mutant::HASHES, Mutant::HASHES_ALONE, Mutant::LETTER_HASHES];
+    reading.literal() || hashes.into_iter().any(among)
 }
 
 /// The string hash of a text given as bytes, two a character.

@@ -1,5 +1,5 @@
-//! A loader of plain data center files, written from document 01 and request T-01
-//! alone: the second program the proved library is compared with.
+//! A loader of plain data center files, written from document 01 and requests T-01,
+//! T-07 and T-10 alone: the second program the proved library is compared with.
 //!
 //! A file is lent as a byte slice with a workspace; it is checked whole and
 //! then answers questions. See `questions::Loader` for the exported questions
@@ -11,6 +11,7 @@ mod answer;
 mod bytes;
 mod careful;
 mod carry;
+mod codes;
 mod crc_table;
 mod crowd;
 mod cursor;
@@ -24,9 +25,12 @@ mod index;
 mod keys;
 mod known;
 mod layout;
+mod letter;
 mod literal;
 mod lookup;
 mod mix;
+mod mutant;
+mod mutant_groups;
 mod node;
 mod nodes;
 mod outline;
@@ -76,7 +80,7 @@ pub mod hashes {
         crate::definition::folded(Right, text)
     }
 
-    /// The hash by the words of document 01, a byte at a time.
+    /// The string hash by the words of document 01, a byte at a time.
     pub mod by_definition {
         use crate::definition;
         use crate::reading::Right;

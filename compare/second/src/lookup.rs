@@ -2,7 +2,7 @@
 
 use crate::answer::{Answer, Refusal, ABSENT};
 use crate::effort::Effort;
-use crate::find::{bears, find, lookup_hash, seek, Sought};
+use crate::find::{bears, find, find_either, lookup_hash, seek, Sought};
 use crate::index::Index;
 use crate::mix::Mixer;
 use crate::reading::{Mutant, Reading};
@@ -166,7 +166,7 @@ impl<R: Reading, I: Index> View<'_, R, I> {
                     effort.spend(if same { 0 } else { ENTRY });
                     same
                 });
-                self.put(found.map(|entry| self.number::<BUCKETS>(entry)), place);
+                self.put(self.batch_number(table, text, found), place);
             }
             answers = later;
         }
@@ -227,6 +227,18 @@ impl<R: Reading, I: Index> View<'_, R, I> {
             takes
         });
         *lengths = Filter::new();
+    }
+
+    /// What a batch answers for a text whose entry was found, or was not.
+    #[inline]
+    fn batch_number<const BUCKETS: usize>(
+        &self,
+        table: &Table<BUCKETS>,
+        text: &[u8],
+        found: Option<Entry>,
+    ) -> Option<u32> {
+        let either = || find_either(self.reading, Reader::Batch, self.file, table, text);
+        found.or_else(either).map(|entry| self.number::<BUCKETS>(entry))
     }
 
     /// Whether an entry bears a text of a batch.

@@ -38,9 +38,16 @@ struct Walk<'a, R, I: Index, K> {
 }
 
 impl<'a, R: Reading> NodeChecks<'a, R> {
+    pub fn run<I: Index>(&self, index: I) -> Result<(), Refusal> {
+        self.codes_before()?;
+        let outcome = self.in_order(index);
+        self.codes_behind(outcome)
+    }
+
     /// Node by node, and carefully from the node on where the effort has become too
     /// much.
-    pub fn run<I: Index>(&self, mut index: I) -> Result<(), Refusal> {
+    #[inline(always)]
+    fn in_order<I: Index>(&self, mut index: I) -> Result<(), Refusal> {
         let nodes = &self.layout.nodes;
         let first_used = nodes.segment(self.file, 0).map_or(0, |segment| segment.used);
         let later_root = self.reading.wrong(Mutant::RootInLaterSegment) && nodes.used > 0;
@@ -198,7 +205,7 @@ impl<'a, R: Reading> NodeChecks<'a, R> {
         while at < part.end {
             let attribute = Attribute::at(self.file, at);
             self.check_name(attribute.name, before, at)?;
-            self.check_value(attribute, at, &mut walk.pending)?;
+            self.check_value(self.taken(attribute, walk.reached), at, &mut walk.pending)?;
             before = attribute.name;
             at += ATTRIBUTE;
         }

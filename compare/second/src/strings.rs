@@ -7,6 +7,7 @@ use crate::find::bears;
 use crate::hash::{bucket, hash_on, otherwise, string_hash};
 use crate::index::{Index, Plain, Texts};
 use crate::layout::Layout;
+use crate::letter::{is_same_but_for_it, with_capital};
 use crate::literal::{self, Told};
 use crate::reading::{Mutant, Reading};
 use crate::region::Segment;
@@ -220,6 +221,9 @@ impl<'a, R: Reading, const BUCKETS: usize> TableChecks<'a, R, BUCKETS> {
         if self.reading.wrong(Mutant::AbsentZeroHashed) && !self.stores_zero(entry) {
             hash = hash_on(self.reading, hash, &[0, 0]);
         }
+        if self.reading.wrong(Mutant::NameHash0151) && Table::<BUCKETS>::NAMES {
+            hash = string_hash(self.reading, &with_capital(text));
+        }
         if hash != entry.hash {
             return refuse(9, at);
         }
@@ -277,7 +281,7 @@ impl<'a, R: Reading, const BUCKETS: usize> TableChecks<'a, R, BUCKETS> {
         while earlier > first {
             earlier -= ENTRY;
             let other = Entry::at(self.file, earlier);
-            if other.hash != entry.hash {
+            if other.hash != entry.hash && !self.reading.wrong(Mutant::Repeats0151) {
                 break;
             }
             effort.spend(ENTRY);
@@ -298,6 +302,9 @@ impl<'a, R: Reading, const BUCKETS: usize> TableChecks<'a, R, BUCKETS> {
         let Self { reading, file, table, .. } = *self;
         if reading.wrong(Mutant::RepeatsByHash) && other.length == entry.length {
             return true;
+        }
+        if reading.wrong(Mutant::Repeats0151) {
+            return is_same_but_for_it(table.entry_text(file, other), text);
         }
         let apart = reading.wrong(Mutant::RepeatsByStorage)
             && self.stores_zero(other) != self.stores_zero(entry);

@@ -78,6 +78,18 @@ impl Reader {
         }
     }
 
+    /// The wrong reading by which a lookup takes 0150 and 0151 for the same character.
+    #[inline(always)]
+    pub fn either_letter(self, names: bool) -> Option<Mutant> {
+        match (self, names) {
+            (Reader::Single, true) => Some(Mutant::NameLookup0151),
+            (Reader::Single, false) => Some(Mutant::ValueLookup0151),
+            (Reader::Batch, _) => Some(Mutant::Batch0151),
+            (Reader::Path, _) => Some(Mutant::Path0151),
+            (Reader::Repeat | Reader::Special | Reader::Outline, _) => None,
+        }
+    }
+
     /// Whether it reads an entry's text by its address, though the entry tells the
     /// length.
     #[inline(always)]

@@ -40,7 +40,13 @@ impl<'a, R: Reading, I: Index> View<'a, R, I> {
         if reading.wrong(Mutant::WorkspaceBeforeNodes) {
             tree.check_room(workspace)?;
         }
-        NodeChecks { reading, file, layout, special }.run(index)?;
+        let nodes = NodeChecks { reading, file, layout, special };
+        if reading.wrong(Mutant::CodesAfterTree) {
+            nodes.without_codes()?;
+            tree.check_room(workspace)?;
+            tree.check(&mut workspace.to_vec())?;
+        }
+        nodes.run(index)?;
         tree.check_room(workspace)?;
         tree.check(workspace)
     }

@@ -8,7 +8,7 @@ use crate::layout::Layout;
 use crate::node::{Node, NODE};
 
 /// Offsets of all used nodes in file order.
-fn node_offsets(file: &[u8], layout: &Layout) -> Vec<usize> {
+pub fn node_offsets(file: &[u8], layout: &Layout) -> Vec<usize> {
     let segments = layout.nodes.in_order(file);
     segments
         .flat_map(|segment| (0..segment.used as usize).map(move |i| segment.first + NODE * i))
@@ -41,6 +41,25 @@ pub fn held(file: &[u8], layout: &Layout) -> Vec<bool> {
         }
     }
     held
+}
+
+/// For each used node, whether a chain reaches it. A range that does not resolve, which
+/// may not have been checked yet, leads nowhere.
+pub fn reached(file: &[u8], layout: &Layout) -> Vec<bool> {
+    let offsets = node_offsets(file, layout);
+    let mut reached = vec![false; offsets.len()];
+    let mut open = vec![0];
+    while let Some(position) = open.pop() {
+        let node = Node::at(file, offsets[position]);
+        if node.name == 0 || std::mem::replace(&mut reached[position], true) {
+            continue;
+        }
+        let segment = layout.nodes.segment(file, node.child_address.segment);
+        if segment.is_some_and(|segment| segment.holds(node.child_address.element, node.children)) {
+            open.extend(child_positions(file, layout, offsets[position]));
+        }
+    }
+    reached
 }
 
 /// Offset of the first node whose range meets the given one.
