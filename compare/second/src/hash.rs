@@ -106,9 +106,7 @@ pub fn pack(bytes: &[u8]) -> u64 {
 /// literally the same.
 #[inline(always)]
 pub fn otherwise<R: Reading>(reading: R) -> bool {
-    let among = |mutants: &[Mutant]| mutants.iter().any(|&mutant| reading.wrong(mutant));
-    let hashes = [Mutant::HASHES, Mutant::HASHES_ALONE, Mutant::LETTER_HASHES];
-    reading.literal() || hashes.into_iter().any(among)
+    reading.literal() || reading.changes_hashes()
 }
 
 /// The string hash of a text given as bytes, two a character.

@@ -50,8 +50,8 @@ const BY_PLACE: [Mutant; 18] = [
 /// only to wrong readings.
 #[inline(always)]
 pub fn fold_at<R: Reading>(reading: R, text: &[u8], place: usize, character: u16) -> u16 {
-    let by_place = BY_PLACE.iter().any(|&mutant| reading.wrong(mutant));
-    if by_place && character == LETTER && is_old(reading, text, place) {
+    let by_place = || BY_PLACE.iter().any(|&mutant| reading.wrong(mutant));
+    if character == LETTER && by_place() && is_old(reading, text, place) {
         return CAPITAL;
     }
     fold(reading, character)

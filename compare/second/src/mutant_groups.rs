@@ -83,4 +83,25 @@ impl Mutant {
         Mutant::Path0151,
         Mutant::Outline0151,
     ];
+
+    /// Whether it changes the hashes of texts.
+    pub fn changes_hashes(self) -> bool {
+        CHANGES_HASHES[self as usize]
+    }
 }
+
+/// By the number of each: it is asked for every text.
+static CHANGES_HASHES: [bool; Mutant::ALL.len()] = {
+    let groups = [Mutant::HASHES, Mutant::HASHES_ALONE, Mutant::LETTER_HASHES];
+    let mut all = [false; Mutant::ALL.len()];
+    let mut group = 0;
+    while group < groups.len() {
+        let mut number = 0;
+        while number < groups[group].len() {
+            all[groups[group][number] as usize] = true;
+            number += 1;
+        }
+        group += 1;
+    }
+    all
+};

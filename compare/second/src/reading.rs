@@ -16,6 +16,12 @@ pub trait Reading: Copy {
     fn literal(self) -> bool {
         false
     }
+
+    /// Whether hashes of texts are other ones than the papers'.
+    #[inline(always)]
+    fn changes_hashes(self) -> bool {
+        false
+    }
 }
 
 #[derive(Clone, Copy, Debug, Default)]
@@ -50,5 +56,10 @@ impl Reading for Wrong {
     #[inline]
     fn wrong(self, mutant: Mutant) -> bool {
         self.0 == mutant
+    }
+
+    #[inline]
+    fn changes_hashes(self) -> bool {
+        self.0.changes_hashes()
     }
 }
