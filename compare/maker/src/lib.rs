@@ -7,6 +7,7 @@ pub mod damage;
 pub mod dropped;
 pub mod ends;
 pub mod large;
+pub mod letter;
 pub mod model;
 pub mod rich;
 pub mod rng;

@@ -1,8 +1,11 @@
 //! Sample files for reading along: the smallest, the same with its last 0 stored, a
-//! small shop, the shop damaged, and one whose outline is too long for the program.
+//! small shop, the shop damaged, one whose outline is too long for the program, and
+//! Hungarian items whose value hashes go by the fold and by the one of before.
 
 use crate::attributes::{text_attribute, Runs};
 use crate::collide::{hash, twin};
+use crate::letter::rule::Rule;
+use crate::letter::sample::hungarian;
 use crate::model::{Addr, Attr, Model, Node, Segment};
 use crate::rich::index_of;
 use crate::rng::Rng;
@@ -24,6 +27,8 @@ pub fn all() -> Vec<Sample> {
         Sample { name: "shop.dc", bytes: shop.bytes() },
         Sample { name: "shop-damaged.dc", bytes: damaged(shop).bytes() },
         Sample { name: "long-outline.dc", bytes: long_outline().bytes() },
+        Sample { name: "hungarian.dc", bytes: hungarian(Rule::Now).bytes() },
+        Sample { name: "hungarian-before.dc", bytes: hungarian(Rule::Before).bytes() },
     ]
 }
 
@@ -195,6 +200,8 @@ mod tests {
         assert!(starts(2, "accepted "));
         assert!(starts(3, "refused 21 at "));
         assert!(starts(4, "refused 26 at "));
+        assert!(starts(5, "accepted 6662\n__root__\n  Item id=i:501 title=s:Erd\\0151-"));
+        assert!(starts(6, "refused 19 at 92\n"));
         assert!(outputs.iter().all(|output| output.0 <= 32_768));
         let shop = String::from_utf8_lossy(&outputs[2].1);
         for shown in ["=i:-2147483648", "=b:true", "=b:false", "=f:7fc00001", "=s:Iron\\0020sword"]

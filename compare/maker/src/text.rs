@@ -12,6 +12,11 @@ pub fn to_bytes(text: &[u16]) -> Vec<u8> {
     text.iter().flat_map(|c| c.to_le_bytes()).collect()
 }
 
+/// The whole characters of some bytes.
+pub fn from_bytes(bytes: &[u8]) -> Text {
+    bytes.chunks_exact(2).map(|two| u16::from_le_bytes([two[0], two[1]])).collect()
+}
+
 /// Characters the outline escapes or the value hash folds, and their neighbours.
 const ODD: [u16; 40] = [
     0x01, 0x09, 0x0a, 0x20, 0x21, 0x22, 0x23, 0x3c, 0x3d, 0x3e, 0x5b, 0x5c, 0x5d, 0x60, 0x61, 0x7a,

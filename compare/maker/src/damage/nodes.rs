@@ -4,6 +4,7 @@ use second::hashes::string_hash;
 
 use super::{damage, Damage};
 use crate::attributes::text_attribute;
+use crate::letter::rule::Rule;
 use crate::model::{Addr, Attr, Model, Node, Region};
 use crate::rng::Rng;
 use crate::text::to_bytes;
@@ -131,6 +132,19 @@ pub const ALL: &[Damage] = &[
             let text = text_at(&chars, address).unwrap_or(&[]);
             let plain = string_hash(&to_bytes(text)) as u16 & 0x3fff;
             attribute.type_word = plain << 2 | 3;
+        })
+    }),
+    damage(19, "value hash by the fold of before", |model, rng| {
+        let chars = model.values.chars.clone();
+        let told = |attribute: &Attr| {
+            let address = (attribute.word as u16, (attribute.word >> 16) as u16);
+            let before = Rule::Before.value_hash(text_at(&chars, address).unwrap_or(&[]));
+            (attribute.type_word & 3 == 3).then_some(before << 2 | 3)
+        };
+        let differs =
+            |attribute: &Attr| told(attribute).is_some_and(|it| it != attribute.type_word);
+        edit_attribute(model, rng, differs, |attribute, _| {
+            attribute.type_word = told(attribute).unwrap_or_default();
         })
     }),
     damage(19, "address inside a text, with that end's value hash", |model, rng| {
