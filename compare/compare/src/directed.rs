@@ -6,9 +6,9 @@ use maker::ends::{ends, specs, Ends, Spec};
 use maker::rng::Rng;
 use maker::shapes::{smallest, smallest_stored};
 use maker::text::Text;
-use second::Answer;
 
 use crate::case::{can_take, Case};
+use crate::told::Told;
 
 /// Lengths whose files are edited. Those up to 20 have files at every place of a group of
 /// four, of which one is edited.
@@ -85,21 +85,20 @@ fn damaged(rng: &mut Rng, spec: Spec) -> Option<Case> {
 
 /// The smallest file, with its last 0 and without, a byte less and a byte more: what
 /// acceptance has to answer.
-pub fn fixed() -> Vec<(Case, Answer)> {
-    let accepted = Answer { refusal: 0, kind: 0, value: 1 };
-    let refused = |refusal, value| Answer { refusal, kind: 0, value };
+pub fn fixed() -> Vec<(Case, Told)> {
+    let told = |refusal, value| Told { refusal, value: Some(value), workspace: 1 };
     let mut all = Vec::new();
     for (made, length) in [(smallest(), 6_332), (smallest_stored(), 6_334)] {
         let case = Case::of(&made, &mut Rng::new(0), format!("smallest of {length} bytes"));
-        let mut resized = |bytes: usize, answer: Answer| {
+        let mut resized = |bytes: usize, told: Told| {
             let mut file = case.bytes.clone();
             file.resize(bytes, 0);
-            all.push((case.with(file, format!("{}, now {bytes}", case.words)), answer));
+            all.push((case.with(file, format!("{}, now {bytes}", case.words)), told));
         };
-        resized(length, accepted);
-        resized(length - 1, refused(2, length as u64 - 4));
-        resized(length + 1, refused(6, length as u64));
-        resized(0, refused(2, 0));
+        resized(length, told(0, 1));
+        resized(length - 1, told(2, length as u64 - 4));
+        resized(length + 1, told(6, length as u64));
+        resized(0, told(2, 0));
     }
     all
 }

@@ -8,6 +8,7 @@ use second::program::{to_frames, FILE_BYTES};
 
 use crate::case::random;
 use crate::directed;
+use crate::letter;
 
 /// A file as lines of random lengths.
 fn uneven_frames(rng: &mut Rng, file: &[u8]) -> Vec<u8> {
@@ -56,11 +57,13 @@ const LINES: [&[u8]; 19] = [
     b"100000000 06\n",
 ];
 
-/// Of the files whose texts end with the used part, one in so many.
-const ENDS: usize = 16;
+/// Of the files whose texts end with the used part, and of those with the letter 0151, one
+/// in so many.
+const DIRECTED: usize = 16;
 
 /// Files that have to come as they are: the smallest with its last 0 and without, a byte
-/// less and a byte more; texts that end with the used part; and the samples.
+/// less and a byte more; texts that end with the used part; texts with the letter 0151;
+/// and the samples.
 fn files() -> Vec<Vec<u8>> {
     let mut all = vec![Vec::new(), stretched(FILE_BYTES)];
     for file in [smallest(), smallest_stored()].map(|made| made.model.bytes()) {
@@ -68,7 +71,8 @@ fn files() -> Vec<Vec<u8>> {
         all.push([&file[..], &[0]].concat());
         all.push(file);
     }
-    all.extend(directed::cases(1).step_by(ENDS).map(|case| case.bytes));
+    all.extend(directed::cases(1).step_by(DIRECTED).map(|case| case.bytes));
+    all.extend(letter::cases(1).step_by(DIRECTED).map(|(case, _)| case.bytes));
     all.extend(samples::all().into_iter().map(|sample| sample.bytes));
     all.retain(|file| file.len() <= FILE_BYTES);
     all

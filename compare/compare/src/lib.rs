@@ -7,6 +7,7 @@ pub mod guard;
 pub mod hashes;
 pub mod inputs;
 pub mod lengths;
+pub mod letter;
 pub mod loader;
 pub mod program;
 pub mod question;
@@ -17,6 +18,7 @@ pub mod sparse;
 pub mod sweep;
 pub mod tally;
 pub mod texts;
+pub mod told;
 
 use loader::{Loader, Second};
 use second::{Careful, Literal, Marked, Right};

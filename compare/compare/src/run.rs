@@ -7,14 +7,13 @@ use maker::rng::Rng;
 use second::hashes::folded;
 use second::{Plain, Right};
 
-use crate::asks::{asks, every};
+use crate::asks::asks;
 use crate::case::{random, Case};
-use crate::directed;
 use crate::guard::Edge;
 use crate::hashes::{self, HashAsk, HashQuestion};
 use crate::lengths;
 use crate::loader::{Loader, Second};
-use crate::question::{Ask, Pages, Question, Reply};
+use crate::question::{Ask, Pages, Question};
 use crate::sparse::Largest;
 use crate::sweep::{changed_bytes, changed_words, cut_counts, cuts, limits};
 use crate::tally::{describe, describe_hash, Tally};
@@ -44,10 +43,10 @@ pub struct Plan {
 }
 
 pub struct Run {
-    plan: Plan,
-    right: Second<Right, Plain>,
+    pub(crate) plan: Plan,
+    pub(crate) right: Second<Right, Plain>,
     others: Vec<Box<dyn Loader>>,
-    pages: Pages,
+    pub(crate) pages: Pages,
     pub tally: Tally,
 }
 
@@ -71,6 +70,7 @@ impl Run {
             self.largest();
             self.every_length(&mut rng);
             self.directed(&mut rng);
+            self.letters(&mut rng);
             for make in limits() {
                 let case = make(&mut rng);
                 self.case(&mut rng, &case);
@@ -104,7 +104,7 @@ impl Run {
         self.questions(case, &asks(rng, case));
     }
 
-    fn questions(&mut self, case: &Case, questions: &[Question]) {
+    pub(crate) fn questions(&mut self, case: &Case, questions: &[Question]) {
         self.tally.files += 1;
         for edge in [Edge::End, Edge::Start] {
             self.pages.put_file(&case.bytes, edge);
@@ -129,49 +129,23 @@ impl Run {
         }
     }
 
-    /// Files whose texts end with the used part.
-    fn directed(&mut self, rng: &mut Rng) {
-        for case in directed::cases(self.plan.seed) {
-            let before = self.tally.questions;
-            self.questions(&case, &every(rng, &case));
-            self.tally.directed += 1;
-            self.tally.of_directed += self.tally.questions - before;
-        }
-    }
-
-    /// The smallest file: its answers are told by the papers.
-    fn smallest(&mut self) {
-        for (case, told) in directed::fixed() {
-            let question = Question { workspace: 1, ..PLAIN };
-            self.questions(&case, std::slice::from_ref(&question));
-            self.pages.put_file(&case.bytes, question.edge);
-            let answer = self.pages.ask_put(&self.right, &case.bytes, &question);
-            if answer.as_ref().map(|outcome| outcome.reply) != Some(Reply::Answer(told)) {
-                let words = format!(
-                    "told: {told:?}\n{}",
-                    describe(&case, &question, answer.as_ref(), None)
-                );
-                let kept = ("difference.dc", &case.bytes[..]);
-                differs(&mut self.tally, &self.plan, "the papers", &words, kept);
-            }
-        }
-    }
-
     /// Texts that are hashed before any file is.
     fn texts(&mut self, rng: &mut Rng) {
         let mut all = texts::ordinary(rng);
         if self.plan.full {
             all.extend(texts::long(rng));
+            all.extend(texts::long_letters(rng));
         }
         for text in &all {
             self.text(rng, text);
         }
+        self.letter_texts(rng);
         self.pairs(rng);
     }
 
     /// A text whole and in parts, and its folded form, which has to have the
     /// same value hash.
-    fn text(&mut self, rng: &mut Rng, text: &[u8]) {
+    pub(crate) fn text(&mut self, rng: &mut Rng, text: &[u8]) {
         for question in hashes::questions(rng, text) {
             self.hash(text, &question);
         }
@@ -250,7 +224,13 @@ impl Run {
 }
 
 /// Counts a difference. The first is told, and its file or text is kept.
-fn differs(tally: &mut Tally, plan: &Plan, title: &str, words: &str, kept: (&str, &[u8])) {
+pub(crate) fn differs(
+    tally: &mut Tally,
+    plan: &Plan,
+    title: &str,
+    words: &str,
+    kept: (&str, &[u8]),
+) {
     tally.differences += 1;
     if tally.differences > 1 {
         return;

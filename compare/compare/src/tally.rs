@@ -14,6 +14,9 @@ pub struct Tally {
     /// Files with texts that end with the used part, and questions about them.
     pub directed: u64,
     pub of_directed: u64,
+    /// Files with the letter 0151, and questions about them.
+    pub letters: u64,
+    pub of_letters: u64,
     /// How often each refusal was answered; 0 is answered without one.
     pub refusals: [u64; 27],
     /// Questions for the hashes of a text by itself.
@@ -45,6 +48,7 @@ impl fmt::Display for Tally {
         writeln!(out, "files:       {}", self.files)?;
         writeln!(out, "questions:   {}", self.questions)?;
         writeln!(out, "directed:    {}, questions {}", self.directed, self.of_directed)?;
+        writeln!(out, "letter 0151: {}, questions {}", self.letters, self.of_letters)?;
         writeln!(out, "answered:    {}", self.refusals[0])?;
         for (number, count) in self.refusals.iter().enumerate().skip(1) {
             writeln!(out, "refusal {number:2}:  {count}")?;

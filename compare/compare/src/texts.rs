@@ -3,8 +3,11 @@
 
 use std::collections::HashMap;
 
+use maker::letter::alike::{ITEM, PHRASE};
+use maker::letter::rule::{CAPITAL, LETTER};
+use maker::letter::words::WORDS;
 use maker::rng::Rng;
-use maker::text::{every_odd, to_bytes, Text};
+use maker::text::{every_odd, text, to_bytes, Text};
 use second::hashes::value_hash;
 
 /// Sorts of characters.
@@ -47,6 +50,43 @@ pub fn ordinary(rng: &mut Rng) -> Vec<Vec<u8>> {
     let mut all: Vec<Vec<u8>> = (0..=24).map(|bytes| random(rng, bytes)).collect();
     all.extend((0..40).map(|_| short(rng)));
     all
+}
+
+/// Texts of 1 to 20 characters with 0151 at each place, its capital beside it now and
+/// then; the same character alone; and words.
+pub fn letters(rng: &mut Rng) -> Vec<Vec<u8>> {
+    let mut all: Vec<Vec<u8>> = Vec::new();
+    for length in 1..=20 {
+        for place in 0..length {
+            let mut text = random(rng, 2 * length);
+            if rng.one_in(2) {
+                put(&mut text, (place + 1) % length, CAPITAL);
+            }
+            put(&mut text, place, LETTER);
+            all.push(text);
+        }
+        all.extend([LETTER, CAPITAL].map(|letter| to_bytes(&vec![letter; length])));
+    }
+    let words = WORDS.into_iter().chain([PHRASE, ITEM]);
+    all.extend(words.map(|word| to_bytes(&text(word))));
+    all
+}
+
+/// Long texts with 0151 at both ends, or where a program may change its way.
+pub fn long_letters(rng: &mut Rng) -> Vec<Vec<u8>> {
+    let places =
+        [(65, [0, 31, 63, 64]), (130, [1, 32, 65, 129]), (4_102, [0, 4_095, 4_096, 4_101])];
+    let each = places.into_iter().flat_map(|(length, places)| places.map(|place| (length, place)));
+    let with = |(length, place): (usize, usize)| {
+        let mut text = random(rng, 2 * length);
+        put(&mut text, place, LETTER);
+        text
+    };
+    each.map(with).collect()
+}
+
+fn put(text: &mut [u8], place: usize, character: u16) {
+    text[2 * place..2 * place + 2].copy_from_slice(&character.to_le_bytes());
 }
 
 /// Texts on both sides of lengths where a program may change its way, and two
