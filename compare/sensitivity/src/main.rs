@@ -13,11 +13,12 @@ use compare::case::{random, Case};
 use compare::directed;
 use compare::guard::Edge;
 use compare::hashes;
+use compare::letter;
 use compare::question::Question;
 use compare::run::PLAIN;
 use compare::sparse::Largest;
 use compare::sweep::{cut_counts, cuts, limits};
-use compare::texts::ordinary;
+use compare::texts;
 use maker::rng::Rng;
 use second::Mutant;
 
@@ -70,12 +71,27 @@ fn files(suspects: &mut Suspects, seed: u64) {
     }
 }
 
-/// The texts that every comparison hashes.
-fn texts(suspects: &mut Suspects, seed: u64) {
+/// The files with the letter 0151, for the wrong readings of request T-10.
+fn letters(suspects: &mut Suspects, seed: u64) {
     let mut rng = Rng::new(seed);
-    for text in ordinary(&mut rng) {
+    for (made, _) in letter::cases(seed) {
+        if suspects.all_caught() {
+            return;
+        }
+        ask(suspects, &made, &letter::questions(&mut rng, &made));
+    }
+}
+
+/// The texts that every comparison hashes, and long ones with the letter.
+fn texts_alone(suspects: &mut Suspects, seed: u64) {
+    let mut rng = Rng::new(seed);
+    let ordinary = texts::ordinary(&mut rng);
+    for text in [ordinary, texts::letters(&mut rng), texts::long_letters(&mut rng)].concat() {
         for question in hashes::questions(&mut rng, &text) {
             suspects.hash(&text, &question);
+        }
+        if suspects.all_caught() {
+            return;
         }
     }
 }
@@ -85,14 +101,18 @@ fn main() -> ExitCode {
     // A mutant may run into its own mistake and panic; that is a difference
     // too, and needs no words of its own.
     std::panic::set_hook(Box::new(|_| {}));
-    let alone = Mutant::HASHES_ALONE.iter().copied();
-    let shown = Mutant::ALL.iter().copied().filter(|mutant| !Mutant::HASHES_ALONE.contains(mutant));
+    let of_letter = [Mutant::LETTER_HASHES, Mutant::LETTER_FILES].concat();
+    let mut by_letter = Suspects::new(of_letter.iter().copied());
+    letters(&mut by_letter, seed);
+    let elsewhere = [Mutant::HASHES_ALONE, &of_letter].concat();
+    let shown = Mutant::ALL.iter().copied().filter(|mutant| !elsewhere.contains(mutant));
     let mut by_files = Suspects::new(shown);
     files(&mut by_files, seed);
-    let mut by_texts = Suspects::new(Mutant::HASHES.iter().copied().chain(alone));
-    texts(&mut by_texts, seed);
-    print!("files:\n{by_files}texts by themselves:\n{by_texts}");
-    if by_files.all_caught() && by_texts.all_caught() {
+    let hashes = [Mutant::HASHES, Mutant::HASHES_ALONE, Mutant::LETTER_HASHES].concat();
+    let mut by_texts = Suspects::new(hashes.into_iter());
+    texts_alone(&mut by_texts, seed);
+    print!("files:\n{by_files}files with 0151:\n{by_letter}texts by themselves:\n{by_texts}");
+    if [by_files, by_letter, by_texts].iter().all(Suspects::all_caught) {
         ExitCode::SUCCESS
     } else {
         ExitCode::FAILURE
