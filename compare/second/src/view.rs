@@ -41,8 +41,7 @@ impl<'a, R: Reading, I: Index> View<'a, R, I> {
             tree.check_room(workspace)?;
         }
         let nodes = NodeChecks { reading, file, layout, special };
-        if reading.wrong(Mutant::CodesAfterTree) {
-            nodes.without_codes()?;
+        if reading.wrong(Mutant::CodesAfterTree) && nodes.without_codes().is_ok() {
             tree.check_room(workspace)?;
             tree.check(&mut workspace.to_vec())?;
         }
