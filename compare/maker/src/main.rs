@@ -1,11 +1,15 @@
 //! Writes made files: `maker samples DIRECTORY`, `maker large MEGABYTES FILE`,
 //! with the word `shuffled` behind it for texts that stand anywhere or `dropped` for
-//! segments whose last text has no stored 0, or `maker trap NAME KILOBYTES FILE`.
+//! segments whose last text has no stored 0, or `maker trap NAME KILOBYTES FILE`. Prints
+//! texts with 0151 that both folds give one value hash: `maker alike`.
 
 use std::path::Path;
 use std::process::ExitCode;
 
 use maker::large::{large, Order};
+use maker::letter::alike::phrases;
+use maker::letter::rule::Rule;
+use maker::text::text;
 
 fn run(words: &[&str]) -> std::io::Result<bool> {
     match words {
@@ -41,9 +45,17 @@ fn run(words: &[&str]) -> std::io::Result<bool> {
             std::fs::write(file, &bytes)?;
             println!("{file}: {} bytes, refusal {}", bytes.len(), trap.refusal);
         }
+        ["alike"] => phrases().iter().for_each(|phrase| alike(phrase)),
         _ => return Ok(false),
     }
     Ok(true)
+}
+
+/// A phrase, its value hash, and the hashes of its folded characters by both folds.
+fn alike(phrase: &str) {
+    let [now, before] = [Rule::Now, Rule::Before].map(|rule| rule.hash(&text(phrase)));
+    let (length, kept) = (phrase.chars().count(), now & 0x3fff);
+    println!("{length} {phrase}: {kept}, of {now:08x} and of {before:08x}");
 }
 
 fn main() -> ExitCode {
@@ -54,6 +66,7 @@ fn main() -> ExitCode {
         Ok(false) => {
             eprintln!("maker samples DIRECTORY | maker large MEGABYTES FILE [shuffled|dropped]");
             eprintln!("maker trap NAME KILOBYTES FILE, with the names of `bench traps`");
+            eprintln!("maker alike");
             ExitCode::from(2)
         }
         Err(error) => {
