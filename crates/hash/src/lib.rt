@@ -419,7 +419,8 @@ pub fn fold(c: usize) -> usize
     fold_any(c)
 }
 
-// Two characters folded, each in its half of the word.
+// Two characters folded, each in its half of the word. The two ways for the low half make this too long for the compiler to inline: inlined
+// twice, it would keep fold_quad from being inlined, and ordinary texts would pay a call for each step.
 fn fold_pair(w: usize) -> usize
     requires { ⌜ w < 2 ^ 32 ⌝ }
     ensures { λ r. ⌜ FoldedPair w r ⌝ }
@@ -427,7 +428,10 @@ fn fold_pair(w: usize) -> usize
     if w & 0xff80_ff80 == 0 {
         return fold_low(w);
     }
-    fold(w & 65535) | (fold(w >> 16) << 16)
+    if w & 0xff80 == 0 {
+        return fold(w & 65535) | (fold(w >> 16) << 16);
+    }
+    fold_any(w & 65535) | (fold(w >> 16) << 16)
 }
 
 // Four characters, two in each word.

@@ -4,3 +4,4 @@ pub mod Computed
 pub mod Splice
 pub mod Pigeon
 pub mod Zeros
+pub mod Halving
