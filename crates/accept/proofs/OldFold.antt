@@ -19,7 +19,7 @@ use Rattle.nodes.proofs.OldFold.{not-both, attribute-moved, nodes-moved, right-
 use Rattle.tree.specs.Outcome.{treeChecks}
 use Rattle.accept.specs.Verdict.{acceptChecks, verdictOf}
 use Rattle.accept.specs.Refusals.{UsedNode}
-use Rattle.accept.specs.OldFold.{checksWith, verdictOldFold, BuiltBefore, BuiltNow, LiveDiffer, AtDiffering, FoldMoved}
+use Rattle.accept.specs.OldFold.{checksWith, verdictOldFold, BuiltBefore, LiveDiffer, AtDiffering, FoldMoved}
 
 module _ (b : List ℕ) where
   -- what is behind the nodes' checks is told

@@ -5,9 +5,9 @@ use native.Mathlib.Numerals.{add-one}
 use native.Mathlib.Omega.{arith}
 use mathlib.Core.Path.{_≡_, refl, ap, subst, sym, _∙_}
 use mathlib.Core.Logic.{⊎-elim}
-use lib.Dec.{ltb, lit<}
+use lib.Dec.{lit<}
 use borrow.Author.Tests.{lt-ltb, le-ltb}
-use Rattle.laws.specs.Halving.{Ascending, FirstNotBelow, middle, halving, Rounds}
+use Rattle.laws.specs.Halving.{Ascending, FirstNotBelow, middle, halving, Rounds, HalvingLaws}
 use Rattle.laws.proofs.Order.{le-or-lt}
 
 -- ---- rounds
@@ -88,6 +88,23 @@ module _ (lo hi : ℕ) (l : lo < hi) where
   some-left : (left : ℕ) → hi < lo + 2 ^ left → 1 ≤ left
   some-left zero h = absurd (omega arith)
   some-left (suc k) h = omega arith
+
+module _ (f : ℕ → ℕ) (x : ℕ) where
+  -- .. and once nothing is left, rounds more change nothing
+  more-rounds : (left more lo hi : ℕ) → hi < lo + 2 ^ left → halving f x (left + more) lo hi ≡ halving f x left lo hi
+  more-rounds zero more lo hi h = halving-end f x (zero + more) lo hi (omega arith) ∙ sym (halving-end f x zero lo hi (omega arith))
+  more-rounds (suc left) more lo hi h =
+      let e : suc left + more ≡ suc (left + more) = omega arith in
+      rw e
+      (⊎-elim
+      (λ l. halving-end f x (suc (left + more)) lo hi l ∙ sym (halving-end f x (suc left) lo hi l))
+      (λ l. ⊎-elim
+      (λ g. halving-down f x (left + more) lo hi l g ∙ more-rounds left more lo (middle lo hi) (half-down lo hi l left h)
+      ∙ sym (halving-down f x left lo hi l g))
+      (λ g. halving-up f x (left + more) lo hi l g ∙ more-rounds left more (middle lo hi + 1) hi (half-up lo hi l left h)
+      ∙ sym (halving-up f x left lo hi l g))
+      (le-or-lt x (f (middle lo hi))))
+      (le-or-lt hi lo))
 
 -- ---- what a loop cites: the rounds left and what they lead to
 
@@ -189,8 +206,16 @@ module _ (f : ℕ → ℕ) (n x : ℕ) (up : Ascending f n) where
       (le-or-lt hi lo)
 
   -- k rounds are enough for n numbers
-  pub halving-first : (k : ℕ) → Rounds n k → FirstNotBelow f n x (halving f x k 0 n)
-  halving-first k e =
-      found k 0 n
-      (record { low = omega arith; high = omega arith; below = λ m l. absurd (omega arith); above = λ m a c. absurd (omega arith) })
-      (omega (arith, e .enough))
+  pub halving-laws : (k : ℕ) → Rounds n k → HalvingLaws f n x k
+  halving-laws k e = record {
+    first = found k 0 n (between-all) (omega (arith, e .enough));
+    stopped = λ more. more-rounds f x k more 0 n (omega (arith, e .enough));
+  }
+    where
+      between-all : Between f n x 0 n
+      between-all = record {
+        low = omega arith;
+        high = omega arith;
+        below = λ m l. absurd (omega arith);
+        above = λ m a c. absurd (omega arith);
+      }

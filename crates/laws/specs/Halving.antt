@@ -1,5 +1,6 @@
 -- The search by halving (request T-03), over any numbers that do not fall: f i is the number at place i.
 use Prim.Native.Nat.{ℕ, zero, suc, _+_, _-_, _/_, _^_, _≤_, _<_}
+use mathlib.Core.Path.{_≡_}
 use mathlib.Core.Bool.{cond}
 use lib.Dec.{ltb}
 
@@ -29,3 +30,10 @@ halving f x (suc left) lo hi =
 pub record Rounds (n k : ℕ) : Type 0 where
   pub enough : n < 2 ^ k
   pub least : (m : ℕ) → n < 2 ^ m → k ≤ m
+
+-- What is proved of it, by proofs/Halving `halving-laws`, where the n numbers do not fall and k is the least number with 2 to the k above n.
+pub record HalvingLaws (f : ℕ → ℕ) (n x k : ℕ) : Type 0 where
+  -- It stops at the first place whose number is not below x, or at n where there is none ..
+  pub first : FirstNotBelow f n x (halving f x k 0 n)
+  -- .. and it does so after at most k rounds: rounds more change nothing.
+  pub stopped : (more : ℕ) → halving f x (k + more) 0 n ≡ halving f x k 0 n

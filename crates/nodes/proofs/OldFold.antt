@@ -1,11 +1,11 @@
 -- Request T-10 moved refusal 19 and nothing else of the nodes' checks. Assumes nothing.
-use Prim.Native.Nat.{ℕ, _≤_, _<_}
+use Prim.Native.Nat.{ℕ, _<_}
 use native.Mathlib.Omega.{arith}
 use native.Mathlib.Decide.{ℕ-discrete}
 use mathlib.Core.Path.{_≡_, sym, _∙_}
 use mathlib.Core.Logic.{inl, inr, by-cases}
-use mathlib.Core.List.{List, [], _∷_, _++_}
-use Rattle.verdict.specs.Checks.{Check, check, each}
+use mathlib.Core.List.{List, [], _∷_}
+use Rattle.verdict.specs.Checks.{check}
 use Rattle.verdict.proofs.Laws.{Clean, pass, stop, clean-inv, append-inv, each-inv}
 use Rattle.verdict.proofs.Same.{SameOr, same-all, same-append, same-each}
 use Rattle.words.specs.Words.{typeOf}

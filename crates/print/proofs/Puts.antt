@@ -1,7 +1,7 @@
 -- Laws of `overlay`, `sat` and `Put`: nothing put, one byte, two runs one after the other, a run put in steps, and the whole
 -- of what was put at the front. Assumes nothing.
 use mathlib.Core.Path.{_≡_, refl, sym, ap, _∙_}
-use mathlib.Core.Logic.{_⊎_, ⊎-elim}
+use mathlib.Core.Logic.{⊎-elim}
 use mathlib.Core.List.{List, [], _∷_, _++_}
 use Prim.Native.Nat.{ℕ, zero, suc, _+_, _≤_, _<_}
 use native.Mathlib.Nat.{not-suc-le-zero, le-of-suc-le-suc, suc-add, add-zero, zero-add}

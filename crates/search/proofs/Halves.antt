@@ -1,54 +1,32 @@
--- The search of a bucket: what is left of it between two probes. Assumes nothing.
-use Prim.Native.Nat.{ℕ, _+_, _*_, _^_, _≤_, _<_}
+-- The search of a bucket by halving, in a table whose entries ascend by hash. Assumes nothing.
+use Prim.Native.Nat.{ℕ, _*_, _^_, _≤_, _<_}
 use native.Mathlib.Nat.{mul-le-mul}
 use native.Mathlib.Omega.{arith}
 use mathlib.Core.Path.{_≡_}
-use borrow.Author.Count.{below-none}
+use Rattle.laws.specs.Halving.{Ascending}
+use Rattle.laws.proofs.Halving.{halving-laws}
+use Rattle.verdict.specs.Checks.{firstFault}
+use Rattle.verdict.specs.declared.Verdict.the-variants.{Accepted}
 use Rattle.verdict.proofs.Laws.{Clean}
 use Rattle.layout.specs.Table.{Table, entries, hashOf}
-use Rattle.strings.specs.Order.{allEntryChecks}
-use Rattle.search.specs.inner.Lower.{Lower}
+use Rattle.strings.specs.Order.{allEntryChecks, stringChecks}
+use Rattle.strings.proofs.Accepted.{strings-parts}
 use Rattle.strings.proofs.Only.{rises}
+use Rattle.search.specs.Bucket.{BucketSearch}
+use Rattle.search.specs.inner.Lower.{Lower, Halved}
 
--- hashes below lo are below h, from hi on they are not
-pub record Halved (t : Table) (k h lo hi : ℕ) : Type 0 where
-  pub low : lo ≤ hi
-  pub high : hi ≤ entries t k
-  pub below : (m : ℕ) → m < lo → hashOf t k m < h
-  pub above : (m : ℕ) → hi ≤ m → m < entries t k → h ≤ hashOf t k m
+-- the hashes of a bucket ascend
+pub bucket-ascends : (t : Table) → Clean (allEntryChecks t) → (k : ℕ) → k < t .buckets → Ascending (hashOf t k) (entries t k)
+bucket-ascends t ok k b i j a c = rises t ok k i j b a c
 
-pub halved-start : (t : Table) (k h n : ℕ) → n ≡ entries t k → Halved t k h 0 n
-halved-start t k h n e = record {
-  low = omega arith;
-  high = omega (arith, e);
-  below = below-none _;
-  above = λ m a b. omega (arith, e);
-}
+-- the halving, in a table that passed 7 to 13
+pub bucket-search : (t : Table) → firstFault (stringChecks t) ≡ Accepted → BucketSearch t
+bucket-search t ok b h k l r = halving-laws (hashOf t b) (entries t b) h (bucket-ascends t (strings-parts t ok .0) b l) k r
 
-module _ (t : Table) (k h lo hi : ℕ) (r : Halved t k h lo hi) where
-  module _ (ok : Clean (allEntryChecks t)) (b : k < t .buckets) (m w : ℕ) (a : lo ≤ m) (c : m < hi) (e : w ≡ hashOf t k m) where
-    pub halved-up : w < h → Halved t k h (m + 1) hi
-    halved-up l = record {
-      low = omega arith;
-      high = r .high;
-      below = λ i g. let z = rises t ok k i m b (omega arith) (omega (arith, r .high)) in omega (arith, e);
-      above = r .above;
-    }
-
-    pub halved-down : h ≤ w → Halved t k h lo m
-    halved-down l = record {
-      low = a;
-      high = omega (arith, r .high);
-      below = r .below;
-      above = λ i g f. let z = rises t ok k m i b g f in omega (arith, e);
-    }
-
-  pub halved-end : hi ≤ lo → Lower t k h lo
-  halved-end l = record {
-    upto = omega (arith, r .low, r .high);
-    below = r .below;
-    above = λ m a c. r .above m (omega (arith, r .low)) c;
-  }
+-- where the halving stops is the first entry whose hash is not below h
+pub halved-lower : (t : Table) (k h r : ℕ) → Clean (allEntryChecks t) → k < t .buckets → Halved t k h r → Lower t k h r
+halved-lower t k h r ok b w =
+    rw (w .stops) (halving-laws (hashOf t k) (entries t k) h (bucket-ascends t ok k b) (w .rounds) (w .allowed) .first)
 
 -- a distance of hashes times a number of entries: what a guess is made of
 pub distance-fits : (d n : ℕ) → d ≤ 2 ^ 33 → n ≤ 2 ^ 30 → d * n ≤ 2 ^ 63

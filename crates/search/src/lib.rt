@@ -1,14 +1,10 @@
-// The search of a bucket by hash, in a string table whose entries passed 7 to 12. The hashes of an ordinary file are spread evenly, so
-// that about h * n / 2^32 of a bucket's n entries stand before h: it is looked for there first. No guess is wrong, a near one saves looks.
-ghost use mathlib.Core.Path.{_≡_};
+// The search of a bucket by hash, in a string table whose entries passed 7 to 12: by halving, and for many hashes at once first where each
+// is to be expected. The hashes of an ordinary file are spread evenly, so that about h * n / 2^32 of a bucket's n entries stand before h.
 ghost use Prim.Native.Nat.{_≤_, _<_, _^_};
 ghost use lib.ListN.{length};
-ghost use Rattle.verdict.specs.Checks.{firstFault};
-ghost use Rattle.verdict.specs.declared.Verdict.the-variants.{Accepted};
-ghost use Rattle.layout.specs.Table.{entries};
-ghost use Rattle.strings.specs.Order.{allEntryChecks};
+ghost use Rattle.laws.specs.Halving.{Rounds};
 ghost use Rattle.strings.specs.inner.Held.{Held, heldTable};
-ghost use Rattle.search.specs.inner.Lower.{Lower};
+ghost use Rattle.search.specs.inner.Lower.{Halved};
 
 pub mod group;
 mod near;
@@ -30,41 +26,22 @@ fn expected(n: usize, h: usize, g: usize, w: usize) -> usize
     if r - n < n { r - n } else { n - 1 }
 }
 
-// The place of hash h among the n entries of bucket k, as one look at the table lets expect it. No hash has more than 32 bits, so an h
-// that has is cut.
-fn guess(
-    b: &[u8],
-    s: Strings,
-    segments: &[u32; 1024],
-    buckets: &[u32],
-    k: usize,
-    n: usize,
-    h: usize,
-) -> usize
-    requires { ⌜ Held (now b) s (now segments) (now buckets) × (k < length (now buckets))
-        × (n ≡ entries (heldTable (now b) s (now buckets)) k) ⌝ }
+// The least k with 2 to the k above n.
+fn rounds(n: usize) -> usize
+    requires { ⌜ n ≤ 2 ^ 30 ⌝ }
+    ensures { λ r. ⌜ Rounds n r ⌝ }
 {
-    if n == 0 {
-        return 0;
+    let mut k = 0usize;
+    let mut p = 1usize;
+    while p <= n {
+        p = p * 2;
+        k += 1;
     }
-    let j = expected(n, h % 4294967296, 0, 0);
-    let e = entry::entry_at(b, s, segments, buckets, k, j);
-    expected(n, h % 4294967296, j, le::u32_at(b, e))
-}
-// The entry to look at next: reach entries from the end that moved last, or the middle where that is not between the ends.
-fn probe(lo: usize, hi: usize, up: bool, reach: usize) -> usize
-    requires { ⌜ lo < hi ⌝ }
-    ensures { λ r. ⌜ (lo ≤ r) × (r < hi) ⌝ }
-{
-    if reach >= hi - lo {
-        return lo + (hi - lo) / 2;
-    }
-    if up { lo + reach } else { hi - 1 - reach }
+    k
 }
 
-// The first entry of bucket k whose hash is not below h, or the number of entries. From the guess it goes on by 0, 1, 3, 7, ..
-// entries, and by halves once a step would lead out of what is left: four or five probes in an ordinary file, and never more
-// than about twice as many as by halves alone. The last step is 2^32 - 1, longer than any bucket.
+// The first entry of bucket k whose hash is not below h, or the number of entries, by halving. `left` is the number of rounds left; a
+// round reads one entry.
 pub fn lower(
     b: &[u8],
     s: Strings,
@@ -73,26 +50,20 @@ pub fn lower(
     k: usize,
     h: usize,
 ) -> usize
-    requires { ⌜ Held (now b) s (now segments) (now buckets) × (k < length (now buckets))
-        × (firstFault (allEntryChecks (heldTable (now b) s (now buckets))) ≡ Accepted) ⌝ }
-    ensures { λ r. ⌜ Lower (heldTable (now (b .entry)) s (now (buckets .entry))) k h r ⌝ }
+    requires { ⌜ Held (now b) s (now segments) (now buckets) × (k < length (now buckets)) ⌝ }
+    ensures { λ r. ⌜ Halved (heldTable (now (b .entry)) s (now (buckets .entry))) k h r ⌝ }
 {
     let mut lo = 0;
     let mut hi = entry::entry_count(b, s, segments, buckets, k);
-    let mut up = true;
-    let mut reach = guess(b, s, segments, buckets, k, hi, h);
-    let mut step = 0;
+    let mut left = rounds(hi);
     while lo < hi {
-        let mid = probe(lo, hi, up, reach);
-        reach = step;
-        step = (2 * step + 1) % 4294967296;
+        left -= 1;
+        let mid = lo + (hi - lo) / 2;
         let e = entry::entry_at(b, s, segments, buckets, k, mid);
         if le::u32_at(b, e) < h {
             lo = mid + 1;
-            up = true;
         } else {
             hi = mid;
-            up = false;
         }
     }
     lo

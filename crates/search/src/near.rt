@@ -2,19 +2,16 @@
 ghost use mathlib.Core.Path.{_≡_};
 ghost use Prim.Native.Nat.{_+_, _≤_, _<_};
 ghost use lib.ListN.{length};
-ghost use Rattle.verdict.specs.Checks.{firstFault};
 ghost use Rattle.verdict.specs.inner.Tells.{Tells};
-ghost use Rattle.verdict.specs.declared.Verdict.the-variants.{Accepted};
-ghost use Rattle.layout.specs.Table.{entries};
-ghost use Rattle.strings.specs.Order.{allEntryChecks};
+ghost use Rattle.layout.specs.Table.{entries, hashOf};
 ghost use Rattle.strings.specs.inner.Held.{Held, heldTable};
-ghost use Rattle.search.specs.inner.Lower.{Lower, Below, Capped, Settled};
+ghost use Rattle.search.specs.inner.Lower.{Near, countBelow, atMost, countFew, Settled};
 use strings::Strings;
 use strings::entry;
 
-// How many of the eight entries of bucket k from entry w on have hashes below h: they ascend, so these come first. All are counted, since
-// nothing then hangs on a single one that a processor could guess wrong.
-fn below(
+// How many of the eight entries of bucket k from entry w on have hashes below h. Where hashes ascend these come first. All are counted, since
+// a branch for each would be mispredicted.
+fn count_below(
     b: &[u8],
     s: Strings,
     segments: &[u32; 1024],
@@ -24,9 +21,8 @@ fn below(
     w: usize,
 ) -> usize
     requires { ⌜ Held (now b) s (now segments) (now buckets) × (k < length (now buckets))
-        × (firstFault (allEntryChecks (heldTable (now b) s (now buckets))) ≡ Accepted)
         × (w + 8 ≤ entries (heldTable (now b) s (now buckets)) k) ⌝ }
-    ensures { λ r. ⌜ Below (heldTable (now (b .entry)) s (now (buckets .entry))) k h w 8 r ⌝ }
+    ensures { λ r. ⌜ (r ≡ countBelow (hashOf (heldTable (now (b .entry)) s (now (buckets .entry))) k) h w 8) × (r ≤ 8) ⌝ }
 {
     let mut c = 0usize;
     let mut i = 0;
@@ -43,14 +39,14 @@ fn below(
 // Entry i of n, or the last one.
 fn at_most(i: usize, n: usize) -> usize
     requires { ⌜ 1 ≤ n ⌝ }
-    ensures { λ r. ⌜ Capped i n r ⌝ }
+    ensures { λ r. ⌜ r ≡ atMost i n ⌝ }
 {
     if i < n { i } else { n - 1 }
 }
 
-// The first entry of bucket k whose hash is not below h, or the number of entries, n, where these are one to eight. Eight are counted, the
-// last one as often as it takes: a turn more or less for each bucket would be guessed wrong.
-fn lower_few(
+// How many of the n entries of bucket k, one to eight, have hashes below h. Eight are read, the last one as often as it takes: a loop whose
+// length differs from bucket to bucket would be mispredicted.
+fn count_few(
     b: &[u8],
     s: Strings,
     segments: &[u32; 1024],
@@ -60,9 +56,8 @@ fn lower_few(
     n: usize,
 ) -> usize
     requires { ⌜ Held (now b) s (now segments) (now buckets) × (k < length (now buckets))
-        × (firstFault (allEntryChecks (heldTable (now b) s (now buckets))) ≡ Accepted)
-        × (n ≡ entries (heldTable (now b) s (now buckets)) k) × (1 ≤ n) × (n ≤ 8) ⌝ }
-    ensures { λ r. ⌜ Lower (heldTable (now (b .entry)) s (now (buckets .entry))) k h r ⌝ }
+        × (n ≡ entries (heldTable (now b) s (now buckets)) k) × (1 ≤ n) ⌝ }
+    ensures { λ r. ⌜ r ≡ countFew (hashOf (heldTable (now (b .entry)) s (now (buckets .entry))) k) h n ⌝ }
 {
     let mut c = 0usize;
     let mut i = 0;
@@ -98,8 +93,8 @@ fn settled(w: usize, c: usize, n: usize) -> bool
     true
 }
 
-// The first entry of bucket k whose hash is not below h, or the number of entries, looked for in eight entries from g on. No guess is
-// wrong; a far one costs the search without it.
+// The first entry of bucket k whose hash is not below h, or the number of entries, where hashes ascend: looked for in eight entries from g on,
+// and by halving where these do not tell. Any guess works; a close one saves the halving.
 pub fn lower_near(
     b: &[u8],
     s: Strings,
@@ -109,19 +104,18 @@ pub fn lower_near(
     h: usize,
     g: usize,
 ) -> usize
-    requires { ⌜ Held (now b) s (now segments) (now buckets) × (k < length (now buckets))
-        × (firstFault (allEntryChecks (heldTable (now b) s (now buckets))) ≡ Accepted) ⌝ }
-    ensures { λ r. ⌜ Lower (heldTable (now (b .entry)) s (now (buckets .entry))) k h r ⌝ }
+    requires { ⌜ Held (now b) s (now segments) (now buckets) × (k < length (now buckets)) ⌝ }
+    ensures { λ r. ⌜ Near (heldTable (now (b .entry)) s (now (buckets .entry))) k h r ⌝ }
 {
     let n = entry::entry_count(b, s, segments, buckets, k);
     if n == 0 {
         return 0;
     }
     if n < 8 {
-        return lower_few(b, s, segments, buckets, k, h, n);
+        return count_few(b, s, segments, buckets, k, h, n);
     }
     let w = window(g, n);
-    let c = below(b, s, segments, buckets, k, h, w);
+    let c = count_below(b, s, segments, buckets, k, h, w);
     if settled(w, c, n) {
         return w + c;
     }

@@ -9,7 +9,7 @@ use Rattle.le.specs.Le.{u16At}
 use Rattle.hash.specs.Hash.{hashOn, hashText}
 use Rattle.hash.specs.Fold.{foldText, valueHashOf, valueHash}
 use Rattle.hash.proofs.Parts.{hash-laws}
-use Rattle.text.specs.Text.{chars, upToZero, textIn}
+use Rattle.text.specs.Text.{chars, textIn}
 use Rattle.text.specs.inner.Measure.{ValueRun}
 use Rattle.text.proofs.Laws.{up-stop, up-more, text-none}
 

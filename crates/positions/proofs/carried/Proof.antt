@@ -4,6 +4,7 @@ use borrow.Author.Needs.{needs}
 use Rattle.verdict.proofs.Laws.{tells-no}
 use Rattle.hash.specs.Hash.{hashText}
 use Rattle.strings.specs.Texts.{listedText}
+use Rattle.search.proofs.Halves.{halved-lower}
 use Rattle.positions.proofs.Listed.{listed-in, spotted, unspotted}
 use Rattle.positions.proofs.Laws.{carried-in, only-there}
 use Rattle.positions.proofs.carried.Statement.{statement}
@@ -26,6 +27,12 @@ measure-requires : tie.Need-measure-requires
 measure-requires c κs = let p = c .before .before .before .before .before .before .before .pre in
     (p .0, spotted _ _ _ _ (p .1) _ (c .before .before .before .spot-to .ensures) (c .before .a .given .1) .fits)
 
+run-has-requires : tie.Need-run-has-requires
+run-has-requires c κs =
+    let p = c .before .before .before .before .before .before .before .before .before .before .pre in
+    let k = c .before .bucket .ensures .1 in
+    (p .1, k, p .2, halved-lower _ _ _ _ (p .2) k (c .lower .ensures), omega arith)
+
 returns-2 : tie.Need-returns-2
 unfolding listedText
 returns-2 c =
@@ -37,4 +44,4 @@ pub carried-spec : {M : Type 1} → statement M
 carried-spec =
     tie.close
     (tie.spec mul-spot-to add-spot-to spot-to-requires (λ c. search needs) (λ c. search needs) returns measure-requires
-    (λ c κs. search needs) (λ c κs. search needs) (λ c κs. search needs) returns-2)
+    (λ c κs. search needs) (λ c κs. search needs) run-has-requires returns-2)

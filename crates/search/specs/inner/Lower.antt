@@ -1,27 +1,46 @@
--- What the search of a bucket finds, in a table whose entries ascend by hash.
-use Prim.Native.Nat.{ℕ, _+_, _≤_, _<_}
+-- What the search of a bucket finds, and how. The hashes of a bucket that passed 7 to 12 ascend; how it is searched is said without that, so
+-- that it says which entries are read.
+use Prim.Native.Nat.{ℕ, zero, suc, _+_, _-_, _≤_}
 use mathlib.Core.Path.{_≡_}
+use mathlib.Core.Bool.{cond}
+use lib.Dec.{ltb}
+use Rattle.laws.specs.Halving.{FirstNotBelow, halving, Rounds}
 use Rattle.layout.specs.Table.{Table, entries, hashOf}
 
 -- r is the first entry of bucket k whose hash is not below h, or the bucket's end.
-pub record Lower (t : Table) (k h r : ℕ) : Type 0 where
-  pub upto : r ≤ entries t k
-  pub below : (m : ℕ) → m < r → hashOf t k m < h
-  pub above : (m : ℕ) → r ≤ m → m < entries t k → h ≤ hashOf t k m
+abbrev pub Lower : Table → ℕ → ℕ → ℕ → Type 0
+Lower t k h r = FirstNotBelow (hashOf t k) (entries t k) h r
 
--- Of the m entries from entry w of bucket k on, the first r have hashes below h, and the others have not.
-pub record Below (t : Table) (k h w m r : ℕ) : Type 0 where
-  pub upto : r ≤ m
-  pub below : (i : ℕ) → w ≤ i → i < w + r → hashOf t k i < h
-  pub above : (i : ℕ) → w + r ≤ i → i < w + m → h ≤ hashOf t k i
+-- r is where the halving of bucket k stops, with the rounds that its count allows: one entry is read a round.
+pub record Halved (t : Table) (k h r : ℕ) : Type 0 where
+  pub rounds : ℕ
+  pub allowed : Rounds (entries t k) rounds
+  pub stops : r ≡ halving (hashOf t k) h rounds 0 (entries t k)
 
--- r is the last of n that is not behind i.
-pub record Capped (i n r : ℕ) : Type 0 where
-  pub inside : r < n
-  pub upto : r ≤ i
-  pub last : (m : ℕ) → m ≤ i → m < n → m ≤ r
+-- How many of the m numbers from place w on are below x. Each is read once.
+unfoldable pub countBelow : (ℕ → ℕ) → ℕ → ℕ → ℕ → ℕ
+countBelow f x w zero = 0
+countBelow f x w (suc m) = cond (ltb (f (w + m)) x) (countBelow f x w m + 1) (countBelow f x w m)
 
--- The hash is above one of the eight from w on, or these are the first; and not above one, or these are the last of n.
+-- Place i of n, or the last one.
+unfoldable pub atMost : ℕ → ℕ → ℕ
+atMost i n = cond (ltb i n) i (n - 1)
+
+-- How many of n numbers are below x, where these are at most eight: eight are read, the last one as often as it takes.
+unfoldable pub countFew : (ℕ → ℕ) → ℕ → ℕ → ℕ
+countFew f x n =
+    let c = countBelow (λ i. f (atMost i n)) x 0 8 in
+    cond (ltb c n) c n
+
+-- c of the eight from w on are below the hash: it is above one of them, or these are the first; and not above one, or these are the last of n.
 pub record Settled (w c n : ℕ) : Type 0 where
   pub first : c ≡ 0 → w ≡ 0
   pub last : c ≡ 8 → w + 8 ≡ n
+
+-- How r is found from a guess: of a bucket of at most eight entries by a count of all; of another by a count of eight from w on, or, where these
+-- do not tell, by halving. So no more is read than eight entries and one for each round that the bucket's count allows.
+pub data Near (t : Table) (k h r : ℕ) : Type 0 where
+  few : entries t k ≤ 8 → r ≡ countFew (hashOf t k) h (entries t k) → Near t k h r
+  eight : (w : ℕ) → w + 8 ≤ entries t k → Settled w (countBelow (hashOf t k) h w 8) (entries t k) → r ≡ w + countBelow (hashOf t k) h w 8
+      → Near t k h r
+  halved : Halved t k h r → Near t k h r

@@ -1,5 +1,4 @@
 use Rattle.text.proofs.Passed.{value-whole, value-ended}
-use native.Mathlib.Omega.{arith}
 use borrow.Author.Needs.{needs}
 use Rattle.text.proofs.value_hash.Statement.{statement}
 use Rattle.text.proofs.value_hash.Tie as tie

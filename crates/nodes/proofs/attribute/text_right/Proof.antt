@@ -1,5 +1,6 @@
 use Rattle.nodes.proofs.Addresses.{other-type, text-nowhere, text-differs, text-told, spot-fits, clean-entries}
 use mathlib.Core.Path.{refl}
+use Rattle.search.proofs.Halves.{halved-lower}
 use native.Mathlib.Omega.{arith}
 use borrow.Author.Needs.{needs}
 use Rattle.nodes.proofs.attribute.text_right.Statement.{statement}
@@ -28,13 +29,16 @@ text-hash-requires : tie.Need-text-hash-requires
 text-hash-requires c κs = let p = c .before .before .before .before .before .before .before .before .before .before .before .before .before .before .pre in (p .0, spot-fits _ _ _ _ (p .1 .laid .characters) (c .before .before .before .before .before .before .before .before .spot-to .ensures) (c .before .before .before .before .before .before .a .given .1), omega (arith, p .1 .small), c .before .before .remembered-hash .ensures .1)
 
 lower-requires : tie.Need-lower-requires
-lower-requires c κs = let p = c .before .before .before .before .before .before .before .before .before .before .before .before .before .before .before .before .pre in (p .1, c .bucket .ensures .1, clean-entries _ _ (p .2) (p .3))
+lower-requires c κs = let p = c .before .before .before .before .before .before .before .before .before .before .before .before .before .before .before .before .pre in (p .1, c .bucket .ensures .1)
 
 add-u32-at : tie.Need-add-u32-at
 add-u32-at c = let p = c .before .before .before .before .before .before .before .before .before .before .before .before .before .before .before .before .before .pre in record { fits = omega (arith, p .4, p .1 .small) }
 
 run-has-requires : tie.Need-run-has-requires
-run-has-requires c κs = let p = c .before .before .before .before .before .before .before .before .before .before .before .before .before .before .before .before .before .before .pre in (p .1, c .before .before .bucket .ensures .1, clean-entries _ _ (p .2) (p .3), c .before .lower .ensures, omega arith)
+run-has-requires c κs = let p = c .before .before .before .before .before .before .before .before .before .before .before .before .before .before .before .before .before .before .pre in
+    let k = c .before .before .bucket .ensures .1 in
+    let e = clean-entries _ _ (p .2) (p .3) in
+    (p .1, k, e, halved-lower _ _ _ _ e k (c .before .lower .ensures), omega arith)
 
 returns-4 : tie.Need-returns-4
 returns-4 c =

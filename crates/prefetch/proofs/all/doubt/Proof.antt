@@ -1,6 +1,5 @@
 use native.Mathlib.Omega.{arith}
 use Rattle.prefetch.proofs.Doubting.{trusted-right, trusted-doubted}
-use borrow.Author.Needs.{needs}
 use Rattle.prefetch.proofs.all.doubt.Statement.{statement}
 use Rattle.prefetch.proofs.all.doubt.Tie as tie
 

@@ -1,6 +1,5 @@
 use Rattle.verdict.proofs.Laws.{unsure}
 use Rattle.prefetch.proofs.Doubting.{examined-right}
-use borrow.Author.Needs.{needs}
 use Rattle.prefetch.proofs.all.examine_batch.Statement.{statement}
 use Rattle.prefetch.proofs.all.examine_batch.Tie as tie
 
