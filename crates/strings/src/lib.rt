@@ -8,8 +8,8 @@ pub mod table;
 
 use region::Region;
 
-// A string table: its characters, and the place of its address count. The samples of the one and the starts of its
-// buckets are lent beside it: arrays in a struct would be copied with it.
+// A string table: its characters, and the place of its address count. The samples of its segment starts and its bucket starts are lent
+// beside it, as `segments` and `buckets`: arrays in a struct would be copied with it.
 pub struct Strings {
     pub chars: Region,
     pub list: usize,

@@ -1,5 +1,5 @@
 // Lookups in a file that is accepted and whose view is held: nothing is checked a second time. The view is handed over whole once a
-// question; its arrays are lent from here on. Of one view only one array can be lent at a time, so the starts are copied first.
+// question; its arrays are lent from here on. Of one view only one array can be lent at a time, so the bucket starts are copied first.
 ghost use mathlib.Core.Path.{_≡_};
 ghost use Prim.Native.Nat.{_%_};
 ghost use lib.ListN.{length};
