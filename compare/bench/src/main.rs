@@ -10,8 +10,10 @@
 //! a held view. The hashes are measured on short texts, and on each file's bytes
 //! as one text, beside its acceptance.
 //!
-//! `bench traps` measures files that are made to be slow instead.
+//! `bench traps` measures files that are made to be slow instead, and `bench buckets`
+//! look-ups in crowded buckets.
 
+mod buckets;
 mod clock;
 mod growth;
 mod hashing;
@@ -63,27 +65,29 @@ impl Numbers {
 }
 
 fn subjects() -> Vec<Box<dyn Subject>> {
-    let plain: Held<Plain> = Held { title: "second, plain", loader: second::Loader::new(Right) };
     let marked: Held<Marked> =
         Held { title: "second, indexed", loader: second::Loader::new(Right) };
-    let mut all: Vec<Box<dyn Subject>> = vec![Box::new(plain), Box::new(marked)];
-    all.extend(proved());
-    all
+    vec![plain(), Box::new(marked), proved()]
+}
+
+fn plain() -> Box<dyn Subject> {
+    let held: Held<Plain> = Held { title: "second, plain", loader: second::Loader::new(Right) };
+    Box::new(held)
 }
 
 #[cfg(feature = "rattle")]
-fn proved() -> Option<Box<dyn Subject>> {
+fn proved() -> Box<dyn Subject> {
     let loader = compare::rattle::Rattle::default();
-    Some(Box::new(Exported { title: "proved library", loader }))
+    Box::new(Exported { title: "proved library", loader })
 }
 
 /// Without the proved library the exported questions of the second loader are
 /// measured in its place, in the same way.
 #[cfg(not(feature = "rattle"))]
-fn proved() -> Option<Box<dyn Subject>> {
+fn proved() -> Box<dyn Subject> {
     let loader: compare::loader::Second<Right, Plain> =
         compare::loader::Second::new("second", Right);
-    Some(Box::new(Exported { title: "second, exported", loader }))
+    Box::new(Exported { title: "second, exported", loader })
 }
 
 /// Texts picked at random, one in ten absent.
@@ -202,6 +206,7 @@ fn main() -> ExitCode {
         Some(traps::CHILD) => {
             return traps::child(&words[1..]).map_or(ExitCode::from(2), |()| ExitCode::SUCCESS)
         }
+        Some("buckets") => buckets::run(&[proved(), plain()]),
         first => ordinary(first.and_then(|word| word.parse().ok()).unwrap_or(256)),
     }
     ExitCode::SUCCESS

@@ -16,7 +16,11 @@ pub trait Subject {
     /// Whether the lookups' time has an acceptance in it.
     fn accepts_again(&self) -> bool;
     /// One path question, acceptance included.
-    fn path(&self, file: &[u8], workspace: &mut [u8], path: &[u8]) -> f64;
+    fn path(&self, file: &[u8], workspace: &mut [u8], path: &[u8]) -> f64 {
+        self.path_into(file, workspace, path, &mut vec![1; LISTING])
+    }
+    /// The same with a listing that is lent.
+    fn path_into(&self, file: &[u8], workspace: &mut [u8], path: &[u8], listing: &mut [u8]) -> f64;
     /// One path on a held view, where the loader has that form.
     fn held_path(&self, file: &[u8], workspace: &mut [u8], path: &[u8]) -> Option<f64>;
     /// The string hash of each text from 0, a call for each.
@@ -84,9 +88,8 @@ impl<I: Index> Subject for Held<I> {
         false
     }
 
-    fn path(&self, file: &[u8], workspace: &mut [u8], path: &[u8]) -> f64 {
-        let mut listing = vec![1; LISTING];
-        timed(|| self.loader.path(file, workspace, path, &mut listing).refusal)
+    fn path_into(&self, file: &[u8], workspace: &mut [u8], path: &[u8], listing: &mut [u8]) -> f64 {
+        timed(|| self.loader.path(file, workspace, path, listing).refusal)
     }
 
     fn held_path(&self, file: &[u8], workspace: &mut [u8], path: &[u8]) -> Option<f64> {
@@ -144,9 +147,8 @@ impl<L: Loader> Subject for Exported<L> {
         true
     }
 
-    fn path(&self, file: &[u8], workspace: &mut [u8], path: &[u8]) -> f64 {
-        let mut listing = vec![1; LISTING];
-        timed(|| self.loader.path(file, workspace, path, &mut listing).refusal)
+    fn path_into(&self, file: &[u8], workspace: &mut [u8], path: &[u8], listing: &mut [u8]) -> f64 {
+        timed(|| self.loader.path(file, workspace, path, listing).refusal)
     }
 
     fn held_path(&self, _: &[u8], _: &mut [u8], _: &[u8]) -> Option<f64> {

@@ -1,8 +1,11 @@
 //! The comparison of loaders: files, questions, guarded buffers and counts.
 
 pub mod asks;
+pub mod buckets;
 pub mod case;
+pub mod crowds;
 pub mod directed;
+pub mod due;
 pub mod guard;
 pub mod hashes;
 pub mod inputs;

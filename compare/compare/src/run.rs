@@ -13,7 +13,7 @@ use crate::guard::Edge;
 use crate::hashes::{self, HashAsk, HashQuestion};
 use crate::lengths;
 use crate::loader::{Loader, Second};
-use crate::question::{Ask, Pages, Question};
+use crate::question::{Ask, Outcome, Pages, Question};
 use crate::sparse::Largest;
 use crate::sweep::{changed_bytes, changed_words, cut_counts, cuts, limits};
 use crate::tally::{describe, describe_hash, Tally};
@@ -22,6 +22,9 @@ use crate::texts;
 /// Random files of which one comes with texts to be hashed, and how many.
 const FILES_A_TEXT: u64 = 16;
 const TEXTS: usize = 2;
+/// A full run has so many random files, however long the others took: some refusals are
+/// rare without them.
+const LEAST: u64 = 4_000;
 /// Pairs of texts with one value hash.
 const PAIRS: usize = 40;
 
@@ -71,6 +74,7 @@ impl Run {
             self.every_length(&mut rng);
             self.directed(&mut rng);
             self.letters(&mut rng);
+            self.buckets();
             for make in limits() {
                 let case = make(&mut rng);
                 self.case(&mut rng, &case);
@@ -83,7 +87,8 @@ impl Run {
             }
         }
         for number in 0..self.plan.files {
-            let spent = started.elapsed() >= self.plan.budget;
+            let due = self.plan.full && number < LEAST;
+            let spent = started.elapsed() >= self.plan.budget && !due;
             if spent || self.tally.questions >= self.plan.questions {
                 break;
             }
@@ -114,7 +119,8 @@ impl Run {
         }
     }
 
-    fn question(&mut self, case: &Case, question: &Question) {
+    /// Asks all loaders; what the second one's plain form came to.
+    pub(crate) fn question(&mut self, case: &Case, question: &Question) -> Option<Outcome> {
         let right = self.pages.ask_put(&self.right, &case.bytes, question);
         if let Some(outcome) = &right {
             self.tally.count(outcome);
@@ -127,6 +133,7 @@ impl Run {
                 differs(&mut self.tally, &self.plan, &other.title(), &words, kept);
             }
         }
+        right
     }
 
     /// Texts that are hashed before any file is.

@@ -17,6 +17,9 @@ pub struct Tally {
     /// Files with the letter 0151, and questions about them.
     pub letters: u64,
     pub of_letters: u64,
+    /// Files with crowded buckets, and questions about them.
+    pub buckets: u64,
+    pub of_buckets: u64,
     /// How often each refusal was answered; 0 is answered without one.
     pub refusals: [u64; 27],
     /// Questions for the hashes of a text by itself.
@@ -49,6 +52,7 @@ impl fmt::Display for Tally {
         writeln!(out, "questions:   {}", self.questions)?;
         writeln!(out, "directed:    {}, questions {}", self.directed, self.of_directed)?;
         writeln!(out, "letter 0151: {}, questions {}", self.letters, self.of_letters)?;
+        writeln!(out, "buckets:     {}, questions {}", self.buckets, self.of_buckets)?;
         writeln!(out, "answered:    {}", self.refusals[0])?;
         for (number, count) in self.refusals.iter().enumerate().skip(1) {
             writeln!(out, "refusal {number:2}:  {count}")?;

@@ -7,8 +7,11 @@ use maker::text::from_bytes;
 use second::Answer;
 
 use crate::asks::every;
+use crate::buckets;
 use crate::case::Case;
 use crate::directed;
+use crate::due::Due;
+use crate::guard::Edge;
 use crate::hashes::{HashAsk, HashQuestion};
 use crate::letter;
 use crate::question::{Question, Reply};
@@ -62,6 +65,33 @@ impl Run {
             if let Some(told) = told {
                 self.told(&case, told);
             }
+        }
+    }
+
+    /// Files with crowded buckets, of which the maker knows every answer.
+    pub(crate) fn buckets(&mut self) {
+        for (case, all) in buckets::cases(self.plan.seed) {
+            self.tally.files += 1;
+            self.tally.buckets += 1;
+            self.tally.of_buckets += all.len() as u64;
+            for edge in [Edge::End, Edge::Start] {
+                let own = all.iter().filter(|due| due.question.edge == edge);
+                if own.clone().count() > 0 {
+                    self.pages.put_file(&case.bytes, edge);
+                }
+                own.for_each(|due| self.due(&case, due));
+            }
+        }
+    }
+
+    /// Asks all loaders, and compares the second loader's answer with the maker's.
+    fn due(&mut self, case: &Case, due: &Due) {
+        let outcome = self.question(case, &due.question);
+        if !outcome.as_ref().is_some_and(|outcome| due.fits(outcome)) {
+            let words = describe(case, &due.question, outcome.as_ref(), None);
+            let words = format!("due: {:?}, then {:02x?}\n{words}", due.answer, due.out);
+            let kept = ("difference.dc", &case.bytes[..]);
+            differs(&mut self.tally, &self.plan, "the maker", &words, kept);
         }
     }
 

@@ -94,6 +94,18 @@ pub fn closing(beginning: &[u16], wished: u32) -> [u16; 2] {
     [word as u16, (word >> 16) as u16]
 }
 
+/// A text with the wished hash that begins so, if none of its characters is 0.
+pub fn closed(beginning: &[u16], wished: u32) -> Option<Text> {
+    let mut text = beginning.to_vec();
+    text.extend(closing(beginning, wished));
+    (!text.contains(&0)).then_some(text)
+}
+
+/// Beginnings of two characters, all different.
+pub fn beginnings() -> impl Iterator<Item = [u16; 2]> {
+    (1..u16::MAX).flat_map(|high| (1..=250).map(move |low| [low, high]))
+}
+
 /// The four bytes that lead from 0 to a hash, found by going back four steps. A
 /// step's high byte is that of the table's entry alone, and all entries differ
 /// there.

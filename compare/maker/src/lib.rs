@@ -2,6 +2,7 @@
 //! damaged ones aimed at every refusal, and large ones for speed.
 
 pub mod attributes;
+pub mod buckets;
 pub mod collide;
 pub mod damage;
 pub mod dropped;

@@ -7,6 +7,7 @@ use crate::hash::{bucket, string_hash};
 use crate::letter::is_same_but_for_it;
 use crate::prefetch::prefetch;
 use crate::reading::{Mutant, Reading};
+use crate::searches::fault;
 use crate::table::{Entry, Reader, Table, ENTRY};
 
 /// A hash on its way to its entries: its bucket, and where they may stand.
@@ -41,12 +42,12 @@ pub fn seek<R: Reading, const BUCKETS: usize>(
 
 impl Sought {
     #[inline(always)]
-    fn place(&self, number: u32) -> usize {
+    pub fn place(&self, number: u32) -> usize {
         self.first as usize + number as usize * ENTRY
     }
 
     #[inline(always)]
-    fn hash_at(&self, file: &[u8], number: u32) -> u32 {
+    pub fn hash_at(&self, file: &[u8], number: u32) -> u32 {
         u32_at(file, self.place(number))
     }
 
@@ -142,6 +143,11 @@ impl Sought {
         self.hash
     }
 
+    /// Entries of the bucket.
+    pub fn count(&self) -> u32 {
+        self.count
+    }
+
     /// Asks for the text of an entry that will be compared soon.
     #[inline]
     pub fn expect<const BUCKETS: usize>(&self, file: &[u8], table: &Table<BUCKETS>, number: u32) {
@@ -188,8 +194,11 @@ pub fn find<R: Reading, const BUCKETS: usize>(
 ) -> Option<Entry> {
     let mut sought = seek(reading, file, table, lookup_hash::<R, BUCKETS>(reading, text));
     sought.refine(file);
-    let number = sought.first_entry(file);
     let same = |entry| bears(reading, reader, file, table, entry, text);
+    if let Some(fault) = fault(reading, reader.searcher(Table::<BUCKETS>::NAMES)) {
+        return sought.entry_wrongly(file, fault, same);
+    }
+    let number = sought.first_entry(file);
     let found = sought.entry(reading, file, number, same);
     found.or_else(|| find_either(reading, reader, file, table, text))
 }

@@ -19,6 +19,7 @@ use crate::prefetch::{prefetch, prefetch_text};
 use crate::reading::{Mutant, Reading};
 use crate::region::Near;
 use crate::scan::scan;
+use crate::searches::{fault, Searcher};
 use crate::table::{Entry, Table, ENTRY, VALUE_BUCKETS};
 
 pub type Values = Table<VALUE_BUCKETS>;
@@ -217,8 +218,12 @@ impl<const TIMES: usize> Index for Plain<TIMES> {
         if reading.wrong(Mutant::AnyTextAddress) {
             return attribute.check(reading, Some(hash));
         }
-        let number = sought.first_entry(file);
         let same = |entry: Entry| entry.address == attribute.address;
+        if let Some(fault) = fault(reading, Searcher::Attribute) {
+            let found = sought.entry_wrongly(file, fault, same);
+            return attribute.check(reading, found.map(|_| hash));
+        }
+        let number = sought.first_entry(file);
         let found = sought.entry(reading, file, number, |entry| {
             effort.spend(if same(entry) { 0 } else { ENTRY });
             same(entry)

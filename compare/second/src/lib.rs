@@ -42,6 +42,7 @@ mod questions;
 mod reading;
 mod region;
 mod scan;
+mod searches;
 mod spans;
 mod strings;
 mod table;
@@ -50,6 +51,7 @@ mod tally;
 mod tree;
 mod view;
 mod waiting;
+mod wrong_search;
 mod wrong_tree;
 
 pub use answer::{Answer, HeaderReport, Refusal};

@@ -7,6 +7,7 @@ use crate::index::Index;
 use crate::mix::Mixer;
 use crate::reading::{Mutant, Reading};
 use crate::scan::scan;
+use crate::searches::{fault, Searcher};
 use crate::table::{Entry, Reader, Table, ENTRY};
 use crate::view::View;
 use crate::waiting::{Filter, Waiting};
@@ -161,11 +162,7 @@ impl<R: Reading, I: Index> View<'_, R, I> {
             let (places, later) = answers.split_at_mut(answers.len().min(8 * filled));
             for (&(text, sought, number), place) in group[..filled].iter().zip(places.chunks_mut(8))
             {
-                let found = sought.entry(self.reading, self.file, number, |entry| {
-                    let same = self.bears(table, entry, text);
-                    effort.spend(if same { 0 } else { ENTRY });
-                    same
-                });
+                let found = self.batch_entry(table, sought, number, text, &mut effort);
                 self.put(self.batch_number(table, text, found), place);
             }
             answers = later;
@@ -239,6 +236,27 @@ impl<R: Reading, I: Index> View<'_, R, I> {
     ) -> Option<u32> {
         let either = || find_either(self.reading, Reader::Batch, self.file, table, text);
         found.or_else(either).map(|entry| self.number::<BUCKETS>(entry))
+    }
+
+    /// The entry that bears a text of a batch, from a number on.
+    #[inline]
+    fn batch_entry<const BUCKETS: usize>(
+        &self,
+        table: &Table<BUCKETS>,
+        sought: Sought,
+        number: u32,
+        text: &[u8],
+        effort: &mut Effort,
+    ) -> Option<Entry> {
+        if let Some(fault) = fault(self.reading, Searcher::Batch) {
+            let same = |entry| self.bears(table, entry, text);
+            return sought.entry_wrongly(self.file, fault, same);
+        }
+        sought.entry(self.reading, self.file, number, |entry| {
+            let same = self.bears(table, entry, text);
+            effort.spend(if same { 0 } else { ENTRY });
+            same
+        })
     }
 
     /// Whether an entry bears a text of a batch.

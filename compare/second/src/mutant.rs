@@ -1,7 +1,9 @@
 //! The wrong readings, each in words.
 
+use crate::searches::with_searches;
+
 macro_rules! mutants {
-    ($($name:ident: $words:literal,)*) => {
+    ($($name:ident: $words:expr,)*) => {
         #[derive(Clone, Copy, Debug, PartialEq, Eq)]
         pub enum Mutant { $($name,)* }
 
@@ -16,7 +18,8 @@ macro_rules! mutants {
     };
 }
 
-mutants! {
+// Those of the search of a bucket come behind these.
+with_searches! { mutants {
     // Layout, 1 to 6.
     FileLimitExclusive: "a file of exactly 1,073,741,824 bytes is refused",
     HeaderAsOne: "a header cut anywhere is 2 at 0",
@@ -226,4 +229,4 @@ mutants! {
     OddByteIsCharacter: "an odd last byte is a character of the value hash",
     ZeroEndsHash: "a 0 character ends the text of the hash",
     ZeroEndsValueHash: "a 0 character ends the text of the value hash",
-}
+} }

@@ -12,8 +12,10 @@ use crate::literal::{self, Told};
 use crate::reading::{Mutant, Reading};
 use crate::region::Segment;
 use crate::scan::holds_zero;
+use crate::searches::{fault, Searcher};
 use crate::table::{Entry, Reader, Table, ENTRY};
 use crate::tails::{Tails, LONG};
+use crate::wrong_search::check_carried_wrongly;
 
 /// How many entries ahead memory is asked for.
 const AHEAD: usize = 8;
@@ -347,6 +349,9 @@ impl<'a, R: Reading, const BUCKETS: usize> TableChecks<'a, R, BUCKETS> {
         let Self { reading, file, table, .. } = *self;
         if table.entries == table.listed as u64 || reading.wrong(Mutant::UncarriedAllowed) {
             return Ok(());
+        }
+        if let Some(fault) = fault(reading, Searcher::Carried) {
+            return check_carried_wrongly(reading, file, table, fault);
         }
         let (mut first, mut count) = (1, table.listed);
         while count > 1 {

@@ -8,6 +8,7 @@ use crate::prefetch::{prefetch, prefetch_text};
 use crate::reading::{Mutant, Reading};
 use crate::region::{Region, Segment};
 use crate::scan::text_of;
+use crate::searches::Searcher;
 
 pub const VALUE_BUCKETS: usize = 1024;
 pub const NAME_BUCKETS: usize = 512;
@@ -87,6 +88,17 @@ impl Reader {
             (Reader::Batch, _) => Some(Mutant::Batch0151),
             (Reader::Path, _) => Some(Mutant::Path0151),
             (Reader::Repeat | Reader::Special | Reader::Outline, _) => None,
+        }
+    }
+
+    /// Whose search a wrong reading of it gets wrong.
+    #[inline(always)]
+    pub fn searcher(self, names: bool) -> Searcher {
+        match (self, names) {
+            (Reader::Path, _) => Searcher::Path,
+            (Reader::Batch, _) => Searcher::Batch,
+            (_, true) => Searcher::Name,
+            (_, false) => Searcher::Value,
         }
     }
 

@@ -9,6 +9,7 @@ use std::process::ExitCode;
 use std::time::{Duration, Instant};
 
 use compare::asks::{asks, every};
+use compare::buckets;
 use compare::case::{random, Case};
 use compare::directed;
 use compare::guard::Edge;
@@ -82,6 +83,17 @@ fn letters(suspects: &mut Suspects, seed: u64) {
     }
 }
 
+/// The files with crowded buckets, for the wrong readings of request T-03.
+fn crowds(suspects: &mut Suspects, seed: u64) {
+    for (made, all) in buckets::cases(seed) {
+        if suspects.all_caught() {
+            return;
+        }
+        let questions: Vec<Question> = all.into_iter().map(|due| due.question).collect();
+        ask(suspects, &made, &questions);
+    }
+}
+
 /// The texts that every comparison hashes, and long ones with the letter.
 fn texts_alone(suspects: &mut Suspects, seed: u64) {
     let mut rng = Rng::new(seed);
@@ -104,15 +116,18 @@ fn main() -> ExitCode {
     let of_letter = [Mutant::LETTER_HASHES, Mutant::LETTER_FILES].concat();
     let mut by_letter = Suspects::new(of_letter.iter().copied());
     letters(&mut by_letter, seed);
-    let elsewhere = [Mutant::HASHES_ALONE, &of_letter].concat();
+    let mut by_crowds = Suspects::new(Mutant::SEARCHES.iter().copied());
+    crowds(&mut by_crowds, seed);
+    let elsewhere = [Mutant::HASHES_ALONE, Mutant::SEARCHES, &of_letter].concat();
     let shown = Mutant::ALL.iter().copied().filter(|mutant| !elsewhere.contains(mutant));
     let mut by_files = Suspects::new(shown);
     files(&mut by_files, seed);
     let hashes = [Mutant::HASHES, Mutant::HASHES_ALONE, Mutant::LETTER_HASHES].concat();
     let mut by_texts = Suspects::new(hashes.into_iter());
     texts_alone(&mut by_texts, seed);
-    print!("files:\n{by_files}files with 0151:\n{by_letter}texts by themselves:\n{by_texts}");
-    if [by_files, by_letter, by_texts].iter().all(Suspects::all_caught) {
+    print!("files:\n{by_files}files with 0151:\n{by_letter}");
+    print!("files with crowded buckets:\n{by_crowds}texts by themselves:\n{by_texts}");
+    if [by_files, by_letter, by_crowds, by_texts].iter().all(Suspects::all_caught) {
         ExitCode::SUCCESS
     } else {
         ExitCode::FAILURE

@@ -5,7 +5,7 @@
 //! time grows with it.
 
 mod late;
-mod parts;
+pub(crate) mod parts;
 mod ranges;
 mod segments;
 mod texts;

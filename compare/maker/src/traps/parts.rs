@@ -114,6 +114,17 @@ impl Characters {
     }
 }
 
+pub fn placed(characters: &mut Characters, texts: &[Text]) -> Vec<Placed> {
+    texts.iter().map(|text| characters.placed(text)).collect()
+}
+
+/// The values table of these texts, one after the other.
+pub fn table_of(texts: &[Text]) -> Table {
+    let mut characters = Characters::default();
+    let placed = placed(&mut characters, texts);
+    string_table(characters.region, placed, 1024)
+}
+
 /// Nodes with the attributes of one range after the other, each of so many.
 pub fn nodes_of_ranges(attributes: &Region<Attr>, each: usize) -> Vec<Node> {
     let mut nodes = Vec::new();

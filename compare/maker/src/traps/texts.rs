@@ -3,13 +3,14 @@
 use second::hashes::{by_definition, folded};
 
 use super::parts::{
-    left, names, nodes_of_ranges, tree, whole_ranges, Characters, Parts, ATTRIBUTE, ENTRY, FULL,
-    NODE,
+    left, names, nodes_of_ranges, placed, table_of, tree, whole_ranges, Characters, Parts,
+    ATTRIBUTE, ENTRY, FULL, NODE,
 };
 use super::{Ask, Class, Trap, KB, MB};
 use crate::attributes::text_attribute;
-use crate::collide::{closing, hash};
-use crate::model::{Addr, Attr, Table};
+use crate::buckets::hashes::Hashes;
+use crate::collide::{beginnings, closed, hash};
+use crate::model::{Addr, Attr};
 use crate::rng::Rng;
 use crate::table::{string_table, Placed};
 use crate::text::{letters, to_bytes, Text};
@@ -41,18 +42,6 @@ pub fn classes() -> Vec<Class> {
 
 /// Any hash will do that texts have in common.
 const COMMON: u32 = 0x5eed_0042;
-
-/// A text with the wished hash that begins so, if none of its characters is 0.
-fn closed(beginning: &[u16], wished: u32) -> Option<Text> {
-    let mut text = beginning.to_vec();
-    text.extend(closing(beginning, wished));
-    (!text.contains(&0)).then_some(text)
-}
-
-/// Beginnings of two characters, all different.
-fn beginnings() -> impl Iterator<Item = [u16; 2]> {
-    (1..FULL as u16).flat_map(|high| (1..=250).map(move |low| [low, high]))
-}
 
 /// Characters of a word that leaves the hash as it was, and of a tail.
 const WORD: usize = 3;
@@ -93,16 +82,6 @@ fn one_hash_texts(bytes: usize, shared: usize) -> Vec<Text> {
     let count = left(bytes) / (ENTRY + 2 * (shared + 5));
     let text = |[a, b]: [u16; 2]| closed(&[&beginning[..], &[a, b]].concat(), COMMON);
     beginnings().filter_map(text).take(count).collect()
-}
-
-fn placed(characters: &mut Characters, texts: &[Text]) -> Vec<Placed> {
-    texts.iter().map(|text| characters.placed(text)).collect()
-}
-
-fn table_of(texts: &[Text]) -> Table {
-    let mut characters = Characters::default();
-    let placed = placed(&mut characters, texts);
-    string_table(characters.region, placed, 1024)
 }
 
 fn one_hash(bytes: usize, shared: usize) -> Parts {
@@ -222,27 +201,20 @@ struct Crowded {
     texts: Vec<Text>,
 }
 
-const BUCKET: u32 = 7;
-/// Bits that are free in the hashes of one bucket.
-const FREE: u32 = 22;
-
-/// The hashes of a bucket in order, by number.
-fn hash_in_bucket(number: u32) -> u32 {
-    let (high, middle) = (number >> 6, number & 63);
-    high << 16 | middle << 10 | (high ^ BUCKET) & 1023
-}
+/// The bucket's hashes.
+const CROWDED: Hashes = Hashes { bucket: 7, buckets: 1024 };
 
 fn even(i: usize, count: usize) -> u32 {
-    hash_in_bucket((((i as u64) << FREE) / count as u64) as u32)
+    CROWDED.at((i as u64 * CROWDED.count() as u64 / count as u64) as u32)
 }
 
 /// All at the low end but the last.
 fn clustered(i: usize, count: usize) -> u32 {
-    hash_in_bucket(if i + 1 < count { i as u32 } else { (1 << FREE) - 1 })
+    CROWDED.at(if i + 1 < count { i as u32 } else { CROWDED.count() - 1 })
 }
 
 fn all_but_one_equal(i: usize, count: usize) -> u32 {
-    hash_in_bucket((i + 1 < count) as u32)
+    CROWDED.at((i + 1 < count) as u32)
 }
 
 /// Values of four characters with hashes of one bucket.

@@ -1,0 +1,34 @@
+//! Questions whose answers are known beforehand.
+
+use maker::rng::Rng;
+use second::Answer;
+
+use crate::guard::Edge;
+use crate::question::{Ask, Outcome, Question, Reply};
+
+/// A question, its answer, and what its buffer then begins with.
+pub struct Due {
+    pub question: Question,
+    pub answer: Answer,
+    pub out: Vec<u8>,
+}
+
+impl Due {
+    pub fn new(rng: &mut Rng, workspace: usize, ask: Ask, answer: Answer, out: Vec<u8>) -> Due {
+        // What lies behind the answer has to stay.
+        let more = if rng.one_in(3) { rng.below(9) } else { 0 };
+        let question = Question {
+            ask,
+            workspace,
+            out: out.len() + more,
+            fill: rng.draw(),
+            edge: *rng.pick(&[Edge::End, Edge::End, Edge::Start]),
+            null: rng.one_in(2),
+        };
+        Due { question, answer, out }
+    }
+
+    pub fn fits(&self, outcome: &Outcome) -> bool {
+        outcome.reply == Reply::Answer(self.answer) && outcome.out.starts_with(&self.out)
+    }
+}
