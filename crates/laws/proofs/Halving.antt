@@ -8,6 +8,7 @@ use mathlib.Core.Logic.{⊎-elim}
 use lib.Dec.{lit<}
 use borrow.Author.Tests.{lt-ltb, le-ltb}
 use Rattle.laws.specs.Halving.{Ascending, FirstNotBelow, middle, halving, Rounds, HalvingLaws}
+use Rattle.laws.specs.inner.Halfway.{Halfway}
 use Rattle.laws.proofs.Order.{le-or-lt}
 
 -- ---- rounds
@@ -45,6 +46,25 @@ powers-end n k p r l = record { enough = omega (arith, r .power); least = r .lea
 
 pub rounds-of : (m n k : ℕ) → m ≡ n → Rounds m k → Rounds n k
 rounds-of m n k e r = subst (λ (x : ℕ). Rounds x k) e r
+
+-- there is such a k for every n
+pub some-rounds : (n : ℕ) → (k : ℕ) × Rounds n k
+some-rounds zero = (0, record { enough = omega arith; least = λ m h. omega arith })
+some-rounds (suc n) =
+    let (k, r) = some-rounds n in
+    ⊎-elim
+    (λ (l : 2 ^ k ≤ suc n). (
+      suc k,
+      record {
+        enough = omega (arith, two-pow k, r .enough);
+        least = λ m h. ⊎-elim
+            (λ f. absurd (omega (arith, pow-le-pow-right {n = 2} (lit< tt) {i = m} {j = k} f)))
+            (λ f. omega arith)
+            (le-or-lt m k);
+      },
+    ))
+    (λ (l : suc n < 2 ^ k). (k, record { enough = l; least = λ m h. r .least m (omega arith) }))
+    (le-or-lt (2 ^ k) (suc n))
 
 -- ---- one round
 
@@ -108,24 +128,18 @@ module _ (f : ℕ → ℕ) (x : ℕ) where
 
 -- ---- what a loop cites: the rounds left and what they lead to
 
--- what is left between lo and hi needs no more than the rounds left, and leads to r
-pub record Halving (f : ℕ → ℕ) (n x r left lo hi : ℕ) : Type 0 where
-  pub high : hi ≤ n
-  pub room : hi < lo + 2 ^ left
-  pub leads : halving f x left lo hi ≡ r
-
-pub round-start : (f : ℕ → ℕ) (n x k m : ℕ) → m ≡ n → Rounds m k → Halving f n x (halving f x k 0 n) k 0 m
+pub round-start : (f : ℕ → ℕ) (n x k m : ℕ) → m ≡ n → Rounds m k → Halfway f n x (halving f x k 0 n) k 0 m
 round-start f n x k m e h = record { high = omega arith; room = omega (arith, h .enough); leads = ap (λ (i : ℕ). halving f x k 0 i) e }
 
 module _ (f : ℕ → ℕ) (n x r : ℕ) where
-  up : (left lo hi : ℕ) → Halving f n x r (suc left) lo hi → lo < hi → f (middle lo hi) < x → Halving f n x r left (middle lo hi + 1) hi
+  up : (left lo hi : ℕ) → Halfway f n x r (suc left) lo hi → lo < hi → f (middle lo hi) < x → Halfway f n x r left (middle lo hi + 1) hi
   up left lo hi s l g = record {
     high = s .high;
     room = half-up lo hi l left (s .room);
     leads = sym (halving-up f x left lo hi l g) ∙ s .leads;
   }
 
-  down : (left lo hi : ℕ) → Halving f n x r (suc left) lo hi → lo < hi → x ≤ f (middle lo hi) → Halving f n x r left lo (middle lo hi)
+  down : (left lo hi : ℕ) → Halfway f n x r (suc left) lo hi → lo < hi → x ≤ f (middle lo hi) → Halfway f n x r left lo (middle lo hi)
   down left lo hi s l g = record {
     high = omega (arith, s .high, middle-high lo hi l);
     room = half-down lo hi l left (s .room);
@@ -133,12 +147,12 @@ module _ (f : ℕ → ℕ) (n x r : ℕ) where
   }
 
   -- a round: one is left, and the number in the middle tells which half stays
-  module _ (left lo hi : ℕ) (s : Halving f n x r left lo hi) (l : lo < hi) where
+  module _ (left lo hi : ℕ) (s : Halfway f n x r left lo hi) (l : lo < hi) where
     pub round-left : 1 ≤ left
     round-left = some-left lo hi l left (s .room)
 
-    one-less : Halving f n x r (suc (left - 1)) lo hi
-    one-less = subst (λ (k : ℕ). Halving f n x r k lo hi) (omega (arith, round-left)) s
+    one-less : Halfway f n x r (suc (left - 1)) lo hi
+    one-less = subst (λ (k : ℕ). Halfway f n x r k lo hi) (omega (arith, round-left)) s
 
     -- m is the middle, and w was read there
     module _ (m w : ℕ) (c : m ≡ lo + (hi - lo) / 2) (e : w ≡ f m) where
@@ -149,13 +163,13 @@ module _ (f : ℕ → ℕ) (n x r : ℕ) where
       read : w ≡ f (middle lo hi)
       read = e ∙ ap f at-middle
 
-      pub round-up : w < x → Halving f n x r (left - 1) (m + 1) hi
+      pub round-up : w < x → Halfway f n x r (left - 1) (m + 1) hi
       round-up g = rw at-middle (up (left - 1) lo hi one-less l (omega (arith, read)))
 
-      pub round-down : x ≤ w → Halving f n x r (left - 1) lo m
+      pub round-down : x ≤ w → Halfway f n x r (left - 1) lo m
       round-down g = rw at-middle (down (left - 1) lo hi one-less l (omega (arith, read)))
 
-  pub round-end : (left lo hi : ℕ) → Halving f n x r left lo hi → hi ≤ lo → lo ≡ r
+  pub round-end : (left lo hi : ℕ) → Halfway f n x r left lo hi → hi ≤ lo → lo ≡ r
   round-end left lo hi s l = sym (halving-end f x left lo hi l) ∙ s .leads
 
 -- ---- all rounds

@@ -1,7 +1,7 @@
 -- How the arrays of a group are filled, place by place. Assumes nothing.
 use Prim.Native.Nat.{ℕ, _+_, _≤_, _<_}
 use native.Mathlib.Omega.{arith}
-use mathlib.Core.Path.{_≡_, sym, _∙_}
+use mathlib.Core.Path.{_≡_, _∙_}
 use mathlib.Core.List.{List}
 use borrow.Author.Count.{below-none}
 use lib.ListN.{length, getD, set, length-set}
@@ -54,21 +54,6 @@ pub aimed-upto : (b guess at : List ℕ) (j n : ℕ) → Aimed b j guess at → 
 aimed-upto b guess at j n a l = record { guesses = a .guesses; within = within-upto b at j n (a .within) l }
 
 -- ---- places of hashes
-
-pub low-none : (t : Table) (hashes low : List ℕ) → length low ≡ 64 → AllLow t hashes 0 low
-low-none t hashes low e = record { long = e; each = below-none _ }
-
-pub low-upto : {t : Table} {hashes low : List ℕ} {j n : ℕ} → n ≤ j → AllLow t hashes j low → AllLow t hashes n low
-low-upto {j = j} {n = n} l a = record { long = a .long; each = λ i h. a .each i (omega arith) }
-
-pub low-more : {t : Table} {hashes low : List ℕ} {j : ℕ} → AllLow t hashes j low → j < 64 → {h : ℕ} (r : ℕ) → h ≡ getD hashes j 0
-    → Lower t (bucketOf (t .buckets) h) h r → AllLow t hashes (j + 1) (set low j r)
-low-more {t} {hashes} {low} {j} a l {h} r e w = record {
-  long = length-set low j r ∙ a .long;
-  each =
-      fill (λ (i y : ℕ). Lower t (bucketOf (t .buckets) (getD hashes i 0)) (getD hashes i 0) y) low j r (omega (arith, a .long)) (a .each)
-      (rw (sym e) w);
-}
 
 -- what is read of one
 pub low-read : {t : Table} {hashes low : List ℕ} {n : ℕ} → AllLow t hashes n low → (j : ℕ) → j < n → {h r : ℕ} → h ≡ getD hashes j 0 → r ≡ getD low j 0

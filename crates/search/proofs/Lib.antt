@@ -2,3 +2,4 @@ pub mod Halves
 pub mod Nearby
 pub mod Runs
 pub mod Groups
+pub mod Searches

@@ -1,5 +1,6 @@
 -- The search of a bucket from a guess. Assumes nothing.
 use Prim.Native.Nat.{ℕ, zero, suc, _+_, _-_, _≤_, _<_}
+use native.Mathlib.Nat.{mod-lt}
 use native.Mathlib.Numerals.{add-one}
 use native.Mathlib.Omega.{arith}
 use mathlib.Core.Path.{_≡_, refl, ap, subst, sym, _∙_}
@@ -9,7 +10,7 @@ use borrow.Author.Tests.{lt-ltb, le-ltb}
 use Rattle.laws.specs.Halving.{Ascending, FirstNotBelow}
 use Rattle.laws.proofs.Order.{le-or-lt}
 use Rattle.verdict.proofs.Laws.{Clean}
-use Rattle.hash.specs.Hash.{hashText}
+use Rattle.hash.specs.Hash.{hashText, bucketOf}
 use Rattle.layout.specs.Table.{Table, entries, hashOf}
 use Rattle.strings.specs.Texts.{textOf}
 use Rattle.strings.specs.Order.{allEntryChecks}
@@ -216,6 +217,12 @@ near-lower t k h r ok b (eight w l s e) =
     let up = bucket-ascends t ok k b in
     rw e (settled-first (hashOf t k) (entries t k) h up w _ l (counted (hashOf t k) (entries t k) h w up 8 l) s)
 near-lower t k h r ok b (halved w) = halved-lower t k h r ok b w
+
+-- in the bucket of the hash
+pub near-place : (t : Table) (h r : ℕ) → 0 < t .buckets → Clean (allEntryChecks t) → Near t (bucketOf (t .buckets) h) h r
+    → Lower t (bucketOf (t .buckets) h) h r
+unfolding bucketOf
+near-place t h r b ok w = near-lower t (bucketOf (t .buckets) h) h r ok (mod-lt _ b) w
 
 -- no entry bears a text before the first whose hash is not below the text's
 pub none-before : (t : Table) → Clean (allEntryChecks t) → (k r m : ℕ) (q : List ℕ) → k < t .buckets → Lower t k (hashText q) r → m < entries t k → m < r

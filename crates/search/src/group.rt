@@ -8,12 +8,11 @@ ghost use Rattle.verdict.specs.Checks.{firstFault};
 ghost use Rattle.verdict.specs.inner.Tells.{Tells};
 ghost use Rattle.verdict.specs.declared.Verdict.the-variants.{Accepted};
 ghost use Rattle.layout.specs.Table.{bucketAt};
-ghost use Rattle.hash.specs.Hash.{bucketOf};
 ghost use Rattle.strings.specs.Order.{allEntryChecks};
 ghost use Rattle.strings.specs.inner.Held.{Held, heldTable};
-ghost use Rattle.search.specs.inner.Lower.{Lower};
-ghost use Rattle.search.specs.inner.Group.{AllLow, Aimed, Within, Lengths};
+ghost use Rattle.search.specs.inner.Group.{AllLow, Looked, Aimed, Within, Lengths};
 use crate::near;
+use crate::pending;
 use strings::Strings;
 use strings::entry;
 
@@ -209,8 +208,7 @@ fn find_spans(
     }
 }
 
-// Eight entries for each hash, from `guess` on, with the first and the last hash of them. In a table of less than 64 kilobytes nothing is
-// looked at: it is near as it is.
+// Eight entries for each hash, from `guess` on, with the first and the last hash of them.
 fn approach(
     b: &[u8],
     s: Strings,
@@ -226,9 +224,6 @@ fn approach(
         × Lengths (now guess) (now least) (now most) ⌝ }
     ensures { λ _. ⌜ Lengths (now (guess .exit)) (now (least .exit)) (now (most .exit)) ⌝ }
 {
-    if !spread(b, s, segments, buckets, 65536) {
-        return;
-    }
     come_near(b, s, segments, buckets, hashes, n, guess, least);
     let mut first = [0u32; 64];
     let mut last = [0u32; 64];
@@ -249,11 +244,12 @@ fn approach(
 }
 
 // Where to look for h when eight entries from g on have hashes from `least` to `most`: there, or seven entries on or back.
-fn moved(h: usize, g: usize, least: usize, most: usize) -> usize
+fn shifted(h: usize, g: usize, least: usize, most: usize) -> usize
     requires { ⌜ g < 2 ^ 32 ⌝ }
+    ensures { λ r. ⌜ r < 2 ^ 32 ⌝ }
 {
     if most < h {
-        return g + 7;
+        return (g + 7) % 4294967296;
     }
     if least < h {
         return g;
@@ -261,25 +257,91 @@ fn moved(h: usize, g: usize, least: usize, most: usize) -> usize
     if g < 7 { 0 } else { g - 7 }
 }
 
-// The first entry of its bucket whose hash is not below h, or the bucket's end, when eight entries from g on have hashes from `least` to
-// `most`.
-fn low_from(
+// The same for each hash.
+fn shift_each(
+    hashes: &[u32; 64],
+    n: usize,
+    least: &[u32; 64],
+    most: &[u32; 64],
+    guess: &mut [u32; 64],
+)
+    requires { ⌜ (n ≤ 64) × (length (now hashes) ≡ 64) × Lengths (now guess) (now least) (now most) ⌝ }
+    ensures { λ _. ⌜ length (now (guess .exit)) ≡ 64 ⌝ }
+{
+    let mut j = 0;
+    while j < n {
+        let g = shifted(
+            le::wide(hashes[j]),
+            le::wide(guess[j]),
+            le::wide(least[j]),
+            le::wide(most[j]),
+        );
+        guess[j] = g as u32;
+        j += 1;
+    }
+}
+
+// A guess for each hash: where eight entries are to be read. In a table of less than 64 kilobytes nothing is read for it: it is near as it is.
+fn guess_each(
     b: &[u8],
     s: Strings,
     segments: &[u32; 1024],
     buckets: &[u32],
-    h: usize,
-    g: usize,
-    least: usize,
-    most: usize,
-) -> usize
-    requires { ⌜ Held (now b) s (now segments) (now buckets) × (firstFault (allEntryChecks (heldTable (now b) s (now buckets))) ≡ Accepted)
-        × (g < 2 ^ 32) ⌝ }
-    ensures { λ r. ⌜ Lower (heldTable (now (b .entry)) s (now (buckets .entry))) (bucketOf (length (now (buckets .entry))) h) h r ⌝ }
+    hashes: &[u32; 64],
+    n: usize,
+    guess: &mut [u32; 64],
+)
+    requires { ⌜ Held (now b) s (now segments) (now buckets) × (n ≤ 64) × (length (now hashes) ≡ 64) × (length (now guess) ≡ 64) ⌝ }
+    ensures { λ _. ⌜ length (now (guess .exit)) ≡ 64 ⌝ }
 {
-    let k = hash::bucket(h, buckets.len());
-    let r = moved(h, g, least, most);
-    near::lower_near(b, s, segments, buckets, k, h, r)
+    if !spread(b, s, segments, buckets, 65536) {
+        return;
+    }
+    let mut least = [0u32; 64];
+    let mut most = [0u32; 64];
+    approach(
+        b,
+        s,
+        segments,
+        buckets,
+        hashes,
+        n,
+        guess,
+        &mut least,
+        &mut most,
+    );
+    shift_each(hashes, n, &least, &most, guess);
+}
+
+// Looks for each hash where it is guessed to stand. Answers how many are not found so, and lists these.
+fn look_each(
+    b: &[u8],
+    s: Strings,
+    segments: &[u32; 1024],
+    buckets: &[u32],
+    hashes: &[u32; 64],
+    n: usize,
+    guess: &[u32; 64],
+    low: &mut [usize; 64],
+    which: &mut [usize; 64],
+) -> usize
+    requires { ⌜ Held (now b) s (now segments) (now buckets) × (n ≤ 64) × (length (now hashes) ≡ 64) × Lengths (now guess) (now low) (now which) ⌝ }
+    ensures { λ m. ⌜ Looked (heldTable (now (b .entry)) s (now (buckets .entry))) (now (hashes .entry)) n (now (low .exit)) (now (which .exit)) m 0 ⌝ }
+{
+    let mut m = 0;
+    let mut j = 0;
+    while j < n {
+        let h = le::wide(hashes[j]);
+        let k = hash::bucket(h, buckets.len());
+        let r = near::look_near(b, s, segments, buckets, k, h, le::wide(guess[j]));
+        low[j] = r;
+        which[m] = j;
+        if r == near::NOT_TOLD {
+            m += 1;
+        }
+        j += 1;
+    }
+    m
 }
 
 // The places of the first n hashes, each in its bucket.
@@ -297,31 +359,10 @@ pub fn settle(
     ensures { λ _. ⌜ AllLow (heldTable (now (b .entry)) s (now (buckets .entry))) (now (hashes .entry)) n (now (low .exit)) ⌝ }
 {
     let mut guess = [0u32; 64];
-    let mut least = [0u32; 64];
-    let mut most = [4294967295u32; 64];
-    approach(
-        b,
-        s,
-        segments,
-        buckets,
-        hashes,
-        n,
-        &mut guess,
-        &mut least,
-        &mut most,
-    );
-    let mut j = 0;
-    while j < n {
-        low[j] = low_from(
-            b,
-            s,
-            segments,
-            buckets,
-            le::wide(hashes[j]),
-            le::wide(guess[j]),
-            le::wide(least[j]),
-            le::wide(most[j]),
-        );
-        j += 1;
+    guess_each(b, s, segments, buckets, hashes, n, &mut guess);
+    let mut which = [0usize; 64];
+    let m = look_each(b, s, segments, buckets, hashes, n, &guess, low, &mut which);
+    if m > 0 {
+        pending::find_rest(b, s, segments, buckets, hashes, n, &which, m, low);
     }
 }

@@ -8,10 +8,20 @@ ghost use Rattle.search.specs.inner.Lower.{Halved};
 
 pub mod group;
 mod near;
+mod pending;
 pub mod run;
 
 use strings::Strings;
 use strings::entry;
+
+// No bucket has 2 to the 31 entries: a file has at most 2 to the 30 bytes.
+const MOST_ROUNDS: usize = 31;
+
+// What is left of a search: the entries from lo on and before hi.
+struct Bounds {
+    lo: usize,
+    hi: usize,
+}
 
 // Where a hash h is to be expected among n, when w was met at place g: about (h - w) * n / 2^32 entries further on. Counted with n more, so
 // that nothing hangs on which of h and w is larger: that goes one way as often as the other, and a processor would guess it wrong.

@@ -9,6 +9,9 @@ ghost use Rattle.search.specs.inner.Lower.{Near, countBelow, atMost, cou
 use strings::Strings;
 use strings::entry;
 
+// No place in a bucket: the entries that were read do not tell.
+pub const NOT_TOLD: usize = 4294967295;
+
 // How many of the eight entries of bucket k from entry w on have hashes below h. Where hashes ascend these come first. All are counted, since
 // a branch for each would be mispredicted.
 fn count_below(
@@ -93,9 +96,8 @@ fn settled(w: usize, c: usize, n: usize) -> bool
     true
 }
 
-// The first entry of bucket k whose hash is not below h, or the number of entries, where hashes ascend: looked for in eight entries from g on,
-// and by halving where these do not tell. Any guess works; a close one saves the halving.
-pub fn lower_near(
+// Where h stands in bucket k, if eight entries from g on tell; NOT_TOLD if they do not. Any guess works; a close one saves the halving.
+pub fn look_near(
     b: &[u8],
     s: Strings,
     segments: &[u32; 1024],
@@ -105,7 +107,7 @@ pub fn lower_near(
     g: usize,
 ) -> usize
     requires { ⌜ Held (now b) s (now segments) (now buckets) × (k < length (now buckets)) ⌝ }
-    ensures { λ r. ⌜ Near (heldTable (now (b .entry)) s (now (buckets .entry))) k h r ⌝ }
+    ensures { λ r. ⌜ ((r ≡ 4294967295 → ⊥) → Near (heldTable (now (b .entry)) s (now (buckets .entry))) k h r) ⌝ }
 {
     let n = entry::entry_count(b, s, segments, buckets, k);
     if n == 0 {
@@ -119,5 +121,5 @@ pub fn lower_near(
     if settled(w, c, n) {
         return w + c;
     }
-    crate::lower(b, s, segments, buckets, k, h)
+    NOT_TOLD
 }

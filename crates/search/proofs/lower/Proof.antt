@@ -2,7 +2,8 @@ use native.Mathlib.Omega.{arith}
 use mathlib.Core.Path.{refl}
 use borrow.Author.Needs.{needs}
 use Rattle.laws.specs.Halving.{halving}
-use Rattle.laws.proofs.Halving.{Halving, rounds-of, round-start, round-left, round-up, round-down, round-end}
+use Rattle.laws.specs.inner.Halfway.{Halfway}
+use Rattle.laws.proofs.Halving.{rounds-of, round-start, round-left, round-up, round-down, round-end}
 use Rattle.layout.specs.Table.{entries, hashOf}
 use Rattle.strings.specs.inner.Held.{heldTable}
 use Rattle.strings.proofs.Places.{few-entries, here-in, hash-at}
@@ -11,7 +12,7 @@ use Rattle.search.proofs.lower.Tie as tie
 
 abbrev Inv-loop : tie.InvT-loop
 Inv-loop b s segments buckets k h lo₀ hi₀ left₀ lo hi left =
-    Halving (hashOf (heldTable b s buckets) k) (entries (heldTable b s buckets) k) h
+    Halfway (hashOf (heldTable b s buckets) k) (entries (heldTable b s buckets) k) h
     (halving (hashOf (heldTable b s buckets) k) h left₀ 0 (entries (heldTable b s buckets) k)) left lo hi
 
 -- the number that falls: it starts at the least k with 2 to the k above the bucket's count

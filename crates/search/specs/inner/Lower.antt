@@ -5,6 +5,7 @@ use mathlib.Core.Path.{_≡_}
 use mathlib.Core.Bool.{cond}
 use lib.Dec.{ltb}
 use Rattle.laws.specs.Halving.{FirstNotBelow, halving, Rounds}
+use Rattle.laws.specs.inner.Halfway.{Halfway}
 use Rattle.layout.specs.Table.{Table, entries, hashOf}
 
 -- r is the first entry of bucket k whose hash is not below h, or the bucket's end.
@@ -37,10 +38,17 @@ pub record Settled (w c n : ℕ) : Type 0 where
   pub first : c ≡ 0 → w ≡ 0
   pub last : c ≡ 8 → w + 8 ≡ n
 
--- How r is found from a guess: of a bucket of at most eight entries by a count of all; of another by a count of eight from w on, or, where these
+-- How r is found: of a bucket of at most eight entries by a count of all; of another by a count of eight from w on, or, where these
 -- do not tell, by halving. So no more is read than eight entries and one for each round that the bucket's count allows.
 pub data Near (t : Table) (k h r : ℕ) : Type 0 where
   few : entries t k ≤ 8 → r ≡ countFew (hashOf t k) h (entries t k) → Near t k h r
   eight : (w : ℕ) → w + 8 ≤ entries t k → Settled w (countBelow (hashOf t k) h w 8) (entries t k) → r ≡ w + countBelow (hashOf t k) h w 8
       → Near t k h r
   halved : Halved t k h r → Near t k h r
+
+-- How far the search of hash h in bucket k has come. What is left lies from lo on and before hi: nothing, where the entries that were read told
+-- where it stands; or what the halving of the bucket has come to.
+pub data Searching (t : Table) (k h lo hi : ℕ) : Type 0 where
+  told : hi ≤ lo → Near t k h lo → Searching t k h lo hi
+  going-on : (rounds left : ℕ) → Rounds (entries t k) rounds
+      → Halfway (hashOf t k) (entries t k) h (halving (hashOf t k) h rounds 0 (entries t k)) left lo hi → Searching t k h lo hi
