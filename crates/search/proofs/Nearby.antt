@@ -6,10 +6,12 @@ use native.Mathlib.Omega.{arith}
 use mathlib.Core.Path.{_≡_, refl, ap, subst, sym, _∙_}
 use mathlib.Core.Logic.{⊎-elim}
 use mathlib.Core.List.{List}
+use lib.Dec.{eqb}
 use borrow.Author.Tests.{lt-ltb, le-ltb}
 use Rattle.laws.specs.Halving.{Ascending, FirstNotBelow}
 use Rattle.laws.proofs.Order.{le-or-lt}
-use Rattle.verdict.proofs.Laws.{Clean}
+use Rattle.verdict.specs.inner.Tells.{Tells}
+use Rattle.verdict.proofs.Laws.{Clean, tells-eqb}
 use Rattle.hash.specs.Hash.{hashText, bucketOf}
 use Rattle.layout.specs.Table.{Table, entries, hashOf}
 use Rattle.strings.specs.Texts.{textOf}
@@ -119,6 +121,35 @@ module _ (f : ℕ → ℕ) (n x : ℕ) (up : Ascending f n) where
       behind m a d z =
           let g : r < 8 = ⊎-elim (λ y. absurd (omega (arith, s .last (omega (arith, c .upto))))) (λ y. y) (le-or-lt 8 r) in
           omega (arith, c .above (w + 7) (omega arith) (omega arith), up (w + 7) m (omega arith) d)
+
+-- all of m, or none
+pub all-of : (x m : ℕ) → x ≡ m → x ≤ m
+all-of x m e = omega arith
+
+pub none-of : (x m : ℕ) → x ≡ 0 → x ≤ m
+none-of x m e = omega arith
+
+-- x entries are in doubt before the eight from w on, and y behind them
+module _ (w c n x y : ℕ) (l : w + 8 ≤ n) (a : c ≡ 0 → x ≡ w) (b : (c ≡ 0 → ⊥) → x ≡ 0) (d : c ≡ 8 → y ≡ n - 8 - w) (e : (c ≡ 8 → ⊥) → y ≡ 0) where
+  none-before-eight : Settled w c n → x ≡ 0
+  none-before-eight s =
+      ⊎-elim (λ (f : c ≤ 0). let z : c ≡ 0 = omega arith in omega (arith, a z, s .first z)) (λ f. b (λ z. omega arith)) (le-or-lt c 0)
+
+  none-behind-eight : Settled w c n → y ≡ 0
+  none-behind-eight s =
+      ⊎-elim
+      (λ (f : c ≤ 8). ⊎-elim
+      (λ (g : 8 ≤ c). let z : c ≡ 8 = omega arith in omega (arith, d z, s .last z))
+      (λ g. e (λ z. omega arith))
+      (le-or-lt 8 c))
+      (λ f. e (λ z. omega arith))
+      (le-or-lt c 8)
+
+  pub settled-at : Tells (Settled w c n) (eqb (x + y) 0)
+  settled-at =
+      tells-eqb (x + y) 0
+      (λ z. record { first = λ f. omega (arith, a f, z); last = λ f. omega (arith, d f, z) })
+      (λ s. omega (arith, none-before-eight s, none-behind-eight s))
 
 -- ---- all of few, the last one as often as it takes
 

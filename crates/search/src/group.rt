@@ -244,17 +244,19 @@ fn approach(
 }
 
 // Where to look for h when eight entries from g on have hashes from `least` to `most`: there, or seven entries on or back.
+// Counted with seven more, so that no branch is needed: which way it goes cannot be predicted.
 fn shifted(h: usize, g: usize, least: usize, most: usize) -> usize
     requires { ⌜ g < 2 ^ 32 ⌝ }
     ensures { λ r. ⌜ r < 2 ^ 32 ⌝ }
 {
+    let mut r = g + 7;
     if most < h {
-        return (g + 7) % 4294967296;
+        r += 7;
     }
-    if least < h {
-        return g;
+    if h <= least {
+        r -= 7;
     }
-    if g < 7 { 0 } else { g - 7 }
+    if r < 7 { 0 } else { (r - 7) % 4294967296 }
 }
 
 // The same for each hash.

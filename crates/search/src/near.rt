@@ -82,18 +82,15 @@ pub fn window(g: usize, n: usize) -> usize
     if g < n - 8 { g } else { n - 8 }
 }
 
-// Whether it is known where h stands among n entries, when c of the eight from w on are below it.
+// Whether it is known where h stands among n entries, when c of the eight from w on are below it: no entries are in doubt before these, and none
+// behind them. No branch, since it could not be predicted.
 fn settled(w: usize, c: usize, n: usize) -> bool
     requires { ⌜ w + 8 ≤ n ⌝ }
     ensures { λ r. ⌜ Tells (Settled w c n) r ⌝ }
 {
-    if c == 0 {
-        return w == 0;
-    }
-    if c == 8 {
-        return w + 8 == n;
-    }
-    true
+    let before = if c == 0 { w } else { 0 };
+    let behind = if c == 8 { n - 8 - w } else { 0 };
+    before + behind == 0
 }
 
 // Where h stands in bucket k, if eight entries from g on tell; NOT_TOLD if they do not. Any guess works; a close one saves the halving.
