@@ -19,7 +19,7 @@ use Rattle.layout.proofs.Laws.{entry-fits}
 use Rattle.strings.specs.Order.{allEntryChecks}
 use Rattle.strings.specs.inner.Held.{Held, heldTable}
 use Rattle.strings.specs.declared.Strings.{Strings}
-use Rattle.search.specs.inner.Lower.{Near, halved, Searching, told, going-on}
+use Rattle.search.specs.inner.Lower.{Below, Near, halved, Searching, told, going-on}
 use Rattle.search.specs.inner.Group.{AllLow, NearAt, AllNear, StartAt, SearchingAt, AllSearching, Advanced, Listed, ListedFrom, Looked, Gathered}
 use Rattle.search.proofs.Nearby.{near-place}
 
@@ -73,11 +73,46 @@ module _ (t : Table) (k h lo hi : ℕ) (s : Searching t k h lo hi) (l : lo < hi)
     unfolding hashOf entryAt
     read = e ∙ ap (u32At (t .bytes)) (omega (arith, d))
 
-    pub halve-up : w < h → Searching t k h (m + 1) hi × (lo < hi → hi - (m + 1) < hi - lo)
+    halve-up : w < h → Searching t k h (m + 1) hi × (lo < hi → hi - (m + 1) < hi - lo)
     halve-up g = (searching-up t k h lo hi m w l c read g s, λ _. omega arith)
 
-    pub halve-down : h ≤ w → Searching t k h lo m × (lo < hi → m - lo < hi - lo)
+    halve-down : h ≤ w → Searching t k h lo m × (lo < hi → m - lo < hi - lo)
     halve-down g = (searching-down t k h lo hi m w l c read g s, λ _. omega arith)
+
+    -- by the number that says which half stays
+    pub halve-by : (x : ℕ) → Below w h x
+        → Searching t k h (lo + x * (m + 1 - lo)) (m + x * (hi - m)) × (lo < hi → m + x * (hi - m) - (lo + x * (m + 1 - lo)) < hi - lo)
+    halve-by x r =
+        ⊎-elim
+        (λ g.
+        let e : x ≡ 0 = r .none g in
+        let p : lo + x * (m + 1 - lo) ≡ lo = rw e (omega arith) in
+        let q : m + x * (hi - m) ≡ m = rw e (omega arith) in
+        rw (p, q) (halve-down g))
+        (λ g.
+        let e : x ≡ 1 = r .one g in
+        let p : lo + x * (m + 1 - lo) ≡ m + 1 = rw e (omega arith) in
+        let q : m + x * (hi - m) ≡ hi = rw e (omega arith) in
+        rw (p, q) (halve-up g))
+        (le-or-lt h w)
+
+-- no number on the way is above hi
+pub record Kept (lo hi m r : ℕ) : Type 0 where
+  pub low-product : r * (m + 1 - lo) ≤ hi
+  pub low-sum : lo + r * (m + 1 - lo) ≤ hi
+  pub high-product : r * (hi - m) ≤ hi
+  pub high-sum : m + r * (hi - m) ≤ hi
+
+pub halve-fits : (lo hi m w h r : ℕ) → lo < hi → m ≡ lo + (hi - lo) / 2 → Below w h r → Kept lo hi m r
+halve-fits lo hi m w h r l c b =
+    ⊎-elim
+    (λ g.
+    let e : r ≡ 0 = b .none g in
+    rw e (record { low-product = omega arith; low-sum = omega arith; high-product = omega arith; high-sum = omega arith }))
+    (λ g.
+    let e : r ≡ 1 = b .one g in
+    rw e (record { low-product = omega arith; low-sum = omega arith; high-product = omega arith; high-sum = omega arith }))
+    (le-or-lt h w)
 
 -- the entry in the middle lies in the file
 module _ (b : List ℕ) (s : Strings) (segments buckets : List ℕ) (h : Held b s segments buckets) where

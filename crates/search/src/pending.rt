@@ -1,16 +1,24 @@
 // Searches of many hashes that go on side by side: each pass makes one round of the halving for every hash that is not found yet, so that
 // no round waits for the one before.
 ghost use mathlib.Core.Path.{_≡_};
-ghost use Prim.Native.Nat.{_-_, _≤_, _<_};
+ghost use Prim.Native.Nat.{_-_, _≤_, _<_, _^_};
 ghost use lib.ListN.{length, getD};
 ghost use Rattle.layout.specs.Table.{entryAt};
 ghost use Rattle.strings.specs.inner.Held.{Held, heldTable};
 ghost use Rattle.hash.specs.Hash.{bucketOf};
-ghost use Rattle.search.specs.inner.Lower.{Near, Searching};
+ghost use Rattle.search.specs.inner.Lower.{Below, Near, Searching};
 ghost use Rattle.search.specs.inner.Group.{StartAt, SearchingAt, AllSearching, Advanced, Listed, Gathered, Looked, AllNear, Lengths};
 use crate::Bounds;
 use strings::Strings;
 use strings::entry;
+
+// 1 where w is below h, and 0 where it is not. A branch on it would be mispredicted every other time.
+fn is_below(w: usize, h: usize) -> usize
+    requires { ⌜ (w < 2 ^ 32) × (h < 2 ^ 32) ⌝ }
+    ensures { λ r. ⌜ Below w h r ⌝ }
+{
+    (h + 4294967295 - w) >> 32
+}
 
 // One round of the halving for hash h, if something is left: one entry is read. The entries of its bucket stand from `at` on.
 fn halve(
@@ -24,7 +32,7 @@ fn halve(
     hi: usize,
 ) -> Bounds
     requires { ⌜ Held (now b) s (now segments) (now buckets)
-        × (at ≡ entryAt (heldTable (now b) s (now buckets)) (bucketOf (length (now buckets)) h) 0)
+        × (at ≡ entryAt (heldTable (now b) s (now buckets)) (bucketOf (length (now buckets)) h) 0) × (h < 2 ^ 32)
         × Searching (heldTable (now b) s (now buckets)) (bucketOf (length (now buckets)) h) h lo hi ⌝ }
     ensures { λ r. ⌜ Searching (heldTable (now (b .entry)) s (now (buckets .entry))) (bucketOf (length (now (buckets .entry))) h) h (r .lo) (r .hi)
         × (lo < hi → r .hi - r .lo < hi - lo) ⌝ }
@@ -33,13 +41,14 @@ fn halve(
         return Bounds { lo, hi };
     }
     let mid = lo + (hi - lo) / 2;
-    if le::u32_at(b, at + 16 * mid) < h {
-        return Bounds { lo: mid + 1, hi };
+    let below = is_below(le::u32_at(b, at + 16 * mid), h);
+    Bounds {
+        lo: lo + below * (mid + 1 - lo),
+        hi: mid + below * (hi - mid),
     }
-    Bounds { lo, hi: mid }
 }
 
-// One round of the search of hash j.
+// One round of the search of hash j. Whether something is left.
 fn advance(
     b: &[u8],
     s: Strings,
@@ -50,7 +59,7 @@ fn advance(
     low: &mut [usize; 64],
     high: &mut [usize; 64],
     j: usize,
-)
+) -> bool
     requires { ⌜ Held (now b) s (now segments) (now buckets) × (length (now hashes) ≡ 64) × Lengths (now at) (now low) (now high) × (j < 64)
         × StartAt (heldTable (now b) s (now buckets)) (now hashes) j (getD (now at) j 0)
         × SearchingAt (heldTable (now b) s (now buckets)) (now hashes) j (getD (now low) j 0) (getD (now high) j 0) ⌝ }
@@ -69,6 +78,7 @@ fn advance(
     );
     low[j] = x.lo;
     high[j] = x.hi;
+    x.lo < x.hi
 }
 
 // The largest of n numbers.
@@ -87,7 +97,7 @@ fn largest(n: usize, high: &[usize; 64]) -> usize
     r
 }
 
-// Halves what is left of the searches of n hashes, side by side: as often as the largest bucket needs.
+// Halves what is left of the searches of n hashes, side by side, until all are found: as often as the largest bucket needs.
 fn halve_all(
     b: &[u8],
     s: Strings,
@@ -106,10 +116,16 @@ fn halve_all(
 {
     let mut width = largest(n, high);
     while width > 0 {
+        let mut more = false;
         let mut j = 0;
         while j < n {
-            advance(b, s, segments, buckets, hashes, at, low, high, j);
+            if advance(b, s, segments, buckets, hashes, at, low, high, j) {
+                more = true;
+            }
             j += 1;
+        }
+        if !more {
+            return;
         }
         width = width / 2;
     }
@@ -127,7 +143,7 @@ fn finish(
     hi: usize,
 ) -> usize
     requires { ⌜ Held (now b) s (now segments) (now buckets)
-        × (at ≡ entryAt (heldTable (now b) s (now buckets)) (bucketOf (length (now buckets)) h) 0)
+        × (at ≡ entryAt (heldTable (now b) s (now buckets)) (bucketOf (length (now buckets)) h) 0) × (h < 2 ^ 32)
         × Searching (heldTable (now b) s (now buckets)) (bucketOf (length (now buckets)) h) h lo hi ⌝ }
     ensures { λ r. ⌜ Near (heldTable (now (b .entry)) s (now (buckets .entry))) (bucketOf (length (now (buckets .entry))) h) h r ⌝ }
 {

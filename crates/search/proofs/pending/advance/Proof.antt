@@ -7,8 +7,8 @@ use Rattle.search.proofs.pending.advance.Tie as tie
 halve-requires : tie.Need-halve-requires
 halve-requires c κs =
     let p = c .before .before .before .before .before .before .before .pre in
-    let h = c .before .before .wide .ensures .0 in
-    (p .0, start-of _ _ _ _ h (p .4), searching-of _ _ _ _ _ h (p .5))
+    let h = c .before .before .wide .ensures in
+    (p .0, start-of _ _ _ _ (h .0) (p .4), h .1, searching-of _ _ _ _ _ (h .0) (p .5))
 
 returns : tie.Need-returns
 returns c =
@@ -17,7 +17,7 @@ returns c =
       hi = _;
       low-is = refl;
       high-is = refl;
-      searching = searching-of _ _ _ _ _ (sym (c .before .before .before .wide .ensures .0)) (c .halve .ensures .0);
+      searching = searching-of _ _ _ _ _ (sym (c .before .before .before .before .wide .ensures .0)) (c .before .halve .ensures .0);
     }
 
 pub advance-spec : {M : Type 1} → statement M

@@ -34,8 +34,8 @@ finish-requires : tie.Need-finish-requires Inv-loop μ-loop
 finish-requires c κs =
     let l = c .before .loop-test .taken in
     let w = c .before .before .before .halve-all .ensures in
-    let h = c .wide .ensures .0 in
-    (c .before .before .before .before .before .before .before .before .before .before .before .before .before .before .before .before .before .pre .0, start-of _ _ _ _ h (w .start _ l), searching-of _ _ _ _ _ h (w .each _ l))
+    let h = c .wide .ensures in
+    (c .before .before .before .before .before .before .before .before .before .before .before .before .before .before .before .before .before .pre .0, start-of _ _ _ _ (h .0) (w .start _ l), h .1, searching-of _ _ _ _ _ (h .0) (w .each _ l))
 
 mul-low-2 : tie.Need-mul-low-2 Inv-loop μ-loop
 mul-low-2 c =

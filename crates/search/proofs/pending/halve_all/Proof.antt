@@ -8,10 +8,11 @@ use Rattle.search.proofs.pending.halve_all.Statement.{statement}
 use Rattle.search.proofs.pending.halve_all.Tie as tie
 
 abbrev Inv-loop2 : tie.InvT-loop2
-Inv-loop2 b s segments buckets hashes n at low₀ high₀ width j₀ low high j = AllSearching (heldTable b s buckets) hashes n at low high
+Inv-loop2 b s segments buckets hashes n at low₀ high₀ width more₀ j₀ low high more j =
+    AllSearching (heldTable b s buckets) hashes n at low high
 
 abbrev μ-loop2 : tie.MeasureT-loop2
-μ-loop2 b s segments buckets hashes n at low₀ high₀ width j₀ low high j = n - j
+μ-loop2 b s segments buckets hashes n at low₀ high₀ width more₀ j₀ low high more j = n - j
 
 abbrev Inv-loop : tie.InvT-loop
 Inv-loop b s segments buckets hashes n at low₀ high₀ width₀ low high width =
@@ -32,12 +33,12 @@ advance-requires c κs =
 
 loop2-again : tie.Need-loop2-again Inv-loop2 μ-loop2 Inv-loop μ-loop
 loop2-again c =
-    let p = c .before .before .before .before .before .before .before .before .before .before .before .pre in
-    let l = c .before .before .before .loop2-test .taken in
-    searches-on _ _ _ _ _ _ (c .before .before .before .before .loop2 .inv) _ _ _ (omega (arith, l, p .1)) (c .advance .ensures)
+    let p = c .before .before .before .before .before .before .before .before .before .before .before .before .pre in
+    let l = c .before .before .before .before .loop2-test .taken in
+    searches-on _ _ _ _ _ _ (c .before .before .before .before .before .loop2 .inv) _ _ _ (omega (arith, l, p .1)) (c .before .advance .ensures)
 
 pub halve-all-spec : {M : Type 1} → statement M
 halve-all-spec =
     tie.close
     (tie.spec Inv-loop2 μ-loop2 Inv-loop μ-loop largest-requires (λ c. search needs) (λ c. search needs) advance-requires
-    (λ c. search needs) (λ c. search needs) loop2-again (λ c. search needs) (λ c. search needs) (λ c. search needs))
+    (λ c. search needs) (λ c. search needs) loop2-again (λ c. search needs) (λ c. search needs) (λ c. search needs) (λ c. search needs))
