@@ -1,8 +1,7 @@
 -- Searches that go on side by side. Assumes nothing.
-use Prim.Native.Nat.{ℕ, _+_, _-_, _*_, _/_, _≤_, _<_}
-use native.Mathlib.Nat.{mod-lt}
+use Prim.Native.Nat.{ℕ, _+_, _-_, _/_, _≤_, _<_}
 use native.Mathlib.Omega.{arith}
-use mathlib.Core.Path.{_≡_, refl, ap, subst, sym, _∙_}
+use mathlib.Core.Path.{_≡_, ap, subst, sym, _∙_}
 use mathlib.Core.Logic.{_⊎_, inl, inr, ⊎-elim}
 use mathlib.Core.List.{List}
 use borrow.Author.Count.{below-none, below-more}
@@ -12,23 +11,14 @@ use Rattle.laws.proofs.Order.{le-or-lt}
 use Rattle.strings.proofs.Filling.{fill, fill-both}
 use Rattle.laws.proofs.Halving.{some-rounds, rounds-of, round-start, round-up, round-down, round-end}
 use Rattle.verdict.proofs.Laws.{Clean}
-use Rattle.le.specs.Le.{u32At}
 use Rattle.hash.specs.Hash.{bucketOf}
-use Rattle.layout.specs.Table.{Table, bucketAt, entries, entryAt, hashOf}
-use Rattle.layout.proofs.Laws.{entry-fits}
+use Rattle.layout.specs.Table.{Table, entries, hashOf}
 use Rattle.strings.specs.Order.{allEntryChecks}
-use Rattle.strings.specs.inner.Held.{Held, heldTable}
-use Rattle.strings.specs.declared.Strings.{Strings}
-use Rattle.search.specs.inner.Lower.{Below, Near, halved, Searching, told, going-on}
-use Rattle.search.specs.inner.Group.{AllLow, NearAt, AllNear, StartAt, SearchingAt, AllSearching, Advanced, Listed, ListedFrom, Looked, Gathered}
+use Rattle.search.specs.inner.Lower.{Near, halved, Searching, told, going-on}
+use Rattle.search.specs.inner.Group.{AllLow, NearAt, AllNear, SearchingAt, AllSearching, Advanced, Listed, ListedFrom, Looked, Gathered}
 use Rattle.search.proofs.Nearby.{near-place}
 
 -- ---- one search
-
--- entry m behind a lies in a file that is small enough
-pub record Reaching (b : List ℕ) (a m : ℕ) : Type 0 where
-  pub fits : a + 16 * m + 16 ≤ length b
-  pub small : length b ≤ 1073741824
 
 module _ (t : Table) (k h : ℕ) where
   -- all entries are left
@@ -62,67 +52,23 @@ module _ (t : Table) (k h : ℕ) where
 pub searching-in : (t : Table) (k m h lo hi : ℕ) → k ≡ m → Searching t k h lo hi → Searching t m h lo hi
 searching-in t k m h lo hi e s = subst (λ (x : ℕ). Searching t x h lo hi) e s
 
--- one round, by where the entries of the bucket start: w was read of the entry in the middle
-module _ (t : Table) (k h lo hi : ℕ) (s : Searching t k h lo hi) (l : lo < hi) (m : ℕ) (c : m ≡ lo + (hi - lo) / 2) where
+module _ (t : Table) (k i h lo hi : ℕ) (q : k ≡ i) (s : Searching t i h lo hi) (l : lo < hi) (m w : ℕ) (c : m ≡ lo + (hi - lo) / 2) where
   -- the middle is an entry of the bucket
   pub middle-in : m < entries t k
-  middle-in = omega (arith, searching-high t k h lo hi s l)
+  middle-in = omega (arith, searching-high t k h lo hi (searching-in t i k h lo hi (sym q) s) l)
 
-  module _ (a w : ℕ) (d : a ≡ entryAt t k 0) (e : w ≡ u32At (t .bytes) (a + 16 * m)) where
-    read : w ≡ hashOf t k m
-    unfolding hashOf entryAt
-    read = e ∙ ap (u32At (t .bytes)) (omega (arith, d))
+  module _ (e : w ≡ hashOf t k m) where
+    pub halve-up : w < h → Searching t i h (m + 1) hi × (lo < hi → hi - (m + 1) < hi - lo)
+    halve-up g = (
+      searching-in t k i h (m + 1) hi q (searching-up t k h lo hi m w l c e g (searching-in t i k h lo hi (sym q) s)),
+      λ _. omega arith,
+    )
 
-    halve-up : w < h → Searching t k h (m + 1) hi × (lo < hi → hi - (m + 1) < hi - lo)
-    halve-up g = (searching-up t k h lo hi m w l c read g s, λ _. omega arith)
-
-    halve-down : h ≤ w → Searching t k h lo m × (lo < hi → m - lo < hi - lo)
-    halve-down g = (searching-down t k h lo hi m w l c read g s, λ _. omega arith)
-
-    -- by the number that says which half stays
-    pub halve-by : (x : ℕ) → Below w h x
-        → Searching t k h (lo + x * (m + 1 - lo)) (m + x * (hi - m)) × (lo < hi → m + x * (hi - m) - (lo + x * (m + 1 - lo)) < hi - lo)
-    halve-by x r =
-        ⊎-elim
-        (λ g.
-        let e : x ≡ 0 = r .none g in
-        let p : lo + x * (m + 1 - lo) ≡ lo = rw e (omega arith) in
-        let q : m + x * (hi - m) ≡ m = rw e (omega arith) in
-        rw (p, q) (halve-down g))
-        (λ g.
-        let e : x ≡ 1 = r .one g in
-        let p : lo + x * (m + 1 - lo) ≡ m + 1 = rw e (omega arith) in
-        let q : m + x * (hi - m) ≡ hi = rw e (omega arith) in
-        rw (p, q) (halve-up g))
-        (le-or-lt h w)
-
--- no number on the way is above hi
-pub record Kept (lo hi m r : ℕ) : Type 0 where
-  pub low-product : r * (m + 1 - lo) ≤ hi
-  pub low-sum : lo + r * (m + 1 - lo) ≤ hi
-  pub high-product : r * (hi - m) ≤ hi
-  pub high-sum : m + r * (hi - m) ≤ hi
-
-pub halve-fits : (lo hi m w h r : ℕ) → lo < hi → m ≡ lo + (hi - lo) / 2 → Below w h r → Kept lo hi m r
-halve-fits lo hi m w h r l c b =
-    ⊎-elim
-    (λ g.
-    let e : r ≡ 0 = b .none g in
-    rw e (record { low-product = omega arith; low-sum = omega arith; high-product = omega arith; high-sum = omega arith }))
-    (λ g.
-    let e : r ≡ 1 = b .one g in
-    rw e (record { low-product = omega arith; low-sum = omega arith; high-product = omega arith; high-sum = omega arith }))
-    (le-or-lt h w)
-
--- the entry in the middle lies in the file
-module _ (b : List ℕ) (s : Strings) (segments buckets : List ℕ) (h : Held b s segments buckets) where
-  pub entry-reach : (g lo hi : ℕ) {a : ℕ} → a ≡ entryAt (heldTable b s buckets) (bucketOf (length buckets) g) 0
-      → Searching (heldTable b s buckets) (bucketOf (length buckets) g) g lo hi → lo < hi → Reaching b a (lo + (hi - lo) / 2)
-  unfolding bucketOf entryAt
-  entry-reach g lo hi {a} e w l =
-      let k = mod-lt _ (h .some-bucket) in
-      let m = middle-in (heldTable b s buckets) _ g lo hi w l _ refl in
-      record { fits = omega (arith, e, entry-fits (heldTable b s buckets) (h .laid) _ _ k m); small = h .small }
+    pub halve-down : h ≤ w → Searching t i h lo m × (lo < hi → m - lo < hi - lo)
+    halve-down g = (
+      searching-in t k i h lo m q (searching-down t k h lo hi m w l c e g (searching-in t i k h lo hi (sym q) s)),
+      λ _. omega arith,
+    )
 
 -- ---- arrays of which one place is set
 
@@ -153,51 +99,35 @@ module _ (n m : ℕ) (xs : List ℕ) (r : Listed n m xs) where
 pub searching-of : (t : Table) (h g lo hi : ℕ) → h ≡ g → Searching t (bucketOf (t .buckets) g) g lo hi → Searching t (bucketOf (t .buckets) h) h lo hi
 searching-of t h g lo hi e s = rw e s
 
--- by the start that is read
-pub start-of : (t : Table) (h g a : ℕ) → h ≡ g → a ≡ entryAt t (bucketOf (t .buckets) g) 0 → a ≡ entryAt t (bucketOf (t .buckets) h) 0
-start-of t h g a e s = rw e s
+pub searches-none : (t : Table) (hashes low high : List ℕ) → length low ≡ 64 → length high ≡ 64 → AllSearching t hashes 0 low high
+searches-none t hashes low high e f = record { lows = e; highs = f; each = below-none _ }
 
-pub searches-none : (t : Table) (hashes at low high : List ℕ) → length at ≡ 64 → length low ≡ 64 → length high ≡ 64 → AllSearching t hashes 0 at low high
-searches-none t hashes at low high d e f = record { ats = d; lows = e; highs = f; start = below-none _; each = below-none _ }
-
-module _ (t : Table) (hashes at low high : List ℕ) (n : ℕ) (a : AllSearching t hashes n at low high) where
-  pub searches-upto : (m : ℕ) → m ≤ n → AllSearching t hashes m at low high
-  searches-upto m l = record {
-    ats = a .ats;
-    lows = a .lows;
-    highs = a .highs;
-    start = λ i h. a .start i (omega arith);
-    each = λ i h. a .each i (omega arith);
-  }
+module _ (t : Table) (hashes low high : List ℕ) (n : ℕ) (a : AllSearching t hashes n low high) where
+  pub searches-upto : (m : ℕ) → m ≤ n → AllSearching t hashes m low high
+  searches-upto m l = record { lows = a .lows; highs = a .highs; each = λ i h. a .each i (omega arith) }
 
   -- one of them goes on
-  pub searches-on : (j : ℕ) (low′ high′ : List ℕ) → j < 64 → Advanced t hashes j low high low′ high′ → AllSearching t hashes n at low′ high′
+  pub searches-on : (j : ℕ) (low′ high′ : List ℕ) → j < 64 → Advanced t hashes j low high low′ high′ → AllSearching t hashes n low′ high′
   searches-on j low′ high′ l w =
       rw (w .low-is, w .high-is)
       (record {
-        ats = a .ats;
         lows = length-set low j (w .lo) ∙ a .lows;
         highs = length-set high j (w .hi) ∙ a .highs;
-        start = a .start;
         each =
-            set-both n j (SearchingAt t hashes) low high (w .lo) (w .hi) (omega (arith, a .lows)) (omega (arith, a .highs)) (a .each) (w .searching);
+            set-both n j (SearchingAt t hashes) low high (w .lo) (w .hi)
+            (omega (arith, a .lows)) (omega (arith, a .highs)) (a .each) (w .searching);
       })
 
--- one more begins
-module _ (t : Table) (hashes at low high : List ℕ) (j : ℕ) (a : AllSearching t hashes j at low high) (l : j < 64) (h k : ℕ) (e : h ≡ getD hashes j 0)
-    (q : k ≡ bucketOf (t .buckets) h) where
-  pub searches-more : (s x lo hi : ℕ) → x ≡ bucketAt t k → s ≡ x + 4 → Searching t k h lo hi
-      → AllSearching t hashes (j + 1) (set at j s) (set low j lo) (set high j hi)
-  unfolding entryAt
-  searches-more s x lo hi c d w = record {
-    ats = length-set at j s ∙ a .ats;
-    lows = length-set low j lo ∙ a .lows;
-    highs = length-set high j hi ∙ a .highs;
-    start = fill (StartAt t hashes) at j s (omega (arith, a .ats)) (a .start) (rw (sym e, sym q) (omega (arith, c, d)));
-    each =
-        fill-both (SearchingAt t hashes) low high j lo hi (omega (arith, a .lows)) (omega (arith, a .highs)) (a .each)
-        (searching-of t _ h lo hi (sym e) (searching-in t k _ h lo hi q w));
-  }
+-- one more
+pub searches-more : (t : Table) (hashes low high : List ℕ) (j : ℕ) → AllSearching t hashes j low high → j < 64 → (h lo hi : ℕ) → h ≡ getD hashes j 0
+    → Searching t (bucketOf (t .buckets) h) h lo hi → AllSearching t hashes (j + 1) (set low j lo) (set high j hi)
+searches-more t hashes low high j a l h lo hi e s = record {
+  lows = length-set low j lo ∙ a .lows;
+  highs = length-set high j hi ∙ a .highs;
+  each =
+      fill-both (SearchingAt t hashes) low high j lo hi
+      (omega (arith, a .lows)) (omega (arith, a .highs)) (a .each) (rw (sym e) s);
+}
 
 -- ---- those that are not found where they were looked for
 

@@ -14,6 +14,9 @@ pub mod run;
 use strings::Strings;
 use strings::entry;
 
+// No bucket has 2 to the 31 entries: a file has at most 2 to the 30 bytes.
+const MOST_ROUNDS: usize = 31;
+
 // What is left of a search: the entries from lo on and before hi.
 struct Bounds {
     lo: usize,

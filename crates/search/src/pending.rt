@@ -1,38 +1,27 @@
 // Searches of many hashes that go on side by side: each pass makes one round of the halving for every hash that is not found yet, so that
 // no round waits for the one before.
 ghost use mathlib.Core.Path.{_≡_};
-ghost use Prim.Native.Nat.{_-_, _≤_, _<_, _^_};
+ghost use Prim.Native.Nat.{_-_, _≤_, _<_};
 ghost use lib.ListN.{length, getD};
-ghost use Rattle.layout.specs.Table.{entryAt};
 ghost use Rattle.strings.specs.inner.Held.{Held, heldTable};
 ghost use Rattle.hash.specs.Hash.{bucketOf};
-ghost use Rattle.search.specs.inner.Lower.{Below, Near, Searching};
-ghost use Rattle.search.specs.inner.Group.{StartAt, SearchingAt, AllSearching, Advanced, Listed, Gathered, Looked, AllNear, Lengths};
+ghost use Rattle.search.specs.inner.Lower.{Near, Searching};
+ghost use Rattle.search.specs.inner.Group.{SearchingAt, AllSearching, Advanced, Listed, Gathered, Looked, AllNear, Lengths};
 use crate::Bounds;
 use strings::Strings;
 use strings::entry;
 
-// 1 where w is below h, and 0 where it is not. A branch on it would be mispredicted every other time.
-fn is_below(w: usize, h: usize) -> usize
-    requires { ⌜ (w < 2 ^ 32) × (h < 2 ^ 32) ⌝ }
-    ensures { λ r. ⌜ Below w h r ⌝ }
-{
-    (h + 4294967295 - w) >> 32
-}
-
-// One round of the halving for hash h, if something is left: one entry is read. The entries of its bucket stand from `at` on.
+// One round of the halving for hash h, if something is left: one entry is read.
 fn halve(
     b: &[u8],
     s: Strings,
     segments: &[u32; 1024],
     buckets: &[u32],
-    at: usize,
     h: usize,
     lo: usize,
     hi: usize,
 ) -> Bounds
     requires { ⌜ Held (now b) s (now segments) (now buckets)
-        × (at ≡ entryAt (heldTable (now b) s (now buckets)) (bucketOf (length (now buckets)) h) 0) × (h < 2 ^ 32)
         × Searching (heldTable (now b) s (now buckets)) (bucketOf (length (now buckets)) h) h lo hi ⌝ }
     ensures { λ r. ⌜ Searching (heldTable (now (b .entry)) s (now (buckets .entry))) (bucketOf (length (now (buckets .entry))) h) h (r .lo) (r .hi)
         × (lo < hi → r .hi - r .lo < hi - lo) ⌝ }
@@ -40,12 +29,13 @@ fn halve(
     if hi <= lo {
         return Bounds { lo, hi };
     }
+    let k = hash::bucket(h, buckets.len());
     let mid = lo + (hi - lo) / 2;
-    let below = is_below(le::u32_at(b, at + 16 * mid), h);
-    Bounds {
-        lo: lo + below * (mid + 1 - lo),
-        hi: mid + below * (hi - mid),
+    let e = entry::entry_at(b, s, segments, buckets, k, mid);
+    if le::u32_at(b, e) < h {
+        return Bounds { lo: mid + 1, hi };
     }
+    Bounds { lo, hi: mid }
 }
 
 // One round of the search of hash j. Whether something is left.
@@ -55,13 +45,11 @@ fn advance(
     segments: &[u32; 1024],
     buckets: &[u32],
     hashes: &[u32; 64],
-    at: &[usize; 64],
     low: &mut [usize; 64],
     high: &mut [usize; 64],
     j: usize,
 ) -> bool
-    requires { ⌜ Held (now b) s (now segments) (now buckets) × (length (now hashes) ≡ 64) × Lengths (now at) (now low) (now high) × (j < 64)
-        × StartAt (heldTable (now b) s (now buckets)) (now hashes) j (getD (now at) j 0)
+    requires { ⌜ Held (now b) s (now segments) (now buckets) × Lengths (now hashes) (now low) (now high) × (j < 64)
         × SearchingAt (heldTable (now b) s (now buckets)) (now hashes) j (getD (now low) j 0) (getD (now high) j 0) ⌝ }
     ensures { λ _. ⌜ Advanced (heldTable (now (b .entry)) s (now (buckets .entry))) (now (hashes .entry)) j (now (low .entry)) (now (high .entry))
         (now (low .exit)) (now (high .exit)) ⌝ }
@@ -71,7 +59,6 @@ fn advance(
         s,
         segments,
         buckets,
-        at[j],
         le::wide(hashes[j]),
         low[j],
         high[j],
@@ -81,23 +68,7 @@ fn advance(
     x.lo < x.hi
 }
 
-// The largest of n numbers.
-fn largest(n: usize, high: &[usize; 64]) -> usize
-    requires { ⌜ (n ≤ 64) × (length (now high) ≡ 64) ⌝ }
-{
-    let mut r = 0;
-    let mut j = 0;
-    while j < n {
-        let x = high[j];
-        if r < x {
-            r = x;
-        }
-        j += 1;
-    }
-    r
-}
-
-// Halves what is left of the searches of n hashes, side by side, until all are found: as often as the largest bucket needs.
+// Halves what is left of the searches of n hashes, side by side, until all are found.
 fn halve_all(
     b: &[u8],
     s: Strings,
@@ -105,29 +76,28 @@ fn halve_all(
     buckets: &[u32],
     hashes: &[u32; 64],
     n: usize,
-    at: &[usize; 64],
     low: &mut [usize; 64],
     high: &mut [usize; 64],
 )
     requires { ⌜ Held (now b) s (now segments) (now buckets) × (n ≤ 64) × (length (now hashes) ≡ 64)
-        × AllSearching (heldTable (now b) s (now buckets)) (now hashes) n (now at) (now low) (now high) ⌝ }
-    ensures { λ _. ⌜ AllSearching (heldTable (now (b .entry)) s (now (buckets .entry))) (now (hashes .entry)) n (now (at .entry)) (now (low .exit))
-        (now (high .exit)) ⌝ }
+        × AllSearching (heldTable (now b) s (now buckets)) (now hashes) n (now low) (now high) ⌝ }
+    ensures { λ _. ⌜ AllSearching (heldTable (now (b .entry)) s (now (buckets .entry))) (now (hashes .entry)) n (now (low .exit)) (now (high .exit)) ⌝ }
 {
-    let mut width = largest(n, high);
-    while width > 0 {
-        let mut more = false;
+    let mut more = true;
+    let mut left = crate::MOST_ROUNDS;
+    while more {
+        if left == 0 {
+            return;
+        }
+        left -= 1;
+        more = false;
         let mut j = 0;
         while j < n {
-            if advance(b, s, segments, buckets, hashes, at, low, high, j) {
+            if advance(b, s, segments, buckets, hashes, low, high, j) {
                 more = true;
             }
             j += 1;
         }
-        if !more {
-            return;
-        }
-        width = width / 2;
     }
 }
 
@@ -137,19 +107,17 @@ fn finish(
     s: Strings,
     segments: &[u32; 1024],
     buckets: &[u32],
-    at: usize,
     h: usize,
     lo: usize,
     hi: usize,
 ) -> usize
     requires { ⌜ Held (now b) s (now segments) (now buckets)
-        × (at ≡ entryAt (heldTable (now b) s (now buckets)) (bucketOf (length (now buckets)) h) 0) × (h < 2 ^ 32)
         × Searching (heldTable (now b) s (now buckets)) (bucketOf (length (now buckets)) h) h lo hi ⌝ }
     ensures { λ r. ⌜ Near (heldTable (now (b .entry)) s (now (buckets .entry))) (bucketOf (length (now (buckets .entry))) h) h r ⌝ }
 {
     let mut x = Bounds { lo, hi };
     while x.lo < x.hi {
-        x = halve(b, s, segments, buckets, at, h, x.lo, x.hi);
+        x = halve(b, s, segments, buckets, h, x.lo, x.hi);
     }
     x.lo
 }
@@ -174,18 +142,15 @@ fn begin_each(
     buckets: &[u32],
     hashes: &[u32; 64],
     n: usize,
-    at: &mut [usize; 64],
     low: &mut [usize; 64],
     high: &mut [usize; 64],
 )
-    requires { ⌜ Held (now b) s (now segments) (now buckets) × (n ≤ 64) × (length (now hashes) ≡ 64) × Lengths (now at) (now low) (now high) ⌝ }
-    ensures { λ _. ⌜ AllSearching (heldTable (now (b .entry)) s (now (buckets .entry))) (now (hashes .entry)) n (now (at .exit)) (now (low .exit))
-        (now (high .exit)) ⌝ }
+    requires { ⌜ Held (now b) s (now segments) (now buckets) × (n ≤ 64) × Lengths (now hashes) (now low) (now high) ⌝ }
+    ensures { λ _. ⌜ AllSearching (heldTable (now (b .entry)) s (now (buckets .entry))) (now (hashes .entry)) n (now (low .exit)) (now (high .exit)) ⌝ }
 {
     let mut j = 0;
     while j < n {
         let k = hash::bucket(le::wide(hashes[j]), buckets.len());
-        at[j] = le::wide(buckets[k]) + 4;
         low[j] = 0;
         high[j] = entry::entry_count(b, s, segments, buckets, k);
         j += 1;
@@ -210,23 +175,13 @@ pub fn find_rest(
 {
     let mut rest = [0u32; 64];
     gather(hashes, which, m, &mut rest);
-    let mut at = [0usize; 64];
     let mut lo = [0usize; 64];
     let mut hi = [0usize; 64];
-    begin_each(b, s, segments, buckets, &rest, m, &mut at, &mut lo, &mut hi);
-    halve_all(b, s, segments, buckets, &rest, m, &at, &mut lo, &mut hi);
+    begin_each(b, s, segments, buckets, &rest, m, &mut lo, &mut hi);
+    halve_all(b, s, segments, buckets, &rest, m, &mut lo, &mut hi);
     let mut i = 0;
     while i < m {
-        low[which[i]] = finish(
-            b,
-            s,
-            segments,
-            buckets,
-            at[i],
-            le::wide(rest[i]),
-            lo[i],
-            hi[i],
-        );
+        low[which[i]] = finish(b, s, segments, buckets, le::wide(rest[i]), lo[i], hi[i]);
         i += 1;
     }
 }

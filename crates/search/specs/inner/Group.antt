@@ -5,7 +5,7 @@ use mathlib.Core.Logic.{_⊎_}
 use mathlib.Core.List.{List}
 use lib.ListN.{length, getD, set}
 use Rattle.hash.specs.Hash.{bucketOf}
-use Rattle.layout.specs.Table.{Table, entryAt}
+use Rattle.layout.specs.Table.{Table}
 use Rattle.search.specs.inner.Lower.{Lower, Near, Searching}
 
 -- Each of the first n hashes stands at its place in its bucket, or would.
@@ -17,10 +17,6 @@ pub record AllLow (t : Table) (hashes : List ℕ) (n : ℕ) (low : List ℕ) : T
 abbrev pub SearchingAt : Table → List ℕ → ℕ → ℕ → ℕ → Type 0
 SearchingAt t hashes j lo hi = Searching t (bucketOf (t .buckets) (getD hashes j 0)) (getD hashes j 0) lo hi
 
--- The entries of its bucket stand from a on.
-abbrev pub StartAt : Table → List ℕ → ℕ → ℕ → Type 0
-StartAt t hashes j a = a ≡ entryAt t (bucketOf (t .buckets) (getD hashes j 0)) 0
-
 -- That search goes on, the others stay as they are.
 pub record Advanced (t : Table) (hashes : List ℕ) (j : ℕ) (low high low′ high′ : List ℕ) : Type 0 where
   pub lo : ℕ
@@ -30,11 +26,9 @@ pub record Advanced (t : Table) (hashes : List ℕ) (j : ℕ) (low high low′ h
   pub searching : SearchingAt t hashes j lo hi
 
 -- How far the searches of the first n hashes have come.
-pub record AllSearching (t : Table) (hashes : List ℕ) (n : ℕ) (at low high : List ℕ) : Type 0 where
-  pub ats : length at ≡ 64
+pub record AllSearching (t : Table) (hashes : List ℕ) (n : ℕ) (low high : List ℕ) : Type 0 where
   pub lows : length low ≡ 64
   pub highs : length high ≡ 64
-  pub start : (j : ℕ) → j < n → StartAt t hashes j (getD at j 0)
   pub each : (j : ℕ) → j < n → SearchingAt t hashes j (getD low j 0) (getD high j 0)
 
 -- The first m of a list are numbers below n.

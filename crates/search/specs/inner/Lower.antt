@@ -1,6 +1,6 @@
 -- What the search of a bucket finds, and how. The hashes of a bucket that passed 7 to 12 ascend; how it is searched is said without that, so
 -- that it says which entries are read.
-use Prim.Native.Nat.{ℕ, zero, suc, _+_, _-_, _≤_, _<_}
+use Prim.Native.Nat.{ℕ, zero, suc, _+_, _-_, _≤_}
 use mathlib.Core.Path.{_≡_}
 use mathlib.Core.Bool.{cond}
 use lib.Dec.{ltb}
@@ -17,11 +17,6 @@ pub record Halved (t : Table) (k h r : ℕ) : Type 0 where
   pub rounds : ℕ
   pub allowed : Rounds (entries t k) rounds
   pub stops : r ≡ halving (hashOf t k) h rounds 0 (entries t k)
-
--- r is 1 where w is below h, and 0 where it is not.
-pub record Below (w h r : ℕ) : Type 0 where
-  pub one : w < h → r ≡ 1
-  pub none : h ≤ w → r ≡ 0
 
 -- How many of the m numbers from place w on are below x. Each is read once.
 unfoldable pub countBelow : (ℕ → ℕ) → ℕ → ℕ → ℕ → ℕ
