@@ -15,7 +15,7 @@ use Rattle.region.specs.Checks.{segmentChecks, regionChecks}
 use Rattle.layout.specs.Header.{keyCount, zeroWordChecks, headerChecks, keyChecks}
 use Rattle.layout.specs.Table.{Table, table, entries, count, bucketChecks, listChecks, tableChecks}
 use Rattle.layout.specs.Layout.{nodeSize, nodesAt, values, names, sizeChecks, footerChecks, frontChecks, layoutChecks}
-use Rattle.strings.specs.Rules.{Twin}
+use Rattle.strings.specs.Rules.{Duplicate}
 use Rattle.strings.specs.Texts.{textOf}
 use Rattle.strings.specs.Order.{entryChecks, bucketEntryChecks, allEntryChecks, positionChecks, allPositionChecks, stringChecks}
 use Rattle.keys.specs.Order.{specialChecks, keyRuleChecks, allKeyChecks}
@@ -31,9 +31,9 @@ use Rattle.tree.proofs.Deepest.{depth-first}
 use Rattle.accept.specs.Verdict.{acceptChecks, verdictOf}
 use Rattle.accept.specs.Refusals.{RegionOf, TableOf, Field, Limited, EntryOf, UsedNode, AttributeOf, Broken}
 
--- a text that is not alone has a twin
-some-twin : (t : Table) (k j : ℕ) → ((Twin t k j → ⊥) → ⊥) → Twin t k j
-some-twin t k j f = by-cases (someBelow? j (λ i. texts? (textOf t k i) (textOf t k j))) (λ w. w) (λ w. absurd (f w))
+-- a text that is not alone has a duplicate
+some-duplicate : (t : Table) (k j : ℕ) → ((Duplicate t k j → ⊥) → ⊥) → Duplicate t k j
+some-duplicate t k j f = by-cases (someBelow? j (λ i. texts? (textOf t k i) (textOf t k j))) (λ w. w) (λ w. absurd (f w))
 
 module _ (b : List ℕ) (room : ℕ) where
   -- a check whose rule is broken is a row of the table
@@ -100,7 +100,7 @@ module _ (b : List ℕ) (room : ℕ) where
         (more _ _ _ _ _ (Broken.hash-wrong e)
         (more _ _ _ _ _ (Broken.misplaced e)
         (more _ _ _ _ _ (Broken.index-wrong e)
-        (more _ _ _ _ _ (λ f. Broken.same-text e (some-twin (table b at n) k j f)) none)))))
+        (more _ _ _ _ _ (λ f. Broken.same-text e (some-duplicate (table b at n) k j f)) none)))))
 
     of-position : (i : ℕ) → 1 ≤ i → i < count (table b at n) → Rows (positionChecks (table b at n) i)
     unfolding positionChecks

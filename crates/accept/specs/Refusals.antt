@@ -9,7 +9,7 @@ use Rattle.region.specs.Region.{countOf, startOf, fullOf, usedOf, Resolves}
 use Rattle.layout.specs.Header.{keysAt, keyCount, keyAt}
 use Rattle.layout.specs.Table.{Table, bucketAt, entries, entryAt, listAt, count, positionAt}
 use Rattle.layout.specs.Layout.{attributeSize, nodeSize, attributesAt, nodesAt, valuesAt, namesAt, values, names, footerAt, valuesMost, namesMost}
-use Rattle.strings.specs.Rules.{Resolved, Sized, Hashed, Placed, Indexed, Twin, Carried}
+use Rattle.strings.specs.Rules.{Resolved, Sized, Hashed, Placed, Indexed, Duplicate, Carried}
 use Rattle.keys.specs.Names.{Special}
 use Rattle.keys.specs.Keys.{KeyRule}
 use Rattle.nodes.specs.Node.{attributeCount, nodeAt, attributeAt}
@@ -92,7 +92,7 @@ pub data Broken (b : List ℕ) (room : ℕ) : ℕ → ℕ → Type 0 where
   hash-wrong : {t : Table} {k j : ℕ} → EntryOf b t k j → (Hashed t k j → ⊥) → Broken b room 9 (entryAt t k j)
   misplaced : {t : Table} {k j : ℕ} → EntryOf b t k j → (Placed t k j → ⊥) → Broken b room 10 (entryAt t k j)
   index-wrong : {t : Table} {k j : ℕ} → EntryOf b t k j → (Indexed t k j → ⊥) → Broken b room 11 (entryAt t k j)
-  same-text : {t : Table} {k j : ℕ} → EntryOf b t k j → Twin t k j → Broken b room 12 (entryAt t k j)
+  same-text : {t : Table} {k j : ℕ} → EntryOf b t k j → Duplicate t k j → Broken b room 12 (entryAt t k j)
   -- 13: no entry carries a list position's index; the list element.
   not-carried : {t : Table} {most : ℕ} → TableOf b t most → (i : ℕ) → 1 ≤ i → i < count t → (Carried t i → ⊥) → Broken b room 13 (positionAt t i)
   -- 14: `__root__` and `__value__` are not the two highest name indices; the names address count.

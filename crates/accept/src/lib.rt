@@ -16,7 +16,7 @@ pub struct Acceptance {
 }
 
 // Refusals 7 to 23 of a file that is laid out, with what they leave in the workspace.
-fn judge(b: &[u8], v: View, ws: &mut [u8]) -> Verdict
+fn check_contents(b: &[u8], v: View, ws: &mut [u8]) -> Verdict
     requires { ⌜ Fits (now b) v ⌝ }
     ensures answer { λ r. ⌜ r ≡ verdictOf (now (b .entry)) (length (now (ws .entry))) ⌝ }
     ensures workspace { λ _. ⌜ now (ws .exit) ≡ workspaceAfter (now (b .entry)) (now (ws .entry)) (verdictOf (now (b .entry)) (length (now (ws .entry)))) ⌝ }
@@ -60,7 +60,7 @@ fn judge(b: &[u8], v: View, ws: &mut [u8]) -> Verdict
     let attribute_segments = v.attribute_segments;
     let node_segments = v.node_segments;
     let node_counts = v.node_counts;
-    let f = prefetch::all::check_nodes(
+    let f = prefetch::all::check_nodes_in_batches(
         b,
         &t,
         p,
@@ -90,7 +90,7 @@ pub fn accept(b: &[u8], ws: &mut [u8]) -> Acceptance
         return Acceptance { answer: laid, view };
     }
     Acceptance {
-        answer: judge(b, view, ws),
+        answer: check_contents(b, view, ws),
         view,
     }
 }

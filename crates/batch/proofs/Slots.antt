@@ -15,8 +15,8 @@ use Rattle.text.specs.Text.{textIn}
 use Rattle.text.specs.inner.Measure.{Measured}
 use Rattle.text.specs.declared.Extent.{Extent}
 use Rattle.layout.specs.Table.{Table}
-use Rattle.search.specs.inner.Lower.{Lower}
-use Rattle.search.specs.inner.Group.{AllLow}
+use Rattle.search.specs.inner.LowerBound.{LowerBound}
+use Rattle.search.specs.inner.Group.{LowerBounds}
 use Rattle.strings.specs.inner.Held.{Held, heldTable}
 use Rattle.strings.specs.declared.Strings.{Strings}
 use Rattle.strings.proofs.Places.{few-entries}
@@ -106,11 +106,11 @@ module _ {texts : List ℕ} {at n : ℕ} {lengths hashes : List ℕ} (g : Group 
 
 module _ (b : List ℕ) (s : Strings) (segments buckets : List ℕ) (h : Held b s segments buckets) where
   -- a place has 32 bits
-  pub place-small : (y x : ℕ) → Lower (heldTable b s buckets) (bucketOf (length buckets) y) y x → x ≤ 1073741824
+  pub place-small : (y x : ℕ) → LowerBound (heldTable b s buckets) (bucketOf (length buckets) y) y x → x ≤ 1073741824
   unfolding bucketOf
   place-small y x w = omega (arith, w .upto, few-entries b s segments buckets h (bucketOf (length buckets) y) (mod-lt _ (h .some-bucket)))
 
-  pub near-first : (hashes low : List ℕ) (n : ℕ) → AllLow (heldTable b s buckets) hashes n low → AllNear (heldTable b s buckets) hashes n low
+  pub near-first : (hashes low : List ℕ) (n : ℕ) → LowerBounds (heldTable b s buckets) hashes n low → AllNear (heldTable b s buckets) hashes n low
   near-first hashes low n a = record {
     long = a .long;
     each = λ j l.
@@ -166,29 +166,29 @@ texts-upto {j = j} {n = n} l w = record {
 
 -- ---- entries picked
 
-pub picked-none : (kind : Kind) (t : Table) (lengths text told : List ℕ) → length text ≡ 64 → length told ≡ 64 → Picked kind t lengths 0 text told
-picked-none kind t lengths text told e f = record { text-long = e; told-long = f; each = below-none _ }
+pub picked-none : (kind : Kind) (t : Table) (lengths text results : List ℕ) → length text ≡ 64 → length results ≡ 64 → Picked kind t lengths 0 text results
+picked-none kind t lengths text results e f = record { text-long = e; results-long = f; each = below-none _ }
 
-pub picked-more : {kind : Kind} {t : Table} {lengths text told : List ℕ} {j : ℕ} (x y : ℕ) → Picked kind t lengths j text told → j < 64 → {n : ℕ} → n ≡ getD lengths j 0
-    → ((x ≡ 0 → ⊥) → PickedEntry kind t n x y) → Picked kind t lengths (j + 1) (set text j x) (set told j y)
-picked-more {kind} {t} {lengths} {text} {told} {j} x y w l e f = record {
+pub picked-more : {kind : Kind} {t : Table} {lengths text results : List ℕ} {j : ℕ} (x y : ℕ) → Picked kind t lengths j text results → j < 64 → {n : ℕ} → n ≡ getD lengths j 0
+    → ((x ≡ 0 → ⊥) → PickedEntry kind t n x y) → Picked kind t lengths (j + 1) (set text j x) (set results j y)
+picked-more {kind} {t} {lengths} {text} {results} {j} x y w l e f = record {
   text-long = length-set text j x ∙ w .text-long;
-  told-long = length-set told j y ∙ w .told-long;
+  results-long = length-set results j y ∙ w .results-long;
   each =
       below-more
-      (λ (i : ℕ). (getD (set text j x) i 0 ≡ 0 → ⊥) → PickedEntry kind t (getD lengths i 0) (getD (set text j x) i 0) (getD (set told j y) i 0)) j
-      (λ i c. rw (getD-set-other text j i x 0 (omega arith), getD-set-other told j i y 0 (omega arith)) (w .each i c))
-      (rw (getD-set-same text j x 0 (omega (arith, w .text-long)), getD-set-same told j y 0 (omega (arith, w .told-long)), sym e) f);
+      (λ (i : ℕ). (getD (set text j x) i 0 ≡ 0 → ⊥) → PickedEntry kind t (getD lengths i 0) (getD (set text j x) i 0) (getD (set results j y) i 0)) j
+      (λ i c. rw (getD-set-other text j i x 0 (omega arith), getD-set-other results j i y 0 (omega arith)) (w .each i c))
+      (rw (getD-set-same text j x 0 (omega (arith, w .text-long)), getD-set-same results j y 0 (omega (arith, w .results-long)), sym e) f);
 }
 
-pub picked-upto : {kind : Kind} {t : Table} {lengths text told : List ℕ} {j n : ℕ} → n ≤ j → Picked kind t lengths j text told → Picked kind t lengths n text told
-picked-upto {j = j} {n = n} l w = record { text-long = w .text-long; told-long = w .told-long; each = λ i h. w .each i (omega arith) }
+pub picked-upto : {kind : Kind} {t : Table} {lengths text results : List ℕ} {j n : ℕ} → n ≤ j → Picked kind t lengths j text results → Picked kind t lengths n text results
+picked-upto {j = j} {n = n} l w = record { text-long = w .text-long; results-long = w .results-long; each = λ i h. w .each i (omega arith) }
 
 -- what is read of one slot
 pub near-read : {t : Table} {hashes low : List ℕ} {n : ℕ} → AllNear t hashes n low → (j : ℕ) → j < n → {h r : ℕ} → h ≡ getD hashes j 0 → r ≡ getD low j 0
-    → Lower t (bucketOf (t .buckets) h) h (r % 4294967296)
+    → LowerBound t (bucketOf (t .buckets) h) h (r % 4294967296)
 near-read a j l e f = rw (e, f) (a .each j l)
 
-pub picked-read : {kind : Kind} {t : Table} {lengths text told : List ℕ} {n : ℕ} → Picked kind t lengths n text told → (j : ℕ) → j < n → {k x y : ℕ} → k ≡ getD lengths j 0
-    → x ≡ getD text j 0 → y ≡ getD told j 0 → (x ≡ 0 → ⊥) → PickedEntry kind t k x y
+pub picked-read : {kind : Kind} {t : Table} {lengths text results : List ℕ} {n : ℕ} → Picked kind t lengths n text results → (j : ℕ) → j < n → {k x y : ℕ} → k ≡ getD lengths j 0
+    → x ≡ getD text j 0 → y ≡ getD results j 0 → (x ≡ 0 → ⊥) → PickedEntry kind t k x y
 picked-read w j l e f g = rw (e, f, g) (w .each j l)

@@ -56,12 +56,12 @@ fn pick_each(
     n: usize,
     text: &mut [usize; 64],
     end: &mut [usize; 64],
-    told: &mut [usize; 64],
+    results: &mut [usize; 64],
 )
     requires { ⌜ Held (now b) s (now segments) (now buckets) × (firstFault (stringChecks (heldTable (now b) s (now buckets))) ≡ Accepted)
-        × (n ≤ 64) × Lengths (now lengths) (now hashes) (now low) × Lengths (now text) (now end) (now told) ⌝ }
+        × (n ≤ 64) × Lengths (now lengths) (now hashes) (now low) × Lengths (now text) (now end) (now results) ⌝ }
     ensures { λ _. ⌜ Texts (now (b .entry)) n (now (text .exit)) (now (end .exit))
-        × Picked kind (heldTable (now (b .entry)) s (now (buckets .entry))) (now (lengths .entry)) n (now (text .exit)) (now (told .exit)) ⌝ }
+        × Picked kind (heldTable (now (b .entry)) s (now (buckets .entry))) (now (lengths .entry)) n (now (text .exit)) (now (results .exit)) ⌝ }
 {
     let mut j = 0;
     while j < n {
@@ -77,7 +77,7 @@ fn pick_each(
         );
         text[j] = c.text;
         end[j] = c.end;
-        told[j] = c.told;
+        results[j] = c.result;
         j += 1;
     }
 }
@@ -109,14 +109,14 @@ pub fn bring_near(
     n: usize,
     low: &mut [usize; 64],
     text: &mut [usize; 64],
-    told: &mut [usize; 64],
+    results: &mut [usize; 64],
 )
     requires { ⌜ Held (now b) s (now segments) (now buckets) × (firstFault (stringChecks (heldTable (now b) s (now buckets))) ≡ Accepted)
-        × (n ≤ 64) × Lengths (now lengths) (now hashes) (now low) × (length (now text) ≡ 64) × (length (now told) ≡ 64) ⌝ }
+        × (n ≤ 64) × Lengths (now lengths) (now hashes) (now low) × (length (now text) ≡ 64) × (length (now results) ≡ 64) ⌝ }
     ensures near { λ _. ⌜ AllNear (heldTable (now (b .entry)) s (now (buckets .entry))) (now (hashes .entry)) n (now (low .exit)) ⌝ }
-    ensures picked { λ _. ⌜ Picked kind (heldTable (now (b .entry)) s (now (buckets .entry))) (now (lengths .entry)) n (now (text .exit)) (now (told .exit)) ⌝ }
+    ensures picked { λ _. ⌜ Picked kind (heldTable (now (b .entry)) s (now (buckets .entry))) (now (lengths .entry)) n (now (text .exit)) (now (results .exit)) ⌝ }
 {
-    group::settle(b, s, segments, buckets, hashes, n, low);
+    group::lower_bounds(b, s, segments, buckets, hashes, n, low);
     let mut end = [0usize; 64];
     pick_each(
         b,
@@ -130,7 +130,7 @@ pub fn bring_near(
         n,
         text,
         &mut end,
-        told,
+        results,
     );
     if !group::spread(b, s, segments, buckets, 262144) {
         return;

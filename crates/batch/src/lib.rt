@@ -21,6 +21,11 @@ use lookup::first;
 use strings::Strings;
 use verdict::Verdict;
 
+// The bytes of a text's place in the answers, and where its value stands in it, behind the kind.
+const PLACE_SIZE: usize = 8;
+
+const VALUE_AT: usize = 4;
+
 // Refusal 24 or 25, or the number of texts.
 pub struct Batch {
     pub answer: Verdict,
@@ -58,11 +63,11 @@ fn put_place(answers: &mut [u8], at: usize, l: Lookup)
     match l {
         Lookup::Found(n) => {
             le::put_u32(answers, at, 0);
-            le::put_u32(answers, at + 4, n);
+            le::put_u32(answers, at + VALUE_AT, n);
         }
         Lookup::Absent => {
             le::put_u32(answers, at, 1);
-            le::put_u32(answers, at + 4, 0);
+            le::put_u32(answers, at + VALUE_AT, 0);
         }
     }
 }
@@ -88,7 +93,7 @@ fn put_places(
     let mut hashes = [0u32; 64];
     let mut low = [0usize; 64];
     let mut text = [0usize; 64];
-    let mut told = [0usize; 64];
+    let mut results = [0usize; 64];
     let mut i = 0usize;
     let mut at = 0;
     while at < texts.len() {
@@ -104,7 +109,7 @@ fn put_places(
             n,
             &mut low,
             &mut text,
-            &mut told,
+            &mut results,
         );
         let mut j = 0;
         while j < n {
@@ -118,13 +123,13 @@ fn put_places(
                 le::wide(hashes[j]),
                 low[j] % 4294967296,
                 text[j],
-                told[j],
+                results[j],
                 texts,
                 at,
                 k,
             );
             put_place(answers, i, l);
-            i += 8;
+            i += PLACE_SIZE;
             at += 2 * k + 2;
             j += 1;
         }
@@ -156,7 +161,7 @@ pub fn find_each(
         };
     }
     let n = count_texts(texts);
-    if answers.len() / 8 < n {
+    if answers.len() / PLACE_SIZE < n {
         return Batch {
             answer: Verdict::Refused(25, n),
             texts: 0,

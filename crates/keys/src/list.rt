@@ -9,7 +9,13 @@ ghost use Rattle.keys.specs.Keys.{KeyRule};
 ghost use Rattle.keys.specs.Order.{allKeyChecks};
 ghost use Rattle.keys.specs.inner.Known.{Known};
 use crate::Names;
+use layout::FIRST_KEY_AT;
+use layout::KEY_SIZE;
+use layout::KEYS_AT;
 use verdict::Verdict;
+
+// The bytes of a name's index: a key is four of them.
+const NAME_SIZE: usize = 2;
 
 // Whether refusal 15 is not due to key k.
 fn key_right(b: &[u8], names: Names, k: usize) -> bool
@@ -18,7 +24,7 @@ fn key_right(b: &[u8], names: Names, k: usize) -> bool
 {
     let mut f = 0usize;
     while f < 4 {
-        let name = le::u16_at(b, 36 + 8 * k + 2 * f);
+        let name = le::u16_at(b, FIRST_KEY_AT + KEY_SIZE * k + NAME_SIZE * f);
         if k == 0 {
             if name != 0 {
                 return false;
@@ -40,11 +46,11 @@ pub fn check_keys(b: &[u8], names: Names) -> Verdict
     requires { ⌜ LaidOut (now b) × Known (now b) names ⌝ }
     ensures { λ r. ⌜ r ≡ firstFault (allKeyChecks (now (b .entry))) ⌝ }
 {
-    let n = le::u32_at(b, 32);
+    let n = le::u32_at(b, KEYS_AT);
     let mut k = 0;
     while k < n {
         if !key_right(b, names, k) {
-            return Verdict::Refused(15, 36 + 8 * k);
+            return Verdict::Refused(15, FIRST_KEY_AT + KEY_SIZE * k);
         }
         k += 1;
     }

@@ -14,7 +14,7 @@ ghost use Rattle.strings.specs.inner.Held.{Held, heldTable};
 ghost use Rattle.keys.specs.inner.Known.{SpecialsFound};
 use crate::Names;
 use strings::Strings;
-use strings::spot;
+use strings::entry;
 use strings::spot::Spot;
 use verdict::Verdict;
 
@@ -38,7 +38,7 @@ fn listed_is(
     requires { ⌜ (1 ≤ i) × (i < count (heldTable (now b) s (now buckets))) × (2 * k ≤ length (now x)) ⌝ }
     ensures { λ r. ⌜ Tells (listedText (heldTable (now (b .entry)) s (now (buckets .entry))) i ≡ chars (now (x .entry)) 0 k) r ⌝ }
 {
-    let a = spot::spot_to(b, s.chars, segments, s.list + 4 * i);
+    let a = entry::listed_spot(b, s, segments, buckets, i);
     let Spot::At(q, n) = a else {
         return false;
     };

@@ -10,7 +10,7 @@ use Rattle.le.proofs.Agree.{Agree, u16-same, u32-same, u64-same}
 use Rattle.region.specs.Region.{endOf, startOf, countOf}
 use Rattle.region.proofs.Agree.{Alike, clear-behind, clear-within, alike, end-same, total-same, laid-same, mapped-same, starts-kept, counts-kept, start-order, start-behind}
 use Rattle.layout.specs.Header.{headerOf, keysAt, keyCount, keyAt}
-use Rattle.layout.specs.Table.{table, bucketAt, entries, entryAt, hashOf, lengthOf, indexOf, segmentOf, elementOf, listAt, count, positionAt, listedSegment, listedElement, tableEnd, TableLaid, BucketStarts}
+use Rattle.layout.specs.Table.{table, bucketAt, entries, entryHash, entryLength, entryIndex, entrySegment, entryElement, entryAt, hashOf, lengthOf, indexOf, segmentOf, elementOf, listAt, count, positionAt, listedSegment, listedElement, tableEnd, TableLaid, BucketStarts}
 use Rattle.layout.specs.Layout.{attributeSize, nodeSize, attributesAt, nodesAt, valuesAt, values, namesAt, names, footerAt, LaidOut}
 use Rattle.layout.specs.inner.View.{PlacesFit, Fits}
 use Rattle.layout.specs.declared.Places.{Places}
@@ -50,7 +50,7 @@ module _ {b c : List ℕ} {x : ℕ} (a : Agree b c x) (at n : ℕ) (h : x + 4 �
   count-same = rw (bucket-same n) (u32-same a _ (inr (low n)))
 
   pub alike-table : AlikeTable b c at n
-  unfolding entries hashOf lengthOf indexOf segmentOf elementOf entryAt listedSegment listedElement positionAt listAt tableEnd
+  unfolding entries entryHash entryLength entryIndex entrySegment entryElement hashOf lengthOf indexOf segmentOf elementOf entryAt listedSegment listedElement positionAt listAt tableEnd
   alike-table =
       record {
         chars = chars;

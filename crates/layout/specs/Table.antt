@@ -26,24 +26,40 @@ bucketAt t (suc k) = bucketAt t k + 4 + 16 * u32At (t .bytes) (bucketAt t k)
 unfoldable pub entries : Table → ℕ → ℕ
 entries t k = u32At (t .bytes) (bucketAt t k)
 
--- Where entry j of bucket k stands, and its fields: hash, length, index, address.
+-- The fields of the entry at offset e: hash, length, index, and the address, a segment number and an element number.
+unfoldable pub entryHash : List ℕ → ℕ → ℕ
+entryHash b e = u32At b e
+
+unfoldable pub entryLength : List ℕ → ℕ → ℕ
+entryLength b e = u32At b (e + 4)
+
+unfoldable pub entryIndex : List ℕ → ℕ → ℕ
+entryIndex b e = u32At b (e + 8)
+
+unfoldable pub entrySegment : List ℕ → ℕ → ℕ
+entrySegment b e = u16At b (e + 12)
+
+unfoldable pub entryElement : List ℕ → ℕ → ℕ
+entryElement b e = u16At b (e + 14)
+
+-- Where entry j of bucket k stands, and its fields.
 unfoldable pub entryAt : Table → ℕ → ℕ → ℕ
 entryAt t k j = bucketAt t k + 4 + 16 * j
 
 unfoldable pub hashOf : Table → ℕ → ℕ → ℕ
-hashOf t k j = u32At (t .bytes) (entryAt t k j)
+hashOf t k j = entryHash (t .bytes) (entryAt t k j)
 
 unfoldable pub lengthOf : Table → ℕ → ℕ → ℕ
-lengthOf t k j = u32At (t .bytes) (entryAt t k j + 4)
+lengthOf t k j = entryLength (t .bytes) (entryAt t k j)
 
 unfoldable pub indexOf : Table → ℕ → ℕ → ℕ
-indexOf t k j = u32At (t .bytes) (entryAt t k j + 8)
+indexOf t k j = entryIndex (t .bytes) (entryAt t k j)
 
 unfoldable pub segmentOf : Table → ℕ → ℕ → ℕ
-segmentOf t k j = u16At (t .bytes) (entryAt t k j + 12)
+segmentOf t k j = entrySegment (t .bytes) (entryAt t k j)
 
 unfoldable pub elementOf : Table → ℕ → ℕ → ℕ
-elementOf t k j = u16At (t .bytes) (entryAt t k j + 14)
+elementOf t k j = entryElement (t .bytes) (entryAt t k j)
 
 -- Where the address count stands, and the count.
 unfoldable pub listAt : Table → ℕ

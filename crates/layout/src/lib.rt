@@ -16,6 +16,9 @@ pub const KEYS_AT: usize = 32;
 // Where the first key stands.
 pub const FIRST_KEY_AT: usize = 36;
 
+// The bytes of a key.
+pub const KEY_SIZE: usize = 8;
+
 // The most keys.
 pub const MOST_KEYS: usize = 4096;
 
@@ -25,6 +28,13 @@ pub const ATTRIBUTE_SIZE: usize = 12;
 pub const NODE_SIZE: usize = 24;
 
 pub const CHARACTER_SIZE: usize = 2;
+
+// The bytes of a string table's parts: of a bucket's count, of an entry and of a list position.
+pub const BUCKET_COUNT_SIZE: usize = 4;
+
+pub const ENTRY_SIZE: usize = 16;
+
+pub const POSITION_SIZE: usize = 4;
 
 // The most that the values' address count can say: the format sets it no limit of its own.
 pub const MOST_VALUES: usize = 4_294_967_295;

@@ -20,7 +20,7 @@ use Rattle.strings.specs.Texts.{textOf}
 use Rattle.strings.specs.Rules.{Resolved}
 use Rattle.strings.specs.inner.Held.{Here}
 use Rattle.strings.specs.Order.{stringChecks}
-use Rattle.search.specs.inner.Lower.{Lower}
+use Rattle.search.specs.inner.LowerBound.{LowerBound}
 use Rattle.strings.specs.declared.spot.Spot.the-variants.{At}
 use Rattle.strings.proofs.Accepted.{strings-parts, all-good}
 use Rattle.strings.proofs.Spots.{Spotted, spot-yes, spot-text}
@@ -89,13 +89,13 @@ pub record Searched (t : Table) (x : List ℕ) (h k m j : ℕ) : Type 0 where
   pub above : (i : ℕ) → j ≤ i → i < entries t k → h ≤ hashOf t k i
 
 pub searched-start : (t : Table) (x : List ℕ) (h k m j : ℕ) → Clean (stringChecks t) → h ≡ hashText x → k ≡ bucketOf (t .buckets) h → k < t .buckets
-    → m ≡ entries t k → Lower t (bucketOf (t .buckets) h) h j → Searched t x h k m j
-searched-start t x h k m j ok e q b n g = let l = subst (λ (y : ℕ). Lower t y h j) (sym q) g in record {
+    → m ≡ entries t k → LowerBound t (bucketOf (t .buckets) h) h j → Searched t x h k m j
+searched-start t x h k m j ok e q b n g = let l = subst (λ (y : ℕ). LowerBound t y h j) (sym q) g in record {
   hash = e;
   bucket = b;
   right = ap (bucketOf (t .buckets)) (sym e) ∙ sym q;
   many = n;
-  none = λ i a c. none-before t (strings-parts t ok .0) k j i x b (subst (λ (y : ℕ). Lower t k y j) e l) c a;
+  none = λ i a c. none-before t (strings-parts t ok .0) k j i x b (subst (λ (y : ℕ). LowerBound t k y j) e l) c a;
   above = l .above;
 }
 

@@ -5,9 +5,8 @@ use mathlib.Core.Path.{_≡_, refl, ap, _∙_}
 use mathlib.Core.List.{List}
 use lib.ListN.{length}
 use Rattle.verdict.proofs.Laws.{Clean}
-use Rattle.le.specs.Le.{u16At, u32At}
 use Rattle.region.specs.Region.{startOf, placeOf, Resolves, Laid}
-use Rattle.layout.specs.Table.{Table, TableLaid, entryAt, segmentOf, elementOf}
+use Rattle.layout.specs.Table.{Table, TableLaid, entryLength, entrySegment, entryElement, entryAt, segmentOf, elementOf}
 use Rattle.strings.specs.inner.Held.{Here}
 use Rattle.strings.specs.Order.{stringChecks}
 use Rattle.strings.proofs.Places.{length-at, segment-at, element-at}
@@ -17,14 +16,14 @@ use Rattle.lookup.specs.declared.Kind.{Kind}
 use Rattle.lookup.proofs.Bucket.{entry-resolved, Standing, addressed, long-some}
 
 -- the place of the address at e, as it is read
-module _ (b : List ℕ) (r e s p : ℕ) (laid : Laid 2 b r) (h : Resolves 2 b r (u16At b (e + 12)) (u16At b (e + 14))) (a : s ≡ u16At b (e + 12)) (q : p ≡ startOf 2 b r s) where
-  started : p ≡ startOf 2 b r (u16At b (e + 12))
+module _ (b : List ℕ) (r e s p : ℕ) (laid : Laid 2 b r) (h : Resolves 2 b r (entrySegment b e) (entryElement b e)) (a : s ≡ entrySegment b e) (q : p ≡ startOf 2 b r s) where
+  started : p ≡ startOf 2 b r (entrySegment b e)
   started = q ∙ ap (startOf 2 b r) a
 
-  pub place-in : (l : ℕ) → l ≡ u16At b (e + 14) → p + 8 + l * 2 ≤ length b
+  pub place-in : (l : ℕ) → l ≡ entryElement b e → p + 8 + l * 2 ≤ length b
   place-in l d = omega (arith, started, d, h .el-in, laid .used _ (h .seg-in), laid .fits _ (h .seg-in))
 
-  pub place-is : (l : ℕ) → l ≡ u16At b (e + 14) → p + 8 + l * 2 ≡ placeOf 2 b r (u16At b (e + 12)) (u16At b (e + 14))
+  pub place-is : (l : ℕ) → l ≡ entryElement b e → p + 8 + l * 2 ≡ placeOf 2 b r (entrySegment b e) (entryElement b e)
   unfolding placeOf
   place-is l d = omega (arith, started, d)
 
@@ -35,15 +34,15 @@ not-picked kind t most n w laid e f = ((omega (arith, laid .list), omega (arith,
 
 -- entry j of bucket k, which stands at e
 module _ (t : Table) (k j e : ℕ) (ok : Clean (stringChecks t)) (here : Here t k j) (q : e ≡ entryAt t k j) where
-  pub resolved-at : Resolves 2 (t .bytes) (t .at) (u16At (t .bytes) (e + 12)) (u16At (t .bytes) (e + 14))
+  pub resolved-at : Resolves 2 (t .bytes) (t .at) (entrySegment (t .bytes) e) (entryElement (t .bytes) e)
   unfolding segmentOf elementOf
   resolved-at = rw q (entry-resolved t k j ok here)
 
-  module _ (w : ℕ) (d : w ≡ u32At (t .bytes) (e + 4)) where
+  module _ (w : ℕ) (d : w ≡ entryLength (t .bytes) e) where
     pub long-read : 1 ≤ w
     long-read = long-some t k j w ok here (length-at t k j e w q d)
 
-    module _ {most : ℕ} (laid : TableLaid t most) (x n : ℕ) (p : x ≡ placeOf 2 (t .bytes) (t .at) (u16At (t .bytes) (e + 12)) (u16At (t .bytes) (e + 14))) (f : w - 1 ≡ n) where
+    module _ {most : ℕ} (laid : TableLaid t most) (x n : ℕ) (p : x ≡ placeOf 2 (t .bytes) (t .at) (entrySegment (t .bytes) e) (entryElement (t .bytes) e)) (f : w - 1 ≡ n) where
       pub stands : Standing t k j x n
       stands =
           let a = segment-at t k j e _ q refl in
@@ -57,5 +56,5 @@ module _ (t : Table) (k j e : ℕ) (ok : Clean (stringChecks t)) (here : Here t 
         here = here;
         fits = omega (arith, stands .ends);
         text = stands .text;
-        told = g ∙ ap (tellsAt kind (t .bytes)) q;
+        result = g ∙ ap (tellsAt kind (t .bytes)) q;
       }

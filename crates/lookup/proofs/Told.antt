@@ -5,9 +5,8 @@ use mathlib.Core.Path.{_≡_, refl, ap, sym, _∙_}
 use mathlib.Core.List.{List}
 use lib.ListN.{length}
 use Rattle.verdict.proofs.Laws.{Clean}
-use Rattle.le.specs.Le.{u16At, u32At}
 use Rattle.text.specs.Text.{chars}
-use Rattle.layout.specs.Table.{Table, TableLaid, entryAt, indexOf, segmentOf, elementOf}
+use Rattle.layout.specs.Table.{Table, TableLaid, entryIndex, entrySegment, entryElement, entryAt, indexOf, segmentOf, elementOf}
 use Rattle.layout.proofs.Laws.{entry-fits}
 use Rattle.strings.specs.Texts.{textOf}
 use Rattle.strings.specs.inner.Held.{Here}
@@ -24,11 +23,11 @@ use Rattle.lookup.proofs.Found.{told-some, entry-found-iff, entry-absen
 
 -- what is read of an entry, by kind
 module _ (b : List ℕ) (e w : ℕ) {k : Kind} where
-  pub tells-name : k ≡ Name → w ≡ u32At b (e + 8) → w ≡ tellsAt k b e
+  pub tells-name : k ≡ Name → w ≡ entryIndex b e → w ≡ tellsAt k b e
   unfolding tellsAt
   tells-name q h = rw q h
 
-  pub tells-value : k ≡ Value → w ≡ u16At b (e + 12) * 65536 + u16At b (e + 14) → w ≡ tellsAt k b e
+  pub tells-value : k ≡ Value → w ≡ entrySegment b e * 65536 + entryElement b e → w ≡ tellsAt k b e
   unfolding tellsAt
   tells-value q h = rw q h
 
@@ -45,7 +44,7 @@ told-borne Value t x ok k j w h e p =
 
 -- compared where its text stands
 pub told-there : (kind : Kind) (t : Table) (x : List ℕ) {n p w : ℕ} → Clean (stringChecks t) → PickedEntry kind t n p w → chars (t .bytes) p n ≡ x → Found w ≡ toldIn kind t x
-told-there kind t x ok s e = told-borne kind t x ok _ _ _ (s .here) (s .text ∙ e) (s .told)
+told-there kind t x ok s e = told-borne kind t x ok _ _ _ (s .here) (s .text ∙ e) (s .result)
 
 module _ (t : Table) (x : List ℕ) (ok : Clean (stringChecks t)) {r : Lookup} (q : r ≡ entryOfText t x) where
   module _ (e : ℕ) (f : r ≡ Found e) where

@@ -1,8 +1,7 @@
 -- The two kinds of lookup (FORMAT, "Questions"), and the numbers for what one answers.
 use Prim.Native.Nat.{ℕ, _+_, _*_}
 use mathlib.Core.List.{List}
-use Rattle.le.specs.Le.{u16At, u32At}
-use Rattle.layout.specs.Table.{Table}
+use Rattle.layout.specs.Table.{Table, entryIndex, entrySegment, entryElement}
 use Rattle.layout.specs.Layout.{values, names}
 use Rattle.lookup.specs.Lookup.{indexOfText, addressOfText}
 use Rattle.lookup.specs.declared.Kind.{Kind}
@@ -17,8 +16,8 @@ toldIn Value t x = addressOfText t x
 
 -- The same as it is read in the entry at offset e of the file.
 unfoldable pub tellsAt : Kind → List ℕ → ℕ → ℕ
-tellsAt Name b e = u32At b (e + 8)
-tellsAt Value b e = u16At b (e + 12) * 65536 + u16At b (e + 14)
+tellsAt Name b e = entryIndex b e
+tellsAt Value b e = entrySegment b e * 65536 + entryElement b e
 
 -- The table that is asked.
 unfoldable pub tableOf : Kind → List ℕ → Table

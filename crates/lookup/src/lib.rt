@@ -11,7 +11,7 @@ ghost use Rattle.text.specs.Text.{chars};
 ghost use Rattle.strings.specs.Texts.{textOf};
 ghost use Rattle.strings.specs.Order.{stringChecks};
 ghost use Rattle.strings.specs.inner.Held.{Held, heldTable, Here};
-ghost use Rattle.search.specs.inner.Lower.{Lower};
+ghost use Rattle.search.specs.inner.LowerBound.{LowerBound};
 ghost use Rattle.lookup.specs.Lookup.{entryOfText};
 ghost use Rattle.lookup.specs.Kinds.{toldIn, tellsAt};
 
@@ -19,6 +19,7 @@ pub mod first;
 
 use strings::Strings;
 use strings::entry;
+use strings::fields;
 use strings::spot;
 use strings::spot::Spot;
 
@@ -51,10 +52,10 @@ fn entry_bears(
     ensures { λ r. ⌜ Tells (textOf (heldTable (now (b .entry)) s (now (buckets .entry))) k j ≡ chars (now (q .entry)) p n) r ⌝ }
 {
     let e = entry::entry_at(b, s, segments, buckets, k, j);
-    if le::u32_at(b, e + 4) != n + 1 {
+    if fields::length(b, e) != n + 1 {
         return false;
     }
-    let a = spot::spot_to(b, s.chars, segments, e + 12);
+    let a = spot::entry_spot(b, s.chars, segments, e);
     let Spot::At(x, _) = a else {
         return false;
     };
@@ -76,7 +77,7 @@ fn find_entry(
 ) -> Lookup
     requires { ⌜ Held (now b) s (now segments) (now buckets) × (firstFault (stringChecks (heldTable (now b) s (now buckets))) ≡ Accepted) ⌝ }
     requires { ⌜ (p + 2 * n ≤ length (now q)) × (h ≡ hashText (chars (now q) p n))
-        × Lower (heldTable (now b) s (now buckets)) (bucketOf (length (now buckets)) h) h low ⌝ }
+        × LowerBound (heldTable (now b) s (now buckets)) (bucketOf (length (now buckets)) h) h low ⌝ }
     ensures { λ r. ⌜ r ≡ entryOfText (heldTable (now (b .entry)) s (now (buckets .entry))) (chars (now (q .entry)) p n) ⌝ }
 {
     let k = hash::bucket(h, buckets.len());
@@ -84,7 +85,7 @@ fn find_entry(
     let mut j = low;
     while j < m {
         let e = entry::entry_at(b, s, segments, buckets, k, j);
-        if le::u32_at(b, e) != h {
+        if fields::hash(b, e) != h {
             return Lookup::Absent;
         }
         if entry_bears(b, s, segments, buckets, k, j, q, p, n) {
@@ -96,13 +97,13 @@ fn find_entry(
 }
 
 // What is told of the entry at e.
-fn told_at(b: &[u8], kind: Kind, e: usize) -> usize
+fn result_at(b: &[u8], kind: Kind, e: usize) -> usize
     requires { ⌜ e + 16 ≤ length (now b) ⌝ }
     ensures { λ r. ⌜ r ≡ tellsAt kind (now (b .entry)) e ⌝ }
 {
     match kind {
-        Kind::Name => le::u32_at(b, e + 8),
-        Kind::Value => le::u16_at(b, e + 12) * 65536 + le::u16_at(b, e + 14),
+        Kind::Name => fields::index(b, e),
+        Kind::Value => fields::segment(b, e) * 65536 + fields::element(b, e),
     }
 }
 
@@ -121,13 +122,13 @@ pub(crate) fn find_from(
 ) -> Lookup
     requires { ⌜ Held (now b) s (now segments) (now buckets) × (firstFault (stringChecks (heldTable (now b) s (now buckets))) ≡ Accepted) ⌝ }
     requires { ⌜ (p + 2 * n ≤ length (now q)) × (h ≡ hashText (chars (now q) p n))
-        × Lower (heldTable (now b) s (now buckets)) (bucketOf (length (now buckets)) h) h low ⌝ }
+        × LowerBound (heldTable (now b) s (now buckets)) (bucketOf (length (now buckets)) h) h low ⌝ }
     ensures { λ r. ⌜ r ≡ toldIn kind (heldTable (now (b .entry)) s (now (buckets .entry))) (chars (now (q .entry)) p n) ⌝ }
 {
     let Lookup::Found(e) = find_entry(b, s, segments, buckets, h, low, q, p, n) else {
         return Lookup::Absent;
     };
-    Lookup::Found(told_at(b, kind, e))
+    Lookup::Found(result_at(b, kind, e))
 }
 
 // The same for a caller that has the text only.
@@ -148,6 +149,6 @@ pub fn find_text(
 {
     let h = text::hash_chars(q, t, p, n, 0);
     let k = hash::bucket(h, buckets.len());
-    let low = search::lower(b, s, segments, buckets, k, h);
+    let low = search::lower_bound(b, s, segments, buckets, k, h);
     find_from(b, s, segments, buckets, kind, h, low, q, p, n)
 }

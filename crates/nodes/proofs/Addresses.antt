@@ -1,14 +1,14 @@
 -- Refusal 19: an address is looked for in the bucket of the text there, among the entries with its hash. Assumes nothing.
 use Prim.Native.Nat.{ℕ, _+_, _*_, _≤_, _<_}
 use native.Mathlib.Omega.{arith}
-use mathlib.Core.Path.{_≡_, refl, ap, sym, subst, _∙_}
+use mathlib.Core.Path.{_≡_, ap, sym, subst, _∙_}
 use mathlib.Core.Bool.{Bool, true, false}
 use mathlib.Core.List.{List}
 use lib.ListN.{length}
 use Rattle.verdict.specs.Checks.{SomeBelow}
 use Rattle.verdict.specs.inner.Tells.{Tells}
 use Rattle.verdict.proofs.Laws.{Clean, tells-yes, tells-no}
-use Rattle.le.specs.Le.{u16At, u32At}
+use Rattle.le.specs.Le.{u16At}
 use Rattle.le.proofs.Numbers.{Bytes, pairs, halves}
 use Rattle.search.specs.inner.Run.{wordOf, Meets}
 use Rattle.words.specs.Words.{typeOf, extendedOf}
@@ -17,7 +17,7 @@ use Rattle.hash.specs.Fold.{valueHash}
 use Rattle.region.specs.Region.{Laid, Resolves}
 use Rattle.text.specs.Text.{textIn, textAt}
 use Rattle.text.proofs.Laws.{room-fits}
-use Rattle.layout.specs.Table.{Table, entries, entryAt, hashOf, segmentOf, elementOf}
+use Rattle.layout.specs.Table.{Table, entries, entrySegment, entryElement, entryAt, hashOf, segmentOf, elementOf}
 use Rattle.layout.specs.Layout.{values}
 use Rattle.strings.specs.Texts.{textTo, spotAt}
 use Rattle.strings.specs.Order.{allEntryChecks, stringChecks}
@@ -26,39 +26,41 @@ use Rattle.strings.specs.declared.spot.Spot.the-variants.{At, Nowhere}
 use Rattle.strings.proofs.Accepted.{all-good, strings-parts}
 use Rattle.strings.proofs.Only.{text-of-address, hash-of, bucket-of}
 use Rattle.strings.proofs.Spots.{spot-in, spot-out}
-use Rattle.nodes.specs.Attribute.{typeWord, textSegment, textElement}
+use Rattle.nodes.specs.Attribute.{typeWord, valueWord, textSegment, textElement}
 use Rattle.strings.specs.Rules.{EntryAddress}
 use Rattle.nodes.specs.Rules.{TextRule, TextRight}
-use Rattle.nodes.proofs.Fields.{kind-is, extended-is}
+use Rattle.nodes.proofs.Types.{kind-is, extended-is}
 
--- ---- an entry's address, as one number: that of the address at p
+-- ---- an entry's address, as one number: that of the attribute at q
 
-module _ (b : List ℕ) (f : Bytes b) (p : ℕ) (t : Table) (same : t .bytes ≡ b) (k j : ℕ) where
-  pub address-of : wordOf t k j 12 ≡ u32At b p → (segmentOf t k j ≡ u16At b p) × (elementOf t k j ≡ u16At b (p + 2))
-  unfolding segmentOf elementOf
+module _ (b : List ℕ) (f : Bytes b) (q : ℕ) (t : Table) (same : t .bytes ≡ b) (k j : ℕ) where
+  pub address-of : wordOf t k j 12 ≡ valueWord b q → (segmentOf t k j ≡ textSegment b q) × (elementOf t k j ≡ textElement b q)
+  unfolding segmentOf elementOf entrySegment entryElement valueWord textSegment textElement
   address-of e =
       let x = entryAt t k j in
       let z : x + 12 + 2 ≡ x + 14 = omega arith in
-      let w = halves (t .bytes) b (x + 12) p (λ i. rw same (f i)) f e in
-      (w .0, ap (u16At (t .bytes)) (sym z) ∙ w .1)
+      let y : q + 4 + 2 ≡ q + 6 = omega arith in
+      let w = halves (t .bytes) b (x + 12) (q + 4) (λ i. rw same (f i)) f e in
+      (w .0, ap (u16At (t .bytes)) (sym z) ∙ w .1 ∙ ap (u16At b) y)
 
-  address-number : segmentOf t k j ≡ u16At b p → elementOf t k j ≡ u16At b (p + 2) → wordOf t k j 12 ≡ u32At b p
-  unfolding segmentOf elementOf
+  address-number : segmentOf t k j ≡ textSegment b q → elementOf t k j ≡ textElement b q → wordOf t k j 12 ≡ valueWord b q
+  unfolding segmentOf elementOf entrySegment entryElement valueWord textSegment textElement
   address-number g h =
       let x = entryAt t k j in
       let z : x + 12 + 2 ≡ x + 14 = omega arith in
-      pairs (t .bytes) b (x + 12) p g (ap (u16At (t .bytes)) z ∙ h)
+      let y : q + 4 + 2 ≡ q + 6 = omega arith in
+      pairs (t .bytes) b (x + 12) (q + 4) g (ap (u16At (t .bytes)) z ∙ h ∙ ap (u16At b) (sym y))
 
 -- an entry of bucket k has the address seg:el; or none with hash h does
 record AddressIn (t : Table) (k h seg el : ℕ) (r : Bool) : Type 0 where
   so : r ≡ true → SomeBelow (entries t k) (λ j. (segmentOf t k j ≡ seg) × (elementOf t k j ≡ el))
   not : r ≡ false → (j : ℕ) → j < entries t k → hashOf t k j ≡ h → segmentOf t k j ≡ seg → elementOf t k j ≡ el → ⊥
 
-address-in : (b : List ℕ) → Bytes b → (p : ℕ) (t : Table) → t .bytes ≡ b → (k h w : ℕ) {r : Bool} → w ≡ u32At b p → Meets t k h 12 w r
-    → AddressIn t k h (u16At b p) (u16At b (p + 2)) r
-address-in b f p t same k h w e m = record {
-  so = λ z. let s = m .so z in (s .0, s .1, address-of b f p t same k (s .0) (s .2 ∙ e));
-  not = λ z j l g x y. m .not z j l g (address-number b f p t same k j x y ∙ sym e);
+address-in : (b : List ℕ) → Bytes b → (q : ℕ) (t : Table) → t .bytes ≡ b → (k h w : ℕ) {r : Bool} → w ≡ valueWord b q → Meets t k h 12 w r
+    → AddressIn t k h (textSegment b q) (textElement b q) r
+address-in b f q t same k h w e m = record {
+  so = λ z. let s = m .so z in (s .0, s .1, address-of b f q t same k (s .0) (s .2 ∙ e));
+  not = λ z j l g x y. m .not z j l g (address-number b f q t same k j x y ∙ sym e);
 }
 
 -- ---- the table
@@ -87,6 +89,11 @@ module _ (t : Table) (ok : Clean (allEntryChecks t)) (seg el : ℕ) where
 
 -- ---- the attribute
 
+-- where the text of the attribute at q is looked for, as the code reads it
+pub text-sought : (b : List ℕ) (p q : ℕ) {seg el : ℕ} {r : Spot} → seg ≡ textSegment b q → el ≡ textElement b q → r ≡ spotAt b p seg el
+    → r ≡ spotAt b p (textSegment b q) (textElement b q)
+text-sought b p q s e f = cc
+
 -- what is left at a spot lies in the file
 pub spot-fits : (b : List ℕ) (p seg el : ℕ) → Laid 2 b p → {r : Spot} {x n : ℕ} → r ≡ spotAt b p seg el → r ≡ At x n → x + 2 * n ≤ length b
 spot-fits b p seg el l g z =
@@ -96,33 +103,25 @@ spot-fits b p seg el l g z =
 pub clean-entries : (b : List ℕ) (t : Table) → t ≡ values b → Clean (stringChecks (values b)) → Clean (allEntryChecks t)
 clean-entries b t same ok = subst (λ (u : Table). Clean (allEntryChecks u)) (sym same) (strings-parts (values b) ok .0)
 
-moved : (P : Table → ℕ → ℕ → Type 0) {t u : Table} {x y c d : ℕ} → t ≡ u → x ≡ c → y ≡ d → P t x y → P u c d
-moved P {t} {x = x} {c = c} {d = d} e f g h = subst (λ (v : Table). P v c d) e (subst (λ (z : ℕ). P t z d) f (subst (P t x) g h))
-
-module _ (b : List ℕ) (q w y : ℕ) (e : w ≡ u16At b (q + 2)) (f : y ≡ typeOf w) where
+module _ (b : List ℕ) (q w y : ℕ) (e : w ≡ typeWord b q) (f : y ≡ typeOf w) where
   pub other-type : (y ≡ 3 → ⊥) → Tells (TextRight b q) true
   other-type d = tells-yes (λ z. absurd (d (sym (kind-is b q w e y f) ∙ z)))
 
   module _ (three : y ≡ 3) (t : Table) (same : t ≡ values b) (ok : Clean (stringChecks (values b))) where
-    abbrev pub seg : ℕ
-    seg = u16At b (q + 4)
+    abbrev seg : ℕ
+    seg = textSegment b q
 
-    abbrev pub el : ℕ
-    el = u16At b (q + 4 + 2)
+    abbrev el : ℕ
+    el = textElement b q
 
     passed : Clean (allEntryChecks t)
     passed = clean-entries b t same ok
 
-    behind : u16At b (q + 4 + 2) ≡ u16At b (q + 6)
-    behind = let z : q + 4 + 2 ≡ q + 6 = omega arith in ap (u16At b) z
+    there : (P : Table → ℕ → ℕ → Type 0) → P t seg el → P (values b) seg el
+    there P h = subst (λ (u : Table). P u seg el) same h
 
-    there : (P : Table → ℕ → ℕ → Type 0) → P t seg el → P (values b) (textSegment b q) (textElement b q)
-    unfolding textSegment textElement
-    there P h = moved P same refl behind h
-
-    back : (P : Table → ℕ → ℕ → Type 0) → P (values b) (textSegment b q) (textElement b q) → P t seg el
-    unfolding textSegment textElement
-    back P h = moved P (sym same) refl (sym behind) h
+    back : (P : Table → ℕ → ℕ → Type 0) → P (values b) seg el → P t seg el
+    back P h = subst (λ (u : Table). P u seg el) (sym same) h
 
     rule-of : TextRight b q → TextRule b q
     rule-of r = r (kind-is b q w e y f ∙ three)
@@ -151,7 +150,7 @@ module _ (b : List ℕ) (q w y : ℕ) (e : w ≡ u16At b (q + 2)) (f : y ≡ typ
 
           pub text-told : Bytes b → t .bytes ≡ b → v ≡ a → (h : ℕ) → h ≡ hashText (textIn (t .bytes) x n)
               → (k : ℕ) → (k ≡ bucketOf (t .buckets) h) × (k < t .buckets)
-              → (address : ℕ) → address ≡ u32At b (q + 4) → {o : Bool} → Meets t k h 12 address o → Tells (TextRight b q) o
+              → (address : ℕ) → address ≡ valueWord b q → {o : Bool} → Meets t k h 12 address o → Tells (TextRight b q) o
           text-told bytes here d h c k l address g {o} p = record {
             so = λ u s. record {
               entry = there EntryAddress (told .so u);
@@ -163,4 +162,4 @@ module _ (b : List ℕ) (q w y : ℕ) (e : w ≡ u16At b (q + 2)) (f : y ≡ typ
             where
               told : Tells (EntryAddress t seg el) o
               told = address-told t passed seg el h k (c ∙ ap hashText text-there) (l .0) (l .1)
-                  (address-in b bytes (q + 4) t here k h address g p)
+                  (address-in b bytes q t here k h address g p)

@@ -12,7 +12,6 @@ use Rattle.verdict.specs.declared.Verdict.{Verdict}
 use Rattle.verdict.specs.declared.Verdict.the-variants.{Accepted, Refused}
 use Rattle.verdict.proofs.Laws.{pass, stop, fault-none, tells-yes, tells-no, tells-eqb}
 use Rattle.verdict.proofs.Scans.{each-more, each-stop, each-end, row-same}
-use Rattle.le.specs.Le.{u16At}
 use Rattle.words.specs.Words.{typeOf}
 use Rattle.region.proofs.Laws.{place-row}
 use Rattle.layout.specs.Layout.{attributeSize, attributesAt}
@@ -23,7 +22,7 @@ use Rattle.nodes.specs.Node.{attributeSegment, attributeElement, attribu
 use Rattle.nodes.specs.Attribute.{attributeName, typeWord, Typed}
 use Rattle.nodes.specs.Rules.{AttributeRule, TextRight}
 use Rattle.nodes.specs.Order.{attributeChecks, nodeAttributeChecks}
-use Rattle.nodes.proofs.Fields.{kind-is}
+use Rattle.nodes.proofs.Types.{kind-is}
 
 -- ---- the attributes of a node stand in a row
 
@@ -49,10 +48,9 @@ module _ (b : List ℕ) (p : ℕ) where
 abbrev pub Above : List ℕ → ℕ → ℕ → Type 0
 Above b p i = (i ≡ 0) ⊎ (attributeName b (attributeAt b p (i - 1)) < attributeName b (attributeAt b p i))
 
-module _ (b : List ℕ) (n : Names) (g : Known b n) (p i q : ℕ) (e : q ≡ attributeAt b p i) (x : ℕ) (f : x ≡ u16At b q) where
+module _ (b : List ℕ) (n : Names) (g : Known b n) (p i q : ℕ) (e : q ≡ attributeAt b p i) (x : ℕ) (f : x ≡ attributeName b q) where
   name-is : attributeName b (attributeAt b p i) ≡ x
-  unfolding attributeName
-  name-is = ap (u16At b) (sym e) ∙ sym f
+  name-is = ap (attributeName b) (sym e) ∙ sym f
 
   pub name-zero : x ≡ 0 → Tells (AttributeRule b p i) false
   name-zero z = tells-no (λ r. omega (arith, r .low, name-is))
@@ -61,12 +59,11 @@ module _ (b : List ℕ) (n : Names) (g : Known b n) (p i q : ℕ) (e : q ≡ att
   name-past l = tells-no (λ r. omega (arith, r .high, name-is, g .count))
 
   -- the one before
-  module _ (h : 0 < i) (y : ℕ) (d : y ≡ u16At b (q - 12)) where
+  module _ (h : 0 < i) (y : ℕ) (d : y ≡ attributeName b (q - 12)) where
     before-is : attributeName b (attributeAt b p (i - 1)) ≡ y
-    unfolding attributeName
     before-is =
         let z : attributeAt b p (i - 1) ≡ q - 12 = omega (arith, attribute-before b p i h) in
-        ap (u16At b) z ∙ sym d
+        ap (attributeName b) z ∙ sym d
 
     pub name-falls : x ≤ y → Tells (AttributeRule b p i) false
     name-falls l = tells-no (λ r. ⊎-elim (λ z. omega arith) (λ z. omega (arith, name-is, before-is)) (r .above))
@@ -93,7 +90,7 @@ module _ (b : List ℕ) (n : Names) (g : Known b n) (p i q : ℕ) (e : q ≡ att
     pub right-other : (x ≡ n .value → ⊥) → Tells (AttributeRule b p i) true
     right-other d = tells-yes (right (λ w. absurd (d w)))
 
-    pub right-value : x ≡ n .value → (w k : ℕ) → w ≡ u16At b (q + 2) → k ≡ typeOf w → Tells (AttributeRule b p i) (eqb k 3)
+    pub right-value : x ≡ n .value → (w k : ℕ) → w ≡ typeWord b q → k ≡ typeOf w → Tells (AttributeRule b p i) (eqb k 3)
     right-value d w k c m =
         let z = kind-is b q w c k m in
         tells-eqb k 3 (λ o. right (λ s. z ∙ o))

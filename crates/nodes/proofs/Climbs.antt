@@ -11,7 +11,6 @@ use borrow.Author.Count.{below-none, below-more}
 use Rattle.verdict.specs.Checks.{SomeBelow}
 use Rattle.verdict.specs.inner.Tells.{Tells}
 use Rattle.verdict.proofs.Laws.{tells-yes, tells-no}
-use Rattle.le.specs.Le.{u16At}
 use Rattle.region.specs.declared.Place.{Place}
 use Rattle.region.specs.declared.Place.the-variants.{At, Nowhere}
 use Rattle.region.specs.declared.Region.{Region}
@@ -34,9 +33,9 @@ module _ (b : List ℕ) (q : ℕ) where
   pub climb-none : Climbed b q 0 0
   climb-none = record { rising = below-none _; most = below-none _; own = inl refl }
 
-  module _ (i last : ℕ) (h : Climbed b q i last) (name : ℕ) (e : name ≡ u16At b (q + i * 24)) where
+  module _ (i last : ℕ) (h : Climbed b q i last) (name : ℕ) (e : name ≡ nodeName b (q + i * 24)) where
     name-is : name ≡ nodeName b (q + i * nodeSize)
-    unfolding nodeName nodeSize
+    unfolding nodeSize
     name-is = e
 
     pub climb-skip : name ≡ 0 → Climbed b q (i + 1) last
@@ -77,9 +76,9 @@ same-climb b f g n e h j l i m u v =
 
 -- where the children of the node at p are looked for, as the code reads it
 pub children-sought : (b : List ℕ) (p n : ℕ) (g : Region) → Mapped nodeSize b (nodesAt b) g
-    → (seg el : ℕ) → seg ≡ u16At b (p + 16) → el ≡ u16At b (p + 18) → (r : Place) → r ≡ rangeAt 24 b (g .at) seg el n
+    → (seg el : ℕ) → seg ≡ childSegment b p → el ≡ childElement b p → (r : Place) → r ≡ rangeAt 24 b (g .at) seg el n
     → r ≡ rangeAt nodeSize b (nodesAt b) (childSegment b p) (childElement b p) n
-unfolding nodeSize childSegment childElement
+unfolding nodeSize
 children-sought b p n g w seg el s t r f = let a = w .at-is in cc
 
 -- 23 of the node at p with n children

@@ -1,7 +1,7 @@
 -- The scan over all nodes: whether there is a root, and what the loops over segments and nodes have left. Assumes nothing.
-use Prim.Native.Nat.{ℕ, _+_, _*_, _<_}
+use Prim.Native.Nat.{ℕ, _+_, _<_}
 use native.Mathlib.Omega.{arith}
-use mathlib.Core.Path.{_≡_, refl, ap, sym, _∙_}
+use mathlib.Core.Path.{_≡_, ap, sym, _∙_}
 use mathlib.Core.List.{List}
 use Rattle.le.specs.Le.{u32At}
 use Rattle.verdict.specs.Checks.{firstFault}
@@ -11,7 +11,8 @@ use Rattle.verdict.proofs.Laws.{pass, stop}
 use Rattle.region.specs.declared.Region.{Region}
 use Rattle.region.specs.Region.{Resolves, countOf, startOf, usedOf}
 use Rattle.region.specs.inner.Samples.{Mapped}
-use Rattle.region.proofs.Samples.{start-more, used-at, place-at}
+use Rattle.region.proofs.Laws.{place-row}
+use Rattle.region.proofs.Samples.{used-at, place-at}
 use Rattle.layout.specs.Layout.{nodeSize, nodesAt}
 use Rattle.nodes.specs.Node.{nodeAt}
 use Rattle.nodes.specs.Rules.{RootUsed}
@@ -34,13 +35,13 @@ module _ (b : List ℕ) (g : Region) (w : Mapped nodeSize b (nodesAt b) g) where
   pub no-segment : g .count ≡ 0 → Refused 16 (g .at) ≡ firstFault (allNodeChecks b)
   no-segment z = none-used (λ h. omega (arith, h .seg-in, w .count-is))
 
-  pub first-start : g .at + 4 ≡ startOf nodeSize b (nodesAt b) 0
+  pub first-at : (p : ℕ) → p ≡ g .at + 4 → p ≡ startOf nodeSize b (nodesAt b) 0
   unfolding startOf
-  first-start = omega (arith, w .at-is)
+  first-at p e = omega (arith, w .at-is)
 
-  module _ (u : ℕ) (e : u ≡ u32At b (g .at + 4 + 4)) where
+  module _ (p u : ℕ) (s : p ≡ g .at + 4) (e : u ≡ u32At b (p + 4)) where
     first-used : u ≡ usedOf nodeSize b (nodesAt b) 0
-    first-used = used-at nodeSize b (nodesAt b) 0 (g .at + 4) u first-start e
+    first-used = used-at nodeSize b (nodesAt b) 0 p u (first-at p s) e
 
     pub no-node : u ≡ 0 → Refused 16 (g .at) ≡ firstFault (allNodeChecks b)
     no-node z = none-used (λ h. omega (arith, h .el-in, first-used))
@@ -55,10 +56,11 @@ module _ (b : List ℕ) (g : Region) (w : Mapped nodeSize b (nodesAt b) g) where
     pub node-in : (u el : ℕ) → u ≡ u32At b (p + 4) → el < u → Resolves nodeSize b (nodesAt b) seg el
     node-in u el e l = record { seg-in = omega (arith, w .count-is); el-in = omega (arith, used-at nodeSize b (nodesAt b) seg p u q e) }
 
-    pub node-at : (el : ℕ) → p + 8 + el * 24 ≡ nodeAt b seg el
-    unfolding nodeAt nodeSize
-    node-at el = place-at nodeSize b (nodesAt b) seg p el q
+-- the first node of the segment that starts at p, and the one behind the node at x
+pub node-first : (b : List ℕ) (seg p : ℕ) → p ≡ startOf nodeSize b (nodesAt b) seg → p + 8 ≡ nodeAt b seg 0
+unfolding nodeAt
+node-first b seg p q = omega (arith, place-at nodeSize b (nodesAt b) seg p 0 q)
 
-    pub next-start : (n : ℕ) → n ≡ u32At b p → p + 8 + n * 24 ≡ startOf nodeSize b (nodesAt b) (seg + 1)
-    unfolding nodeSize
-    next-start n e = start-more nodeSize b (nodesAt b) seg (seg + 1) p (p + 8 + n * 24) refl q (omega (arith, e))
+pub node-next : (b : List ℕ) (seg el x : ℕ) → x ≡ nodeAt b seg el → x + 24 ≡ nodeAt b seg (el + 1)
+unfolding nodeAt nodeSize
+node-next b seg el x e = omega (arith, place-row nodeSize b (nodesAt b) seg el 1)

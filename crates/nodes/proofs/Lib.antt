@@ -5,7 +5,6 @@ pub mod Climbs
 pub mod Ways
 pub mod Rows
 pub mod Left
-pub mod Fields
 pub mod Values
 pub mod Types
 pub mod Attributes

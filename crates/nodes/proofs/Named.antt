@@ -8,7 +8,6 @@ use lib.Dec.{ltb}
 use borrow.Author.Tests.{ltb-true, ltb-false}
 use Rattle.verdict.specs.inner.Tells.{Tells}
 use Rattle.verdict.proofs.Laws.{tells-yes, tells-no}
-use Rattle.le.specs.Le.{u16At}
 use Rattle.words.specs.Words.{flagsOf, keyIndexOf}
 use Rattle.region.specs.Region.{startOf, placeOf}
 use Rattle.layout.specs.Header.{keyCount}
@@ -29,15 +28,13 @@ pub node-above : (b : List ℕ) (seg el p : ℕ) → p ≡ nodeAt b seg el → s
 unfolding nodeAt placeOf nodeSize
 node-above b seg el p q = omega (arith, start-above 24 b (nodesAt b) seg)
 
-module _ (b : List ℕ) (names : Names) (g : Known b names) (seg el p : ℕ) (q : p ≡ nodeAt b seg el) (name : ℕ) (e : name ≡ u16At b p) where
+module _ (b : List ℕ) (names : Names) (g : Known b names) (seg el p : ℕ) (q : p ≡ nodeAt b seg el) (name : ℕ) (e : name ≡ nodeName b p) where
   name-is : name ≡ nodeName b (nodeAt b seg el)
-  unfolding nodeName
-  name-is = e ∙ ap (u16At b) q
+  name-is = e ∙ ap (nodeName b) q
 
-  module _ (a : ℕ) (f : a ≡ u16At b (p + 4)) where
+  module _ (a : ℕ) (f : a ≡ attributeField b p) where
     bare-is : a ≡ attributeField b (nodeAt b seg el)
-    unfolding attributeField
-    bare-is = f ∙ ap (λ (x : ℕ). u16At b (x + 4)) q
+    bare-is = f ∙ ap (attributeField b) q
 
     pub root-right : name ≡ names .root → a ≡ 0 → RootRule b (nodeAt b seg el)
     root-right d z = record { named = subst (λ (i : ℕ). Bears b i rootName) (sym d ∙ name-is) (g .root); bare = sym bare-is ∙ z }
@@ -51,10 +48,9 @@ module _ (b : List ℕ) (names : Names) (g : Known b names) (seg el p : ℕ) (q 
   pub name-high : names .count < name → Tells (NodeRule b seg el) false
   name-high l = tells-no (λ r. omega (arith, g .count, name-is, r .name))
 
-  module _ (word : ℕ) (w : word ≡ u16At b (p + 2)) (fl : ℕ) (h : fl ≡ flagsOf word) where
+  module _ (word : ℕ) (w : word ≡ keyWord b p) (fl : ℕ) (h : fl ≡ flagsOf word) where
     word-is : word ≡ keyWord b (nodeAt b seg el)
-    unfolding keyWord
-    word-is = w ∙ ap (λ (x : ℕ). u16At b (x + 2)) q
+    word-is = w ∙ ap (keyWord b) q
 
     flags-are : fl ≡ flagsOf (keyWord b (nodeAt b seg el))
     flags-are = h ∙ ap flagsOf word-is

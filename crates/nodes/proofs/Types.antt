@@ -1,19 +1,24 @@
--- Type, extended code and truth word of an attribute (18). Assumes nothing.
-use Prim.Native.Nat.{ℕ, zero, suc, _+_, _-_, _*_, _<_, _^_}
+-- The type word of an attribute, as the code splits it; type, extended code and truth word (18). Assumes nothing.
+use Prim.Native.Nat.{ℕ, zero, suc, _-_, _*_, _<_, _^_}
 use native.Mathlib.Decide.{ℕ-discrete}
 use native.Mathlib.Nat.{mul-zero, zero-mul}
 use native.Mathlib.Omega.{arith}
-use mathlib.Core.Path.{_≡_, refl, ap, _∙_}
+use mathlib.Core.Path.{_≡_, refl, ap, sym, _∙_}
 use mathlib.Core.Bool.{false}
 use mathlib.Core.Logic.{inl, inr, ⊎-elim, by-cases}
 use mathlib.Core.List.{List}
 use lib.Dec.{leb}
 use Rattle.verdict.specs.inner.Tells.{Tells}
 use Rattle.verdict.proofs.Laws.{tells-no, tells-leb}
-use Rattle.le.specs.Le.{u16At, u32At}
 use Rattle.words.specs.Words.{typeOf, extendedOf}
-use Rattle.nodes.specs.Attribute.{Typed}
-use Rattle.nodes.proofs.Fields.{kind-is, extended-is, word-is}
+use Rattle.nodes.specs.Attribute.{typeWord, valueWord, Typed}
+
+module _ (b : List ℕ) (q w : ℕ) (e : w ≡ typeWord b q) where
+  pub kind-is : (k : ℕ) → k ≡ typeOf w → typeOf (typeWord b q) ≡ k
+  kind-is k f = ap typeOf (sym e) ∙ sym f
+
+  pub extended-is : (x : ℕ) → x ≡ extendedOf w → extendedOf (typeWord b q) ≡ x
+  extended-is x f = ap extendedOf (sym e) ∙ sym f
 
 -- What the code counts of a code x at type k is 0 of a text's, and of the code 0.
 module _ (x : ℕ) where
@@ -39,7 +44,7 @@ module _ (x : ℕ) where
   code-fits (suc (suc (suc zero))) h w l e = omega arith
   code-fits (suc (suc (suc (suc k)))) h w l e = omega arith
 
-module _ (b : List ℕ) (q w k : ℕ) (e : w ≡ u16At b (q + 2)) (f : k ≡ typeOf w) (x : ℕ) (g : x ≡ extendedOf w) where
+module _ (b : List ℕ) (q w k : ℕ) (e : w ≡ typeWord b q) (f : k ≡ typeOf w) (x : ℕ) (g : x ≡ extendedOf w) where
   pub typed-plain : k < 4 → x * (3 - k) ≡ 0 → Tells (Typed b q) (leb 1 k)
   unfolding Typed
   typed-plain few z =
@@ -77,11 +82,10 @@ module _ (b : List ℕ) (q w k : ℕ) (e : w ≡ u16At b (q + 2)) (f : k ≡ typ
         tells-no
         (⊎-elim (λ r. ⊎-elim (λ s. omega arith) (λ s. omega (arith, s .0)) (r .1)) (⊎-elim (λ r. omega (arith, r .1)) (λ r. omega arith)))
 
-  pub typed-truth : k ≡ 1 → x ≡ 1 → (v : ℕ) → v ≡ u32At b (q + 4) → Tells (Typed b q) (leb v 1)
+  pub typed-truth : k ≡ 1 → x ≡ 1 → (v : ℕ) → v ≡ valueWord b q → Tells (Typed b q) (leb v 1)
   unfolding Typed
   typed-truth d o v p =
       let u = kind-is b q w e k f in
       let y = extended-is b q w e x g in
-      let t = word-is b q v p in
       tells-leb v 1 (λ h. inl (omega arith, inr (omega arith, omega arith)))
       (⊎-elim (λ r. ⊎-elim (λ s. omega arith) (λ s. omega (arith, s .1)) (r .1)) (⊎-elim (λ r. omega (arith, r .1)) (λ r. omega arith)))

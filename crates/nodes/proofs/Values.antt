@@ -1,5 +1,5 @@
 -- The value read out of an attribute. Assumes nothing.
-use Prim.Native.Nat.{ℕ, zero, suc, _+_, _-_, _^_, _≤_, _<_}
+use Prim.Native.Nat.{ℕ, zero, suc, _-_, _^_, _≤_, _<_}
 use native.Mathlib.Nat.{zero-add}
 use native.Mathlib.Omega.{arith}
 use mathlib.Core.Path.{_≡_, refl, sym, ap, subst, _∙_}
@@ -10,12 +10,11 @@ use lib.IntN.{ℤ, pos, negsuc, _-ℤ_}
 use mir.Syntax.{w32}
 use mir.Val.{toZ, ofZ, SFits}
 use mir.Facts.{toZ-pos, toZ-ofZ}
-use Rattle.le.specs.Le.{u16At, u32At}
 use Rattle.le.specs.Floats.{singleOf}
 use Rattle.words.specs.Words.{typeOf, extendedOf}
-use Rattle.nodes.specs.Attribute.{signedOf, valueOf, textSegment, textElement}
+use Rattle.nodes.specs.Attribute.{typeWord, valueWord, textSegment, textElement, signedOf, valueOf}
 use Rattle.nodes.specs.declared.value.Value.the-variants.{Whole, Truth, Float, Text}
-use Rattle.nodes.proofs.Fields.{kind-is, extended-is, word-is}
+use Rattle.nodes.proofs.Types.{kind-is, extended-is}
 
 -- ---- a word as a signed number
 
@@ -41,23 +40,23 @@ signed-high w h l =
 
 -- ---- the value, by type and extended code
 
-module _ (b : List ℕ) (q w k : ℕ) (e : w ≡ u16At b (q + 2)) (f : k ≡ typeOf w) where
-  module _ (l : k ≡ 1) (x : ℕ) (g : x ≡ extendedOf w) (v : ℕ) (p : v ≡ u32At b (q + 4)) where
+module _ (b : List ℕ) (q w k : ℕ) (e : w ≡ typeWord b q) (f : k ≡ typeOf w) where
+  module _ (l : k ≡ 1) (x : ℕ) (g : x ≡ extendedOf w) (v : ℕ) (p : v ≡ valueWord b q) where
     pub value-whole : x ≡ 0 → Whole (signedOf v) ≡ valueOf b q
     unfolding valueOf
     value-whole z =
-        sym (rw (kind-is b q w e k f, extended-is b q w e x g, word-is b q v p, eq-eqb k 1 l, eq-eqb x 0 z))
+        sym (rw (kind-is b q w e k f, extended-is b q w e x g, ← p, eq-eqb k 1 l, eq-eqb x 0 z))
 
     pub value-truth : (x ≡ 0 → ⊥) → Truth (eqb v 1) ≡ valueOf b q
     unfolding valueOf
     value-truth z =
-        sym (rw (kind-is b q w e k f, extended-is b q w e x g, word-is b q v p, eq-eqb k 1 l, ne-eqb x 0 z))
+        sym (rw (kind-is b q w e k f, extended-is b q w e x g, ← p, eq-eqb k 1 l, ne-eqb x 0 z))
 
   module _ (l : k ≡ 1 → ⊥) where
-    pub value-float : k ≡ 2 → (v : ℕ) → v ≡ u32At b (q + 4) → Float (singleOf v) ≡ valueOf b q
+    pub value-float : k ≡ 2 → (v : ℕ) → v ≡ valueWord b q → Float (singleOf v) ≡ valueOf b q
     unfolding valueOf
-    value-float m v p = sym (rw (kind-is b q w e k f, word-is b q v p, ne-eqb k 1 l, eq-eqb k 2 m))
+    value-float m v p = sym (rw (kind-is b q w e k f, ← p, ne-eqb k 1 l, eq-eqb k 2 m))
 
-    pub value-text : (k ≡ 2 → ⊥) → (s t : ℕ) → s ≡ u16At b (q + 4) → t ≡ u16At b (q + 6) → Text s t ≡ valueOf b q
-    unfolding valueOf textSegment textElement
+    pub value-text : (k ≡ 2 → ⊥) → (s t : ℕ) → s ≡ textSegment b q → t ≡ textElement b q → Text s t ≡ valueOf b q
+    unfolding valueOf
     value-text m s t p r = sym (rw (kind-is b q w e k f, ne-eqb k 1 l, ne-eqb k 2 m, ← p, ← r))

@@ -12,7 +12,6 @@ use Rattle.verdict.specs.declared.Verdict.{Verdict}
 use Rattle.verdict.specs.declared.Verdict.the-variants.{Accepted, Refused}
 use Rattle.verdict.proofs.Laws.{Clean, pass, stop, fault-none, fault-append, fault-keep}
 use Rattle.verdict.proofs.Scans.{each-end}
-use Rattle.le.specs.Le.{u16At}
 use Rattle.region.specs.declared.Place.{Place}
 use Rattle.region.specs.declared.Place.the-variants.{At, Nowhere}
 use Rattle.region.specs.declared.Region.{Region}
@@ -29,37 +28,36 @@ use Rattle.nodes.proofs.Sought.{sought-out, sought-in, sought-range, so
 -- ---- counts: a nameless node has none, a live one those of its fields
 
 module _ (b : List ℕ) (p : ℕ) where
-  no-attributes : nodeName b p ≡ 0 → attributeCount b p ≡ 0
+  nameless-attributes : nodeName b p ≡ 0 → attributeCount b p ≡ 0
   unfolding attributeCount
-  no-attributes z = rw (eq-eqb (nodeName b p) 0 z)
+  nameless-attributes z = rw (eq-eqb (nodeName b p) 0 z)
 
-  no-children : nodeName b p ≡ 0 → childCount b p ≡ 0
+  pub nameless-children : nodeName b p ≡ 0 → childCount b p ≡ 0
   unfolding childCount
-  no-children z = rw (eq-eqb (nodeName b p) 0 z)
+  nameless-children z = rw (eq-eqb (nodeName b p) 0 z)
 
-  pub attribute-count : Live b p → (n : ℕ) → n ≡ u16At b (p + 4) → n ≡ attributeCount b p
-  unfolding attributeCount attributeField
+  pub attribute-count : Live b p → (n : ℕ) → n ≡ attributeField b p → n ≡ attributeCount b p
+  unfolding attributeCount
   attribute-count l n e = rw (ne-eqb (nodeName b p) 0 l) e
 
-  pub child-count : Live b p → (n : ℕ) → n ≡ u16At b (p + 6) → n ≡ childCount b p
-  unfolding childCount childField
+  pub child-count : Live b p → (n : ℕ) → n ≡ childField b p → n ≡ childCount b p
+  unfolding childCount
   child-count l n e = rw (ne-eqb (nodeName b p) 0 l) e
 
 pub node-fits : (b : List ℕ) (seg el x : ℕ) → Laid nodeSize b (nodesAt b) → Resolves nodeSize b (nodesAt b) seg el → x ≡ nodeAt b seg el → x + 24 ≤ length b
 unfolding nodeAt nodeSize
 node-fits b seg el x g h q = omega (arith, place-fits nodeSize b (nodesAt b) g seg el h)
 
-pub live-node : (b : List ℕ) (x n : ℕ) → n ≡ u16At b x → (n ≡ 0 → ⊥) → Live b x
-unfolding nodeName
+pub live-node : (b : List ℕ) (x n : ℕ) → n ≡ nodeName b x → (n ≡ 0 → ⊥) → Live b x
 live-node b x n e d z = d (e ∙ z)
 
 -- ---- 17
 
 -- where the attributes of the node at p are looked for, as the code reads it
 pub attributes-sought : (b : List ℕ) (p n : ℕ) (g : Region) → Mapped attributeSize b (attributesAt b) g
-    → (seg el : ℕ) → seg ≡ u16At b (p + 8) → el ≡ u16At b (p + 10) → (r : Place) → r ≡ rangeAt 12 b (g .at) seg el n
+    → (seg el : ℕ) → seg ≡ attributeSegment b p → el ≡ attributeElement b p → (r : Place) → r ≡ rangeAt 12 b (g .at) seg el n
     → r ≡ rangeAt attributeSize b (attributesAt b) (attributeSegment b p) (attributeElement b p) n
-unfolding attributeSize attributeSegment attributeElement
+unfolding attributeSize
 attributes-sought b p n g w seg el s t r f = let a = w .at-is in cc
 
 module _ (b : List ℕ) (p n : ℕ) (c : n ≡ attributeCount b p) where
@@ -124,7 +122,6 @@ module _ (b : List ℕ) (seg el x : ℕ) (q : x ≡ nodeAt b seg el) where
       unfolding checksAt
       node-passes h = sym (ap firstFault at-node ∙ pass _ _ _ _ _ r ∙ fault-append _ _ a ∙ pass _ _ _ _ _ h ∙ fault-none)
 
-    pub nameless-passes : (n : ℕ) → n ≡ u16At b x → n ≡ 0 → Accepted ≡ firstFault (nodeChecks b seg el)
-    unfolding nodeName
-    nameless-passes n e v = let z : nodeName b x ≡ 0 = sym e ∙ v in node-passes (sym (range-none b x 0 (sym (no-attributes b x z)) refl))
-        (record { reach = inl (no-children b x z); rising = λ j l. absurd (not-suc-le-zero {n = j} (omega (arith, no-children b x z))) })
+    pub nameless-passes : (n : ℕ) → n ≡ nodeName b x → n ≡ 0 → Accepted ≡ firstFault (nodeChecks b seg el)
+    nameless-passes n e v = let z : nodeName b x ≡ 0 = sym e ∙ v in node-passes (sym (range-none b x 0 (sym (nameless-attributes b x z)) refl))
+        (record { reach = inl (nameless-children b x z); rising = λ j l. absurd (not-suc-le-zero {n = j} (omega (arith, nameless-children b x z))) })

@@ -10,7 +10,9 @@ ghost use Rattle.nodes.specs.inner.Held.{Ready};
 ghost use Rattle.nodes.specs.inner.Noted.{noted};
 use crate::node;
 use keys::Names;
+use layout::NODE_SIZE;
 use layout::Places;
+use region::SEGMENT_HEADER;
 use verdict::Verdict;
 
 // Refusals 16 to 19 and 23 of every used node, up to the first fault; 19 is due only to attributes that are doubted.
@@ -36,17 +38,17 @@ pub fn check_nodes(
     if nodes.count == 0 {
         return Verdict::Refused(16, nodes.at);
     }
-    let mut at = nodes.at + 4;
-    if le::u32_at(b, at + 4) == 0 {
+    let mut at = region::first_start(nodes);
+    if region::used_count(b, at) == 0 {
         return Verdict::Refused(16, nodes.at);
     }
     let mut fault = Verdict::Accepted;
     let mut seg = 0;
     'segments: while seg < nodes.count {
-        let used = le::u32_at(b, at + 4);
+        let used = region::used_count(b, at);
+        let mut x = at + SEGMENT_HEADER;
         let mut el = 0;
         while el < used {
-            let x = at + 8 + el * 24;
             match node::check_node(
                 b,
                 t,
@@ -69,9 +71,10 @@ pub fn check_nodes(
                     break 'segments;
                 }
             }
+            x += NODE_SIZE;
             el += 1;
         }
-        at = at + 8 + le::u32_at(b, at) * 24;
+        at = region::next_start(b, at, NODE_SIZE);
         seg += 1;
     }
     fault

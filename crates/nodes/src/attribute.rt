@@ -17,8 +17,10 @@ ghost use Rattle.nodes.specs.Rules.{AttributeRule, TextRight};
 ghost use Rattle.nodes.specs.inner.Doubts.{Trusted, NoDoubt};
 ghost use Rattle.nodes.specs.Order.{nodeAttributeChecks};
 ghost use Rattle.nodes.specs.inner.Noted.{noted};
+use crate::fields;
 use crate::long;
 use keys::Names;
+use layout::ATTRIBUTE_SIZE;
 use search::run;
 use strings::Strings;
 use strings::entry;
@@ -31,7 +33,7 @@ fn typed(b: &[u8], q: usize) -> bool
     requires { ⌜ q + 12 ≤ length (now b) ⌝ }
     ensures { λ r. ⌜ Tells (Typed (now (b .entry)) q) r ⌝ }
 {
-    let word = le::u16_at(b, q + 2);
+    let word = fields::type_word(b, q);
     let kind = words::kind(word);
     let extended = words::extended(word);
     // A text, whose code 19 looks at, or code 0: types come and go too irregularly for a branch each.
@@ -44,7 +46,7 @@ fn typed(b: &[u8], q: usize) -> bool
     if extended != 1 {
         return false;
     }
-    le::u32_at(b, q + 4) <= 1
+    fields::value_word(b, q) <= 1
 }
 
 // Whether refusal 18 is not due to attribute i of the node at p, which stands at q.
@@ -52,7 +54,7 @@ fn attribute_right(b: &[u8], names: Names, p: usize, i: usize, q: usize) -> bool
     requires { ⌜ Known (now b) names × (q ≡ attributeAt (now b) p i) × (q + 12 ≤ length (now b)) ⌝ }
     ensures { λ r. ⌜ Tells (AttributeRule (now (b .entry)) p i) r ⌝ }
 {
-    let name = le::u16_at(b, q);
+    let name = fields::attribute_name(b, q);
     if name == 0 {
         return false;
     }
@@ -60,7 +62,7 @@ fn attribute_right(b: &[u8], names: Names, p: usize, i: usize, q: usize) -> bool
         return false;
     }
     if i > 0 {
-        if name <= le::u16_at(b, q - 12) {
+        if name <= fields::attribute_name(b, q - ATTRIBUTE_SIZE) {
             return false;
         }
     }
@@ -70,7 +72,7 @@ fn attribute_right(b: &[u8], names: Names, p: usize, i: usize, q: usize) -> bool
     if name != names.value {
         return true;
     }
-    words::kind(le::u16_at(b, q + 2)) == 3
+    words::kind(fields::type_word(b, q)) == 3
 }
 
 // Whether refusal 19 is not due to the attribute at q. An entry with its address would stand in the bucket of the text there.
@@ -88,11 +90,17 @@ pub fn text_right(
     ensures answer { λ r. ⌜ Tells (TextRight (now (b .entry)) q) r ⌝ }
     ensures memo { λ _. ⌜ Remembers (noted (now (b .entry))) (now (memo .exit)) ⌝ }
 {
-    let word = le::u16_at(b, q + 2);
+    let word = fields::type_word(b, q);
     if words::kind(word) != 3 {
         return true;
     }
-    let a = spot::spot_to(b, s.chars, segments, q + 4);
+    let a = spot::spot_at(
+        b,
+        s.chars,
+        segments,
+        fields::text_segment(b, q),
+        fields::text_element(b, q),
+    );
     let Spot::At(x, n) = a else {
         return false;
     };
@@ -101,8 +109,8 @@ pub fn text_right(
     }
     let h = long::text_hash(b, t, x, n, memo);
     let k = hash::bucket(h, buckets.len());
-    let low = search::lower(b, s, segments, buckets, k, h);
-    let address = le::u32_at(b, q + 4);
+    let low = search::lower_bound(b, s, segments, buckets, k, h);
+    let address = fields::value_word(b, q);
     run::run_has(b, s, segments, buckets, k, h, low, 12, address)
 }
 
@@ -157,7 +165,7 @@ pub fn check_attributes(
 {
     let mut i = 0;
     while i < n {
-        let q = a + i * 12;
+        let q = a + i * ATTRIBUTE_SIZE;
         if !attribute_right(b, names, p, i, q) {
             return Verdict::Refused(18, q);
         }

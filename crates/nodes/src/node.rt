@@ -22,7 +22,10 @@ ghost use Rattle.nodes.specs.Order.{attributeRangeChecks, nodeChecks};
 ghost use Rattle.nodes.specs.inner.Held.{Ready};
 ghost use Rattle.nodes.specs.inner.Noted.{noted};
 use crate::attribute;
+use crate::fields;
 use keys::Names;
+use layout::ATTRIBUTE_SIZE;
+use layout::NODE_SIZE;
 use layout::Places;
 use region::Place;
 use region::Region;
@@ -34,12 +37,12 @@ fn node_right(b: &[u8], names: Names, keys: usize, seg: usize, el: usize, p: usi
     requires { ⌜ Known (now b) names × (keys ≡ keyCount (now b)) × (p ≡ nodeAt (now b) seg el) × (p + 24 ≤ length (now b)) ⌝ }
     ensures { λ r. ⌜ Tells (NodeRule (now (b .entry)) seg el) r ⌝ }
 {
-    let name = le::u16_at(b, p);
+    let name = fields::node_name(b, p);
     if seg + el == 0 {
         if name != names.root {
             return false;
         }
-        if le::u16_at(b, p + 4) != 0 {
+        if fields::attribute_field(b, p) != 0 {
             return false;
         }
     }
@@ -49,7 +52,7 @@ fn node_right(b: &[u8], names: Names, keys: usize, seg: usize, el: usize, p: usi
     if name > names.count {
         return false;
     }
-    let word = le::u16_at(b, p + 2);
+    let word = fields::key_word(b, p);
     if words::flags(word) > 1 {
         return false;
     }
@@ -64,7 +67,7 @@ fn rising(b: &[u8], q: usize, n: usize) -> bool
     let mut last = 0;
     let mut i = 0;
     while i < n {
-        let name = le::u16_at(b, q + i * 24);
+        let name = fields::node_name(b, q + i * NODE_SIZE);
         if name != 0 {
             if name < last {
                 return false;
@@ -82,17 +85,17 @@ fn children_right(b: &[u8], nodes: Region, segments: &[u32; 1024], p: usize) -> 
     requires { ⌜ (p + 24 ≤ length (now b)) × Live (now b) p ⌝ }
     ensures { λ r. ⌜ Tells (ChildRule (now (b .entry)) p) r ⌝ }
 {
-    let n = le::u16_at(b, p + 6);
+    let n = fields::child_field(b, p);
     if n == 0 {
         return true;
     }
     let r = region::range_at(
         b,
         nodes,
-        24,
+        NODE_SIZE,
         segments,
-        le::u16_at(b, p + 16),
-        le::u16_at(b, p + 18),
+        fields::child_segment(b, p),
+        fields::child_element(b, p),
         n,
     );
     match r {
@@ -124,17 +127,17 @@ fn check_attribute_range(
     ensures answer { λ r. ⌜ r ≡ firstFault (attributeRangeChecks (now (b .entry)) x) ⌝ }
     ensures memo { λ _. ⌜ Remembers (noted (now (b .entry))) (now (memo .exit)) ⌝ }
 {
-    let n = le::u16_at(b, x + 4);
+    let n = fields::attribute_field(b, x);
     if n == 0 {
         return Verdict::Accepted;
     }
     let r = region::range_at(
         b,
         attributes,
-        12,
+        ATTRIBUTE_SIZE,
         attribute_segments,
-        le::u16_at(b, x + 8),
-        le::u16_at(b, x + 10),
+        fields::attribute_segment(b, x),
+        fields::attribute_element(b, x),
         n,
     );
     match r {
@@ -182,7 +185,7 @@ pub fn check_node(
     if !node_right(b, names, p.keys, seg, el, x) {
         return Verdict::Refused(16, x);
     }
-    if le::u16_at(b, x) == 0 {
+    if fields::node_name(b, x) == 0 {
         return Verdict::Accepted;
     }
     let chars = p.value_chars;

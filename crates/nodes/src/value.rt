@@ -3,6 +3,7 @@ ghost use mathlib.Core.Path.{_≡_};
 ghost use Prim.Native.Nat.{_+_, _≤_, _<_, _^_};
 ghost use lib.ListN.{length};
 ghost use Rattle.nodes.specs.Attribute.{signedOf, valueOf};
+use crate::fields;
 use le::Float32;
 
 // A whole number, a truth, a float beside its bits, or a text address: segment, element.
@@ -32,17 +33,17 @@ pub fn value_at(b: &[u8], q: usize) -> Value
     requires { ⌜ q + 12 ≤ length (now b) ⌝ }
     ensures { λ r. ⌜ r ≡ valueOf (now (b .entry)) q ⌝ }
 {
-    let word = le::u16_at(b, q + 2);
+    let word = fields::type_word(b, q);
     let kind = words::kind(word);
     if kind == 1 {
-        let w = le::u32_at(b, q + 4);
+        let w = fields::value_word(b, q);
         if words::extended(word) == 0 {
             return Value::Whole(signed(w));
         }
         return Value::Truth(w == 1);
     }
     if kind == 2 {
-        return Value::Float(le::single(le::u32_at(b, q + 4) as u32));
+        return Value::Float(le::single(fields::value_word(b, q) as u32));
     }
-    Value::Text(le::u16_at(b, q + 4), le::u16_at(b, q + 6))
+    Value::Text(fields::text_segment(b, q), fields::text_element(b, q))
 }

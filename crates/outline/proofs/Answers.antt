@@ -6,9 +6,8 @@ use mathlib.Core.List.{List, _++_}
 use lib.ListN.{length, drop}
 use Rattle.verdict.specs.declared.Verdict.the-variants.{Accepted, Refused}
 use Rattle.verdict.proofs.Laws.{never, pass, stop, fault-none}
-use Rattle.region.specs.Region.{placeOf, startOf}
 use Rattle.layout.specs.declared.Places.{Places}
-use Rattle.nodes.specs.Node.{Live, nodeName, nodeAt}
+use Rattle.nodes.specs.Node.{Live, nodeName}
 use Rattle.tree.specs.File.{nodeOf, Used}
 use Rattle.accept.specs.Rules.{FileRules}
 use Rattle.print.specs.inner.Put.{Put}
@@ -20,21 +19,17 @@ use Rattle.outline.specs.inner.Ready.{OutlineReady}
 use Rattle.outline.specs.declared.Outlined.{Outlined}
 use Rattle.outline.proofs.Fits.{outline-fits}
 
--- ---- the root: where it stands, and that it is live
+-- ---- the root is live
 
 module _ {b : List ℕ} {p : Places} {xs ns vs ms : List ℕ} (r : OutlineReady b p xs ns vs ms) where
-  pub root-place : p .nodes .at + 12 ≡ nodeOf b 0
-  unfolding nodeOf nodeAt placeOf startOf
-  root-place = omega (arith, r .line .placed .nodes .at-is)
-
   pub root-used : Used b 0
   root-used = r .line .rules .nodes .root
 
-  pub root-live : Live b (p .nodes .at + 12)
+  pub root-live : {x : ℕ} → x ≡ nodeOf b 0 → Live b x
   unfolding nodeOf
-  root-live z =
+  root-live e z =
       let k = r .line .rules .nodes .each 0 0 (r .line .rules .nodes .root) .node .root refl refl .named .low in
-      omega (arith, ap (nodeName b) root-place)
+      omega (arith, ap (nodeName b) e)
 
 -- ---- the ways out
 

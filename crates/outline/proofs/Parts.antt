@@ -6,15 +6,14 @@ use native.Mathlib.Omega.{arith}
 use mathlib.Core.Path.{_≡_, refl, ap, sym, _∙_}
 use mathlib.Core.List.{List, [], _++_}
 use borrow.Author.Tests.{eq-eqb, ne-eqb}
-use Rattle.le.specs.Le.{u16At}
 use Rattle.region.specs.Region.{rangeAt}
 use Rattle.region.specs.inner.Samples.{Mapped, Starts}
 use Rattle.region.specs.declared.Place.{Place}
 use Rattle.region.specs.declared.Place.the-variants.{At, Nowhere}
-use Rattle.region.proofs.Laws.{place-row}
 use Rattle.layout.specs.Layout.{attributeSize, attributesAt}
 use Rattle.layout.specs.declared.Places.{Places}
-use Rattle.nodes.specs.Node.{attributeSegment, attributeElement, attributeCount, attributeAt}
+use Rattle.nodes.specs.Node.{attributeField, attributeSegment, attributeElement, attributeCount, attributeAt}
+use Rattle.nodes.proofs.Attributes.{attribute-is}
 use Rattle.nodes.proofs.Sought.{lent}
 use Rattle.nodes.proofs.Ways.{attribute-count, attributes-sought, attributes-nowhere, attributes-start}
 use Rattle.tree.specs.Chain.{ranged}
@@ -37,23 +36,16 @@ pub record Attributes (b : List ℕ) (x n q : ℕ) : Type 0 where
   pub count : n ≡ attributeCount b x
   pub place : (i : ℕ) → q + i * 12 ≡ attributeAt b x i
 
-attribute-row : (b : List ℕ) (x i : ℕ) → attributeAt b x 0 + i * 12 ≡ attributeAt b x i
-unfolding attributeAt attributeSize
-attribute-row b x i =
-    let e = place-row 12 b (attributesAt b) (attributeSegment b x) (attributeElement b x) 0 in
-    let f = place-row 12 b (attributesAt b) (attributeSegment b x) (attributeElement b x) i in
-    omega arith
-
 pub regions : {b : List ℕ} {p : Places} {xs vs ns : List ℕ} → LineReady b p xs vs ns
     → Mapped 12 b (p .attributes .at) (p .attributes) × Starts 12 b (p .attributes .at) (p .attributes .shift) xs
 unfolding attributeSize
 regions g = lent (g .placed .attributes) (g .attributes)
 
 module _ {b : List ℕ} {p : Places} {xs vs ns : List ℕ} (g : LineReady b p xs vs ns) {x : ℕ} (k : NodeReady b x) where
-  pub attributes-count : {n : ℕ} → n ≡ u16At b (x + 4) → n ≡ attributeCount b x
+  pub attributes-count : {n : ℕ} → n ≡ attributeField b x → n ≡ attributeCount b x
   attributes-count {n} e = attribute-count b x (k .live) n e
 
-  module _ {n seg el : ℕ} (c : n ≡ u16At b (x + 4)) (s : seg ≡ u16At b (x + 8)) (l : el ≡ u16At b (x + 10)) {r : Place} (f : r ≡ rangeAt 12 b (p .attributes .at) seg el n) where
+  module _ {n seg el : ℕ} (c : n ≡ attributeField b x) (s : seg ≡ attributeSegment b x) (l : el ≡ attributeElement b x) {r : Place} (f : r ≡ rangeAt 12 b (p .attributes .at) seg el n) where
     sought : r ≡ rangeAt attributeSize b (attributesAt b) (attributeSegment b x) (attributeElement b x) n
     sought = attributes-sought b x n (p .attributes) (g .placed .attributes) seg el s l r f
 
@@ -63,7 +55,7 @@ module _ {b : List ℕ} {p : Places} {xs vs ns : List ℕ} (g : LineReady b p xs
     pub attributes-at : {q : ℕ} → r ≡ At q → Attributes b x n q
     attributes-at {q} e = record {
       count = attributes-count c;
-      place = λ i. ap (λ (y : ℕ). y + i * 12) (attributes-start b x n (attributes-count c) r sought q e) ∙ attribute-row b x i;
+      place = λ i. attribute-is b x i q (attributes-start b x n (attributes-count c) r sought q e);
     }
 
 -- one of them

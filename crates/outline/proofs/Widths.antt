@@ -10,7 +10,6 @@ use native.Mathlib.Omega.{arith}
 use lib.Dec.{ltb}
 use lib.IntN.{ℤ, pos, negsuc}
 use lib.ListN.{length, length-append, length-replicate}
-use Rattle.le.specs.Le.{u16At, u32At}
 use Rattle.le.specs.declared.Float32.{Float32}
 use Rattle.words.specs.Words.{typeOf, extendedOf}
 use Rattle.region.specs.Region.{Resolves, Laid, placeOf}
@@ -23,7 +22,7 @@ use Rattle.strings.proofs.Accepted.{strings-iff}
 use Rattle.keys.specs.Names.{nameCount, nameText}
 use Rattle.keys.proofs.Only.{position-resolves}
 use Rattle.nodes.specs.Node.{nodeName, Live, attributeCount, nodeAt, attributeAt}
-use Rattle.nodes.specs.Attribute.{attributeName, valueOf, Typed, typeWord, textSegment, textElement}
+use Rattle.nodes.specs.Attribute.{attributeName, valueOf, Typed, typeWord, valueWord, textSegment, textElement}
 use Rattle.strings.specs.Rules.{EntryAddress}
 use Rattle.nodes.specs.Rules.{TextRule, TextRight, AttributeRule, NodeRules}
 use Rattle.nodes.specs.declared.value.Value.the-variants.{Whole, Truth, Float, Text}
@@ -109,16 +108,16 @@ module _ (b : List ℕ) (r : FileRules b) where
   text-value q h = omega (arith, escaped-short (textTo (values b) (textSegment b q) (textElement b q)), value-text-short _ _ (h .entry))
 
   value-short : (q : ℕ) → Typed b q → TextRight b q → length (valueText b (valueOf b q)) ≤ 327677
-  unfolding Typed typeWord textSegment textElement
+  unfolding Typed
   value-short q t x =
-      let w = u16At b (q + 2) in
+      let w = typeWord b q in
       by-cases (ℕ-discrete (typeOf w) 1)
       (λ one. by-cases (ℕ-discrete (extendedOf w) 0)
-      (λ e. rw (sym (value-whole b q w (typeOf w) refl refl one (extendedOf w) refl (u32At b (q + 4)) refl e)) (whole-value _))
-      (λ e. rw (sym (value-truth b q w (typeOf w) refl refl one (extendedOf w) refl (u32At b (q + 4)) refl e)) (truth-short _)))
+      (λ e. rw (sym (value-whole b q w (typeOf w) refl refl one (extendedOf w) refl (valueWord b q) refl e)) (whole-value _))
+      (λ e. rw (sym (value-truth b q w (typeOf w) refl refl one (extendedOf w) refl (valueWord b q) refl e)) (truth-short _)))
       (λ more. by-cases (ℕ-discrete (typeOf w) 2)
-      (λ two. rw (sym (value-float b q w (typeOf w) refl refl more two (u32At b (q + 4)) refl)) (float-value _))
-      (λ three. rw (sym (value-text b q w (typeOf w) refl refl more three (u16At b (q + 4)) (u16At b (q + 6)) refl refl))
+      (λ two. rw (sym (value-float b q w (typeOf w) refl refl more two (valueWord b q) refl)) (float-value _))
+      (λ three. rw (sym (value-text b q w (typeOf w) refl refl more three (textSegment b q) (textElement b q) refl refl))
       (text-value q (x (⊎-elim (λ k. absurd (more (k .0))) (⊎-elim (λ k. absurd (three (k .0))) (λ k. k)) t)))))
 
   attribute-short : (p i : ℕ) → AttributeRule b p i → TextRight b (attributeAt b p i) → length (attributeText b (attributeAt b p i)) ≤ 655354

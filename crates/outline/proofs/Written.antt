@@ -112,22 +112,21 @@ false-is t h = rw h
 
 -- ---- attributes and lines, with the name index as it is read
 
-module _ (b : List ℕ) (q : ℕ) {i : ℕ} (e : i ≡ u16At b q) where
+module _ (b : List ℕ) (q : ℕ) {i : ℕ} (e : i ≡ attributeName b q) where
   pub attribute-is : (0x20 ∷ []) ++ (escaped (nameText b i) ++ ((0x3d ∷ []) ++ valueText b (valueOf b q))) ≡ attributeText b q
-  unfolding attributeText attributeName
+  unfolding attributeText
   attribute-is = rw e
 
   pub attribute-named : AttributeReady b q → (1 ≤ i) × (i ≤ nameCount b)
-  unfolding attributeName
   attribute-named r = (omega (arith, r .low), omega (arith, r .high))
 
+module _ (b : List ℕ) (q : ℕ) {i : ℕ} (e : i ≡ nodeName b q) where
   pub line-is : (level : ℕ)
       → replicate (2 * level) 0x20 ++ (escaped (nameText b i) ++ (ranged (λ k. attributeText b (attributeAt b q k)) 0 (attributeCount b q) ++ (0x0a ∷ []))) ≡ line b level q
-  unfolding line nodeName
+  unfolding line
   line-is level = rw e
 
   pub node-named : NodeReady b q → (1 ≤ i) × (i ≤ nameCount b)
-  unfolding nodeName
   node-named r = (low i (λ z. r .live (sym e ∙ z)), omega (arith, r .name))
     where
       low : (n : ℕ) → (n ≡ 0 → ⊥) → 1 ≤ n

@@ -9,7 +9,9 @@ ghost use Rattle.outline.specs.Outline.{line, shown, block};
 ghost use Rattle.outline.specs.inner.Ready.{NodeReady, LineReady, OutlineReady};
 use crate::texts;
 use crate::values;
+use layout::NODE_SIZE;
 use layout::Places;
+use nodes::fields;
 use tree::ranges;
 
 // The line of the live node at x.
@@ -28,7 +30,7 @@ fn put_node(
     ensures { λ r. ⌜ Put (now (out .entry)) at (line (now (b .entry)) level x) r (now (out .exit)) ⌝ }
 {
     let c = print::put_spaces(out, at, 2 * level);
-    let d = texts::put_name(b, p, name_segments, le::u16_at(b, x), out, c);
+    let d = texts::put_name(b, p, name_segments, fields::node_name(b, x), out, c);
     let e = values::put_attributes(
         b,
         p,
@@ -115,8 +117,8 @@ fn write_range(
     let mut e = at;
     let mut j = 0;
     while j < k.count {
-        let c = k.place + j * 24;
-        if le::u16_at(b, c) != 0 {
+        let c = k.place + j * NODE_SIZE;
+        if fields::node_name(b, c) != 0 {
             e = write_node(
                 b,
                 p,

@@ -10,6 +10,8 @@ mod texts;
 mod values;
 
 use layout::Places;
+use tree::DEEPEST_LEVEL;
+use tree::ranges;
 use verdict::Verdict;
 
 // Refusal 26, or the outline's length in bytes.
@@ -32,8 +34,7 @@ pub fn write_outline(
     ensures answer { λ r. ⌜ OutlineWritten (now (b .entry)) (length (now (out .entry))) r ⌝ }
     ensures buffer { λ r. ⌜ now (out .exit) ≡ outlineAfter (now (b .entry)) (now (out .entry)) (r .answer) ⌝ }
 {
-    let nodes = p.nodes;
-    let root = nodes.at + 12;
+    let root = ranges::root_at(p.nodes);
     let mut none = [0u8; 0];
     let n = blocks::write_node(
         b,
@@ -45,7 +46,7 @@ pub fn write_outline(
         0,
         root,
         0,
-        63,
+        DEEPEST_LEVEL,
         &mut none,
         0,
     );
@@ -65,7 +66,7 @@ pub fn write_outline(
         0,
         root,
         0,
-        63,
+        DEEPEST_LEVEL,
         out,
         0,
     );

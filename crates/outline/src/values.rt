@@ -8,7 +8,9 @@ ghost use Rattle.print.specs.inner.Put.{Put};
 ghost use Rattle.outline.specs.Outline.{truthText, valueText, attributeText};
 ghost use Rattle.outline.specs.inner.Ready.{ValueStarts, NameStarts, AttributeReady, NodeReady, LineReady};
 use crate::texts;
+use layout::ATTRIBUTE_SIZE;
 use layout::Places;
+use nodes::fields;
 use nodes::value;
 use nodes::value::Value;
 use region::Place;
@@ -68,7 +70,7 @@ fn put_attribute(
     ensures { λ r. ⌜ Put (now (out .entry)) at (attributeText (now (b .entry)) q) r (now (out .exit)) ⌝ }
 {
     let c = print::put(out, at, b' ');
-    let d = texts::put_name(b, p, name_segments, le::u16_at(b, q), out, c);
+    let d = texts::put_name(b, p, name_segments, fields::attribute_name(b, q), out, c);
     let e = print::put(out, d, b'=');
     put_value(b, p, value_segments, q, out, e)
 }
@@ -87,19 +89,35 @@ pub fn put_attributes(
     requires { ⌜ LineReady (now b) p (now «attribute_segments») (now «value_segments») (now «name_segments») × NodeReady (now b) x ⌝ }
     ensures { λ r. ⌜ Put (now (out .entry)) at (ranged (λ i. attributeText (now (b .entry)) (attributeAt (now (b .entry)) x i)) 0 (attributeCount (now (b .entry)) x)) r (now (out .exit)) ⌝ }
 {
-    let n = le::u16_at(b, x + 4);
+    let n = fields::attribute_field(b, x);
     if n == 0 {
         return at;
     }
-    let seg = le::u16_at(b, x + 8);
-    let el = le::u16_at(b, x + 10);
-    let Place::At(q) = region::range_at(b, p.attributes, 12, attribute_segments, seg, el, n) else {
+    let seg = fields::attribute_segment(b, x);
+    let el = fields::attribute_element(b, x);
+    let Place::At(q) = region::range_at(
+        b,
+        p.attributes,
+        ATTRIBUTE_SIZE,
+        attribute_segments,
+        seg,
+        el,
+        n,
+    ) else {
         return at;
     };
     let mut e = at;
     let mut i = 0;
     while i < n {
-        e = put_attribute(b, p, value_segments, name_segments, q + i * 12, out, e);
+        e = put_attribute(
+            b,
+            p,
+            value_segments,
+            name_segments,
+            q + i * ATTRIBUTE_SIZE,
+            out,
+            e,
+        );
         i += 1;
     }
     e

@@ -12,13 +12,9 @@ use Rattle.laws.specs.inner.Lists.{splice}
 use Rattle.verdict.specs.Checks.{firstFault}
 use Rattle.verdict.specs.declared.Verdict.the-variants.{Accepted, Refused}
 use Rattle.verdict.proofs.Laws.{Clean, never, fault-keep}
-use Rattle.region.specs.Region.{startOf, placeOf}
-use Rattle.region.specs.declared.Region.{Region}
 use Rattle.layout.specs.Layout.{names}
 use Rattle.strings.proofs.Accepted.{strings-iff}
-use Rattle.nodes.specs.Node.{nodeAt}
-use Rattle.tree.specs.File.{nodeOf, treeOf}
-use Rattle.tree.specs.inner.Marking.{TreeReady}
+use Rattle.tree.specs.File.{treeOf}
 use Rattle.accept.specs.Rules.{FileRules}
 use Rattle.path.specs.Names.{namesOf, pathChecks}
 use Rattle.path.specs.Listing.{pathMatches, encode, listingAfter}
@@ -78,8 +74,3 @@ module _ (b path : List ℕ) (r : FileRules b) (w : Wanted) (h : WantedIs b path
       (matches-by-index b r (λ i k x. one-name b x (strings-iff (names b) .1 (r .name-table)) i k) (namesOf path) _
       (record { many = l ∙ h .many e; each = λ i m. rw (getD-take (w .count) (w .indices) i 0 (omega (arith, h .many e))) (h .index i (omega (arith, h .many e))) })
       0 (r .nodes .root))
-
--- where the root stands
-pub root-place : {b : List ℕ} {nodes : Region} {segments : List ℕ} → TreeReady b nodes segments → nodes .at + 12 ≡ nodeOf b 0
-unfolding nodeOf nodeAt placeOf startOf
-root-place g = omega (arith, g .nodes .at-is)

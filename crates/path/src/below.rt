@@ -6,7 +6,10 @@ ghost use Rattle.tree.specs.File.{Used, nodeOf, treeOf};
 ghost use Rattle.tree.specs.inner.Marking.{TreeReady};
 ghost use Rattle.path.specs.inner.Indices.{matchesAt, indicesFrom};
 ghost use Rattle.path.specs.inner.Written.{Wrote};
+use layout::NODE_SIZE;
+use nodes::fields;
 use region::Region;
+use tree::MOST_LEVELS;
 use tree::ranges;
 
 // Lists the nodes below node a, which stands at p, that the name indices from place `at` on lead to: from place k of the listing on,
@@ -15,7 +18,7 @@ pub fn list_below(
     b: &[u8],
     nodes: Region,
     segments: &[u32; 1024],
-    wanted: &[u32; 64],
+    wanted: &[u32; MOST_LEVELS],
     n: usize,
     at: usize,
     a: usize,
@@ -40,8 +43,8 @@ pub fn list_below(
     let mut m = k;
     let mut j = 0;
     while j < c.count {
-        let x = c.place + j * 24;
-        if le::u16_at(b, x) == name {
+        let x = c.place + j * NODE_SIZE;
+        if fields::node_name(b, x) == name {
             m = list_below(
                 b,
                 nodes,

@@ -12,6 +12,7 @@ use crate::below;
 use crate::names;
 use region::Region;
 use strings::Strings;
+use tree::ranges;
 use verdict::Verdict;
 
 // Refusal 24 or 25, or the number of matches.
@@ -54,7 +55,7 @@ pub fn list_path(
     }
     let n = w.count;
     let indices = w.indices;
-    let root = nodes.at + 12;
+    let root = ranges::root_at(nodes);
     let mut none = [0u8; 0];
     let k = below::list_below(
         b,

@@ -13,13 +13,15 @@ ghost use Rattle.path.specs.inner.Indices.{NameEnd, WantedIs};
 use lookup::Kind;
 use lookup::Lookup;
 use strings::Strings;
+use tree::DEEPEST_LEVEL;
+use tree::MOST_LEVELS;
 use verdict::Verdict;
 
 // The indices of the first `count` names; known is false where no node can bear the names.
 pub struct Wanted {
     pub known: bool,
     pub count: usize,
-    pub indices: [u32; 64],
+    pub indices: [u32; MOST_LEVELS],
 }
 
 // Refusal 24 of a path.
@@ -63,12 +65,12 @@ pub(crate) fn find_names(
         × (firstFault (stringChecks (names (now b))) ≡ Accepted) × (firstFault (pathChecks (now path)) ≡ Accepted) ⌝ }
     ensures { λ r. ⌜ WantedIs (now (b .entry)) (now (path .entry)) r ⌝ }
 {
-    let mut indices = [0u32; 64];
+    let mut indices = [0u32; MOST_LEVELS];
     let mut known = true;
     let mut n = 0usize;
     let mut at = 0;
     while at < path.len() {
-        if n == 63 {
+        if n == DEEPEST_LEVEL {
             known = false;
             break;
         }

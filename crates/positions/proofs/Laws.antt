@@ -3,6 +3,7 @@ use Prim.Native.Nat.{ℕ, _+_, _-_, _≤_, _<_}
 use native.Mathlib.Omega.{arith}
 use mathlib.Core.Path.{_≡_, refl, ap, sym, subst, _∙_}
 use mathlib.Core.Bool.{Bool, false}
+use mathlib.Core.List.{List}
 use Rattle.verdict.specs.Checks.{firstFault, each}
 use Rattle.verdict.specs.inner.Tells.{Tells}
 use Rattle.verdict.specs.declared.Verdict.{Verdict}
@@ -10,15 +11,25 @@ use Rattle.verdict.specs.declared.Verdict.the-variants.{Accepted, Refused}
 use Rattle.verdict.proofs.Laws.{Clean, pass, stop, fault-none, fault-append, fault-keep}
 use Rattle.verdict.proofs.Scans.{each-more, each-stop, each-end}
 use Rattle.hash.specs.Hash.{hashText, bucketOf}
-use Rattle.layout.specs.Table.{Table, entries, hashOf, indexOf, segmentOf, elementOf, count, positionAt, listedSegment, listedElement}
+use Rattle.layout.specs.Table.{Table, entries, entryIndex, hashOf, indexOf, segmentOf, elementOf, count, positionAt, listedSegment, listedElement}
 use Rattle.region.specs.Region.{Resolves}
-use Rattle.strings.specs.Texts.{listedText}
+use Rattle.strings.specs.Texts.{listedText, spotAt}
 use Rattle.strings.specs.Rules.{Carried}
 use Rattle.strings.specs.Order.{allEntryChecks, positionChecks, allPositionChecks, stringChecks}
+use Rattle.strings.specs.inner.Held.{Held, heldTable}
+use Rattle.strings.specs.declared.Strings.{Strings}
+use Rattle.strings.specs.declared.spot.Spot.{Spot}
+use Rattle.strings.specs.declared.spot.Spot.the-variants.{At}
 use Rattle.strings.proofs.Accepted.{all-good}
 use Rattle.strings.proofs.Only.{bucket-of, hash-of, text-of-index}
+use Rattle.strings.proofs.Spots.{Spotted, spot-text}
 use Rattle.search.specs.inner.Run.{Meets}
-use Rattle.positions.proofs.Listed.{ListedIn}
+
+-- the spot of the address at list position i, as it is found
+pub spotted : {b : List ℕ} {s : Strings} {segments buckets : List ℕ} → Held b s segments buckets → (i : ℕ) {r : Spot}
+    → r ≡ spotAt b (s .chars .at) (listedSegment (heldTable b s buckets) i) (listedElement (heldTable b s buckets) i) → {p n : ℕ} → r ≡ At p n
+    → Spotted (heldTable b s buckets) (listedSegment (heldTable b s buckets) i) (listedElement (heldTable b s buckets) i) p n
+spotted {b} {s} {segments} {buckets} h i f g = spot-text (heldTable b s buckets) _ _ (h .laid .characters) (sym f ∙ g)
 
 -- ---- an index stands in no bucket but that of its text
 
@@ -32,12 +43,12 @@ module _ (t : Table) (i : ℕ) (ok : Clean (allEntryChecks t)) where
       let y : elementOf t (c .0) (c .2 .0) ≡ listedElement t i = sym (g .element) ∙ ap (listedElement t) (c .2 .2) in
       subst (λ (a : ℕ). P a (listedElement t i)) x (subst (P (segmentOf t (c .0) (c .2 .0))) y (f (c .0) (c .2 .0) (c .1) (c .2 .1)))
 
-  pub carried-in : Carried t i → ListedIn t i
+  pub carried-in : Carried t i → Resolves 2 (t .bytes) (t .at) (listedSegment t i) (listedElement t i)
   carried-in = carried-at (Resolves 2 (t .bytes) (t .at)) (λ k j h l. all-good t ok k j h l .resolved)
 
   pub only-there : (k h : ℕ) (r : Bool) → h ≡ hashText (listedText t i) → k ≡ bucketOf (t .buckets) h → k < t .buckets → Meets t k h 8 i r
       → Tells (Carried t i) r
-  unfolding indexOf
+  unfolding indexOf entryIndex
   only-there k h r e b l f = record { so = λ w. (k, l, f .so w); not = λ w c. move w c }
     where
       move : r ≡ false → Carried t i → ⊥

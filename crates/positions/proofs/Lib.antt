@@ -1,4 +1,3 @@
-pub mod Listed
 pub mod Laws
 pub mod Numbered
 pub mod Enough

@@ -14,9 +14,12 @@ ghost use Rattle.positions.specs.inner.Packed.{Packed};
 
 mod packing;
 
+use layout::BUCKET_COUNT_SIZE;
+use layout::ENTRY_SIZE;
 use search::run;
 use strings::Strings;
-use strings::spot;
+use strings::entry;
+use strings::fields;
 use strings::spot::Spot;
 use strings::table;
 use verdict::Verdict;
@@ -35,24 +38,24 @@ fn carried(
         × (1 ≤ i) × (i < count (heldTable (now b) s (now buckets))) ⌝ }
     ensures { λ r. ⌜ Tells (Carried (heldTable (now (b .entry)) s (now (buckets .entry))) i) r ⌝ }
 {
-    let a = spot::spot_to(b, s.chars, segments, s.list + 4 * i);
+    let a = entry::listed_spot(b, s, segments, buckets, i);
     let Spot::At(q, n) = a else {
         return false;
     };
     let m = text::measure(b, t, q, n);
     let h = m.hash;
     let k = hash::bucket(h, buckets.len());
-    let low = search::lower(b, s, segments, buckets, k, h);
-    run::run_has(b, s, segments, buckets, k, h, low, 8, i)
+    let low = search::lower_bound(b, s, segments, buckets, k, h);
+    run::run_has(b, s, segments, buckets, k, h, low, fields::INDEX_AT, i)
 }
 
 // The number of entries of all buckets, by the bytes that they take: from the first bucket's start up to the address
-// count there are 4 a bucket and 16 an entry.
+// count there are only the buckets' counts and their entries.
 fn entry_total(b: &[u8], s: Strings, segments: &[u32; 1024], buckets: &[u32]) -> usize
     requires { ⌜ Held (now b) s (now segments) (now buckets) ⌝ }
     ensures { λ r. ⌜ (r ≡ allEntries (heldTable (now (b .entry)) s (now (buckets .entry)))) × (r < 2 ^ 32) ⌝ }
 {
-    (s.list - le::wide(buckets[0]) - 4 * buckets.len()) / 16
+    (s.list - le::wide(buckets[0]) - BUCKET_COUNT_SIZE * buckets.len()) / ENTRY_SIZE
 }
 
 // Refusal 13 of every list position, where the entries passed 7 to 12.
@@ -76,7 +79,7 @@ fn check_positions(
     let mut i = 1;
     while i < n {
         if !carried(b, t, s, segments, buckets, i) {
-            return Verdict::Refused(13, s.list + 4 * i);
+            return Verdict::Refused(13, entry::position_at(b, s, segments, buckets, i));
         }
         i += 1;
     }

@@ -11,6 +11,7 @@ ghost use Rattle.strings.specs.inner.Begins.{AllBegun};
 ghost use Rattle.strings.specs.Order.{allEntryChecks};
 ghost use Rattle.strings.specs.inner.Held.{Held, heldTable};
 ghost use Rattle.positions.specs.inner.Packed.{Packed, begunIn, allBegun};
+use layout::CHARACTER_SIZE;
 use region::Region;
 use strings::Strings;
 
@@ -35,7 +36,7 @@ fn count_begun(b: &[u8], chars: Region) -> usize
     let mut seg = 0;
     while seg < chars.count {
         n += begun_in(b, p + 8, le::u32_at(b, p + 4));
-        p = region::next_start(b, p, 2);
+        p = region::next_start(b, p, CHARACTER_SIZE);
         seg += 1;
     }
     n

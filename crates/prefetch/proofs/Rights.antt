@@ -1,7 +1,7 @@
 -- What the steps of a batch find out, and 19 of its attributes from that. Assumes nothing.
 use Prim.Native.Nat.{ℕ, _+_, _-_, _*_, _%_, _≤_, _<_}
 use native.Mathlib.Omega.{arith}
-use mathlib.Core.Path.{_≡_, refl, ap, sym, subst, _∙_}
+use mathlib.Core.Path.{_≡_, ap, sym, subst, _∙_}
 use mathlib.Core.Logic.{inl, inr, ⊎-elim}
 use mathlib.Core.Bool.{Bool}
 use mathlib.Core.List.{List}
@@ -13,7 +13,7 @@ use Rattle.hash.specs.Fold.{valueHash}
 use Rattle.region.specs.Region.{Laid, countOf, startOf, usedOf, placeOf}
 use Rattle.region.specs.inner.Samples.{Mapped}
 use Rattle.region.specs.declared.Region.{Region}
-use Rattle.region.proofs.Samples.{segment-fits, start-more, used-at}
+use Rattle.region.proofs.Samples.{segment-fits, used-at}
 use Rattle.text.specs.Text.{textIn}
 use Rattle.text.proofs.Laws.{room-some}
 use Rattle.layout.specs.Table.{Table, entries}
@@ -24,57 +24,49 @@ use Rattle.strings.specs.declared.spot.Spot.the-variants.{At}
 use Rattle.strings.proofs.Spots.{spot-in, spot-text}
 use Rattle.strings.proofs.Begun.{begins-first, begins-behind}
 use Rattle.positions.specs.inner.Packed.{Packed}
-use Rattle.nodes.specs.Attribute.{typeWord, textSegment, textElement}
+use Rattle.nodes.specs.Attribute.{typeWord, valueWord, textSegment, textElement}
 use Rattle.strings.specs.Rules.{EntryAddress}
 use Rattle.nodes.specs.inner.Doubts.{Trusted, AllTrusted}
 use Rattle.prefetch.specs.inner.Examined.{Kept}
 use Rattle.prefetch.proofs.Doubting.{still}
 use Rattle.verdict.specs.Checks.{SomeBelow}
 use Rattle.verdict.specs.inner.Tells.{Sure}
-use Rattle.nodes.proofs.Addresses.{spot-fits, address-of}
+use Rattle.nodes.proofs.Addresses.{text-sought, spot-fits, address-of}
 use Rattle.le.proofs.Numbers.{Bytes}
 use Rattle.search.specs.inner.Run.{wordOf}
-use Rattle.nodes.proofs.Fields.{extended-is}
+use Rattle.nodes.proofs.Types.{extended-is}
 use Rattle.prefetch.specs.inner.Batch.{TextSpot, SpotFits, Behind, AllSpots, AllBehind, AllHashed, AllFound, AllRight}
 
 -- an entry in one bucket has the address of the attribute's text
-pub entry-in : (b : List ℕ) → Bytes b → (q : ℕ) (t : Table) → t .bytes ≡ b → (k w : ℕ) → k < t .buckets → w ≡ u32At b (q + 4)
+pub entry-in : (b : List ℕ) → Bytes b → (q : ℕ) (t : Table) → t .bytes ≡ b → (k w : ℕ) → k < t .buckets → w ≡ valueWord b q
     → SomeBelow (entries t k) (λ j. wordOf t k j 12 ≡ w) → EntryAddress t (textSegment b q) (textElement b q)
-unfolding textSegment textElement
-entry-in b f q t same k w l e s =
-    let z : q + 4 + 2 ≡ q + 6 = omega arith in
-    let a = address-of b f (q + 4) t same k (s .0) (s .2 ∙ e) in
-    (k, l, (s .0, s .1, (a .0, a .1 ∙ ap (u16At b) z)))
+entry-in b f q t same k w l e s = (k, l, (s .0, s .1, address-of b f q t same k (s .0) (s .2 ∙ e)))
 
 pub found-at : (b : List ℕ) (t : Table) {q p : ℕ} → q ≡ p → EntryAddress t (textSegment b q) (textElement b q) → EntryAddress t (textSegment b p) (textElement b p)
 found-at b t e w = subst (λ (i : ℕ). EntryAddress t (textSegment b i) (textElement b i)) e w
 
--- a spot found for the address that stands 4 bytes behind an attribute's place
-pub spot-of : {b : List ℕ} {r q x n : ℕ} {a : Spot} → a ≡ spotAt b r (u16At b (q + 4)) (u16At b (q + 4 + 2)) → a ≡ At x n → TextSpot b r q x n
-unfolding textSegment textElement
-spot-of {b} {r} {q} e f =
-    let z : q + 4 + 2 ≡ q + 6 = omega arith in
-    record { spot = ap (λ (i : ℕ). spotAt b r (u16At b (q + 4)) (u16At b i)) (sym z) ∙ sym e ∙ f }
+-- a spot found for an attribute's text
+pub spot-of : {b : List ℕ} {r q seg el x n : ℕ} {a : Spot} → seg ≡ textSegment b q → el ≡ textElement b q → a ≡ spotAt b r seg el → a ≡ At x n → TextSpot b r q x n
+spot-of {b} {r} {q} s t e f = record { spot = sym (text-sought b r q s t e) ∙ f }
 
 -- and what is left there lies in the file
-pub fits-of : {b : List ℕ} {r x n : ℕ} {a : Spot} (q : ℕ) → Laid 2 b r → a ≡ spotAt b r (u16At b (q + 4)) (u16At b (q + 4 + 2)) → a ≡ At x n → SpotFits b x n
+pub fits-of : {b : List ℕ} {r x n : ℕ} {a : Spot} (seg el : ℕ) → Laid 2 b r → a ≡ spotAt b r seg el → a ≡ At x n → SpotFits b x n
 unfolding placeOf
-fits-of {b} {r} q laid e f =
+fits-of {b} {r} seg el laid e f =
     let w = spot-in _ _ _ _ (sym e ∙ f) in
     record {
-      some = omega (arith, w .2, room-some b r (u16At b (q + 4)) (u16At b (q + 4 + 2)) (w .0));
+      some = omega (arith, w .2, room-some b r seg el (w .0));
       past = omega (arith, w .1);
-      inside = spot-fits b r (u16At b (q + 4)) (u16At b (q + 4 + 2)) laid e f;
+      inside = spot-fits b r seg el laid e f;
     }
 
 -- the extended code of one attribute is the value hash of its text, as they are read
-pub hashed-here : (b : List ℕ) (q x n w v h : ℕ) → w ≡ u16At b (q + 2) → v ≡ extendedOf w → h ≡ valueHash (textIn b x n) → v ≡ h
+pub hashed-here : (b : List ℕ) (q x n w v h : ℕ) → w ≡ typeWord b q → v ≡ extendedOf w → h ≡ valueHash (textIn b x n) → v ≡ h
     → extendedOf (typeWord b q) ≡ valueHash (textIn b x n)
 hashed-here b q x n w v h e f s z = extended-is b q w e v f ∙ z ∙ s
 
 -- a text can begin where it does, as that is read
-pub behind-first : (b : List ℕ) (q x w : ℕ) → w ≡ u16At b (q + 6) → w ≡ 0 → Behind b x (textElement b q)
-unfolding textElement
+pub behind-first : (b : List ℕ) (q x w : ℕ) → w ≡ textElement b q → w ≡ 0 → Behind b x (textElement b q)
 behind-first b q x w e z = inl (sym e ∙ z)
 
 pub behind-zero : (b : List ℕ) (q x c : ℕ) → c % 65536 ≡ u16At b (x - 2) → c % 65536 ≡ 0 → Behind b x (textElement b q)
@@ -120,18 +112,14 @@ abbrev pub RowsTrusted : List ℕ → List ℕ → ℕ → Type 0
 RowsTrusted b d seg = (s : ℕ) → s < seg → (e : ℕ) → e < usedOf attributeSize b (attributesAt b) s → Trusted b d (placeOf attributeSize b (attributesAt b) s e)
 
 module _ (b : List ℕ) {g : Region} (w : Mapped attributeSize b (attributesAt b) g) where
-  pub rows-start : g .at + 4 ≡ startOf attributeSize b (attributesAt b) 0
+  pub rows-start : (at : ℕ) → at ≡ g .at + 4 → at ≡ startOf attributeSize b (attributesAt b) 0
   unfolding startOf
-  rows-start = omega (arith, w .at-is)
+  rows-start at e = omega (arith, w .at-is)
 
   module _ (seg at : ℕ) (h : seg < g .count) (q : at ≡ startOf attributeSize b (attributesAt b) seg) where
     pub segment-in : at + 8 + u32At b at * 12 ≤ length b
     unfolding attributeSize
     segment-in = segment-fits attributeSize _ _ w seg at h q
-
-    pub rows-next : (n : ℕ) → n ≡ u32At b at → at + 8 + n * 12 ≡ startOf attributeSize b (attributesAt b) (seg + 1)
-    unfolding attributeSize
-    rows-next n e = start-more attributeSize b (attributesAt b) seg (seg + 1) at (at + 8 + n * 12) refl q (omega (arith, e))
 
     pub row-in : (used : ℕ) → used ≡ u32At b (at + 4) → at + 8 + used * 12 ≤ length b
     unfolding attributeSize

@@ -21,9 +21,11 @@ ghost use Rattle.prefetch.specs.inner.Examined.{Kept, Examined};
 use crate::slots;
 use crate::steps;
 use keys::Names;
+use layout::ATTRIBUTE_SIZE;
 use layout::Places;
 use nodes::attribute;
 use region::Region;
+use region::SEGMENT_HEADER;
 use strings::Strings;
 use verdict::Verdict;
 
@@ -128,13 +130,13 @@ fn find_doubts(
 {
     let mut slots = [0u32; 64];
     let mut known = true;
-    let mut at = attributes.at + 4;
+    let mut at = region::first_start(attributes);
     let mut seg = 0;
     while seg < attributes.count {
-        let used = le::u32_at(b, at + 4);
+        let used = region::used_count(b, at);
         let mut el = 0;
         while el < used {
-            let taken = slots::take_texts(b, at + 8, el, used, &mut slots);
+            let taken = slots::take_texts(b, at + SEGMENT_HEADER, el, used, &mut slots);
             known = examine_batch(
                 b,
                 t,
@@ -150,14 +152,14 @@ fn find_doubts(
             );
             el = taken.next;
         }
-        at = at + 8 + le::u32_at(b, at) * 12;
+        at = region::next_start(b, at, ATTRIBUTE_SIZE);
         seg += 1;
     }
     known
 }
 
-// Refusals 16 to 19 and 23 of every used node, up to the first fault.
-pub fn check_nodes(
+// Refusals 16 to 19 and 23 of every used node, up to the first fault: 19 in batches, and where that leaves doubts, node by node.
+pub fn check_nodes_in_batches(
     b: &[u8],
     t: &[u32; 2048],
     p: Places,

@@ -3,6 +3,8 @@ ghost use mathlib.Core.Path.{_≡_};
 ghost use Prim.Native.Nat.{_+_, _*_, _≤_, _<_, _^_};
 ghost use lib.ListN.{length};
 ghost use Rattle.prefetch.specs.inner.Slots.{TakenFrom};
+use layout::ATTRIBUTE_SIZE;
+use nodes::fields;
 
 // How many slots are taken, and the element to go on with.
 pub struct Taken {
@@ -22,9 +24,9 @@ pub fn take_texts(b: &[u8], first: usize, el: usize, used: usize, slots: &mut [u
         if n == 64 {
             return Taken { count: n, next: e };
         }
-        let q = first + e * 12;
+        let q = first + e * ATTRIBUTE_SIZE;
         slots[n] = q as u32;
-        n += words::kind(le::u16_at(b, q + 2)) / 3;
+        n += words::kind(fields::type_word(b, q)) / 3;
         e += 1;
     }
     Taken { count: n, next: e }

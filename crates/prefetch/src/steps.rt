@@ -18,13 +18,14 @@ ghost use Rattle.layout.specs.Layout.{values};
 ghost use Rattle.strings.specs.Rules.{EntryAddress};
 ghost use Rattle.strings.specs.Order.{allEntryChecks, stringChecks};
 ghost use Rattle.strings.specs.inner.Held.{Held, heldTable};
-ghost use Rattle.search.specs.inner.Lower.{Lower};
-ghost use Rattle.search.specs.inner.Group.{AllLow, Lengths};
+ghost use Rattle.search.specs.inner.LowerBound.{LowerBound};
+ghost use Rattle.search.specs.inner.Group.{LowerBounds, Lengths};
 ghost use Rattle.positions.specs.inner.Packed.{Packed};
 ghost use Rattle.nodes.specs.Attribute.{typeWord, textSegment, textElement};
 ghost use Rattle.nodes.specs.inner.Noted.{noted};
 ghost use Rattle.prefetch.specs.inner.Slots.{SlotsIn};
 ghost use Rattle.prefetch.specs.inner.Batch.{SpotFits, Behind, AllSpots, AllFit, AllSeen, AllBehind, AllHashed, AllFound, AllRight};
+use nodes::fields;
 use nodes::long;
 use region::Region;
 use search::group;
@@ -52,7 +53,14 @@ fn find_spots(
 {
     let mut j = 0;
     while j < n {
-        let a = spot::spot_to(b, chars, segments, le::wide(slots[j]) + 4);
+        let q = le::wide(slots[j]);
+        let a = spot::spot_at(
+            b,
+            chars,
+            segments,
+            fields::text_segment(b, q),
+            fields::text_element(b, q),
+        );
         let Spot::At(x, m) = a else {
             return false;
         };
@@ -108,10 +116,10 @@ fn passes(
         × Sure (Behind (now (b .entry)) x (textElement (now (b .entry)) q)) packed) r ⌝ }
     ensures memo { λ _. ⌜ Remembers (noted (now (b .entry))) (now (memo .exit)) ⌝ }
 {
-    if !can_begin(le::u16_at(b, q + 6), seen, packed) {
+    if !can_begin(fields::text_element(b, q), seen, packed) {
         return false;
     }
-    words::extended(le::u16_at(b, q + 2)) == long::remembered_hash(b, t, x, n, memo)
+    words::extended(fields::type_word(b, q)) == long::remembered_hash(b, t, x, n, memo)
 }
 
 // Whether each does.
@@ -185,11 +193,21 @@ fn found(
     low: usize,
 ) -> bool
     requires { ⌜ Held (now b) s (now segments) (now buckets) × (firstFault (allEntryChecks (heldTable (now b) s (now buckets))) ≡ Accepted)
-        × Lower (heldTable (now b) s (now buckets)) (bucketOf (length (now buckets)) h) h low × (q + 12 ≤ length (now b)) ⌝ }
+        × LowerBound (heldTable (now b) s (now buckets)) (bucketOf (length (now buckets)) h) h low × (q + 12 ≤ length (now b)) ⌝ }
     ensures { λ r. ⌜ Sure (EntryAddress (heldTable (now (b .entry)) s (now (buckets .entry))) (textSegment (now (b .entry)) q) (textElement (now (b .entry)) q)) r ⌝ }
 {
     let k = hash::bucket(h, buckets.len());
-    run::run_has(b, s, segments, buckets, k, h, low, 12, le::u32_at(b, q + 4))
+    run::run_has(
+        b,
+        s,
+        segments,
+        buckets,
+        k,
+        h,
+        low,
+        12,
+        fields::value_word(b, q),
+    )
 }
 
 // Whether each is.
@@ -205,7 +223,7 @@ fn find_entries(
 ) -> bool
     requires { ⌜ Held (now b) s (now segments) (now buckets) × (firstFault (allEntryChecks (heldTable (now b) s (now buckets))) ≡ Accepted)
         × SlotsIn (now b) (now slots) n × (n ≤ 64) × (length (now slots) ≡ 64) × (length (now hashes) ≡ 64)
-        × AllLow (heldTable (now b) s (now buckets)) (now hashes) n (now low) ⌝ }
+        × LowerBounds (heldTable (now b) s (now buckets)) (now hashes) n (now low) ⌝ }
     ensures { λ r. ⌜ Sure (AllFound (now (b .entry)) (heldTable (now (b .entry)) s (now (buckets .entry))) (now (slots .entry)) n) r ⌝ }
 {
     let mut j = 0;
@@ -261,6 +279,6 @@ pub fn batch_right(
     let mut hashes = [0u32; 64];
     hash_texts(b, t, n, &at, &left, &mut hashes, memo);
     let mut low = [0usize; 64];
-    group::settle(b, s, segments, buckets, &hashes, n, &mut low);
+    group::lower_bounds(b, s, segments, buckets, &hashes, n, &mut low);
     find_entries(b, s, segments, buckets, slots, n, &hashes, &low)
 }

@@ -10,6 +10,12 @@ ghost use Rattle.region.specs.Checks.{segmentChecks, regionChecks};
 ghost use Rattle.region.specs.inner.Samples.{Mapped, Starts, Counts};
 use verdict::Scan;
 
+// The bytes of a count. A region starts with its segment count, a segment with its full count and its used count.
+pub const COUNT_SIZE: usize = 4;
+
+// The bytes before a segment's elements.
+pub const SEGMENT_HEADER: usize = 8;
+
 // A region of the file: its offset, its segment count, and how its samples are spaced.
 pub struct Region {
     pub at: usize,
@@ -24,12 +30,28 @@ pub enum Place {
     Nowhere,
 }
 
+// Where the first segment starts.
+pub fn first_start(r: Region) -> usize
+    requires { ⌜ r .at < 2 ^ 32 ⌝ }
+    ensures { λ p. ⌜ p ≡ r .at + 4 ⌝ }
+{
+    r.at + COUNT_SIZE
+}
+
+// The used count of the segment at p.
+pub fn used_count(b: &[u8], p: usize) -> usize
+    requires { ⌜ p + 8 ≤ length (now b) ⌝ }
+    ensures { λ n. ⌜ (n ≡ u32At (now (b .entry)) (p + 4)) × (n < 2 ^ 32) ⌝ }
+{
+    le::u32_at(b, p + COUNT_SIZE)
+}
+
 // Where the segment behind the one at p starts.
 pub fn next_start(b: &[u8], p: usize, size: usize) -> usize
     requires { ⌜ p + 8 + u32At (now b) p * size ≤ length (now b) ⌝ }
     ensures { λ q. ⌜ q ≡ p + 8 + u32At (now (b .entry)) p * size ⌝ }
 {
-    p + 8 + le::u32_at(b, p) * size
+    p + SEGMENT_HEADER + le::u32_at(b, p) * size
 }
 
 // Refusals 2 and 5 of segment s, which starts at p.
@@ -37,22 +59,22 @@ fn segment(b: &[u8], at: usize, size: usize, s: usize, p: usize) -> Scan
     requires { ⌜ (size ≤ 24) × (p ≡ startOf size (now b) at s) × (p ≤ length (now b)) ⌝ }
     ensures { λ r. ⌜ r ≡ scanned (firstFault (segmentChecks size (now (b .entry)) at s)) (startOf size (now (b .entry)) at (s + 1)) ⌝ }
 {
-    if b.len() - p < 4 {
+    if b.len() - p < COUNT_SIZE {
         return Scan::Fault(2, p);
     }
     let full = le::u32_at(b, p);
     if full > 65535 {
         return Scan::Fault(5, p);
     }
-    let u = p + 4;
-    if b.len() - u < 4 {
+    let u = p + COUNT_SIZE;
+    if b.len() - u < COUNT_SIZE {
         return Scan::Fault(2, u);
     }
     let used = le::u32_at(b, u);
     if used > full {
         return Scan::Fault(5, u);
     }
-    let e = p + 8;
+    let e = p + SEGMENT_HEADER;
     let bytes = full * size;
     if b.len() - e < bytes {
         return Scan::Fault(2, e);
@@ -65,14 +87,14 @@ pub fn lay(b: &[u8], at: usize, size: usize) -> Scan
     requires { ⌜ (at ≤ length (now b)) × (size ≤ 24) ⌝ }
     ensures { λ r. ⌜ r ≡ scanned (firstFault (regionChecks size (now (b .entry)) at)) (endOf size (now (b .entry)) at) ⌝ }
 {
-    if b.len() - at < 4 {
+    if b.len() - at < COUNT_SIZE {
         return Scan::Fault(2, at);
     }
     let n = le::u32_at(b, at);
     if n > 65535 {
         return Scan::Fault(5, at);
     }
-    let mut p = at + 4;
+    let mut p = at + COUNT_SIZE;
     let mut s = 0;
     while s < n {
         match segment(b, at, size, s, p) {
@@ -114,7 +136,7 @@ pub fn sample_starts(b: &[u8], r: Region, size: usize, segments: &mut [u32; 1024
     ensures { λ _. ⌜ Starts size (now (b .entry)) (r .at) (r .shift) (now (segments .exit)) ⌝ }
 {
     let mask = r.mask;
-    let mut p = r.at + 4;
+    let mut p = first_start(r);
     let mut s = 0;
     while s < r.count {
         if s & mask == 0 {
@@ -131,14 +153,14 @@ pub fn sample_counts(b: &[u8], r: Region, size: usize, counts: &mut [u32; 1024])
     ensures { λ n. ⌜ (n ≡ totalOf size (now (b .entry)) (r .at)) × Counts size (now (b .entry)) (r .at) (r .shift) (now (counts .exit)) ⌝ }
 {
     let mask = r.mask;
-    let mut p = r.at + 4;
+    let mut p = first_start(r);
     let mut n = 0;
     let mut s = 0;
     while s < r.count {
         if s & mask == 0 {
             counts[s >> r.shift] = n as u32;
         }
-        n += le::u32_at(b, p + 4);
+        n += used_count(b, p);
         p = next_start(b, p, size);
         s += 1;
     }
@@ -177,10 +199,10 @@ pub fn range_at(
         return Place::Nowhere;
     }
     let p = locate(b, r, size, segments, seg);
-    if el + n > le::u32_at(b, p + 4) {
+    if el + n > used_count(b, p) {
         return Place::Nowhere;
     }
-    Place::At(p + 8 + el * size)
+    Place::At(p + SEGMENT_HEADER + el * size)
 }
 
 // The running number of seg:el among the used elements.
@@ -202,7 +224,7 @@ pub fn number(
     let mut p = le::wide(segments[k]);
     let mut n = le::wide(counts[k]);
     while left > 0 {
-        n += le::u32_at(b, p + 4);
+        n += used_count(b, p);
         p = next_start(b, p, size);
         left -= 1;
     }

@@ -11,8 +11,8 @@ use Rattle.layout.proofs.Laws.{bucket-order}
 use Rattle.strings.proofs.Filling.{fill}
 use Rattle.strings.specs.inner.Held.{Held, heldTable}
 use Rattle.strings.specs.declared.Strings.{Strings}
-use Rattle.search.specs.inner.Lower.{Lower}
-use Rattle.search.specs.inner.Group.{AllLow, Within, Aimed}
+use Rattle.search.specs.inner.LowerBound.{LowerBound}
+use Rattle.search.specs.inner.Group.{LowerBounds, Within, Estimated}
 
 -- ---- where the buckets stand
 
@@ -41,21 +41,21 @@ within-more b at j x a l h = record {
 pub within-upto : (b at : List ℕ) (j n : ℕ) → Within b j at → n ≤ j → Within b n at
 within-upto b at j n a l = record { long = a .long; each = λ i h. a .each i (omega arith) }
 
-pub aimed-none : (b guess at : List ℕ) → length guess ≡ 64 → length at ≡ 64 → Aimed b 0 guess at
-aimed-none b guess at e f = record { guesses = e; within = within-none b at f }
+pub estimated-none : (b estimate at : List ℕ) → length estimate ≡ 64 → length at ≡ 64 → Estimated b 0 estimate at
+estimated-none b estimate at e f = record { estimates = e; within = within-none b at f }
 
-pub aimed-more : (b guess at : List ℕ) (j g x : ℕ) → Aimed b j guess at → j < 64 → x + 4 ≤ length b → Aimed b (j + 1) (set guess j g) (set at j x)
-aimed-more b guess at j g x a l h = record {
-  guesses = length-set guess j g ∙ a .guesses;
+pub estimated-more : (b estimate at : List ℕ) (j g x : ℕ) → Estimated b j estimate at → j < 64 → x + 4 ≤ length b → Estimated b (j + 1) (set estimate j g) (set at j x)
+estimated-more b estimate at j g x a l h = record {
+  estimates = length-set estimate j g ∙ a .estimates;
   within = within-more b at j x (a .within) l h;
 }
 
-pub aimed-upto : (b guess at : List ℕ) (j n : ℕ) → Aimed b j guess at → n ≤ j → Aimed b n guess at
-aimed-upto b guess at j n a l = record { guesses = a .guesses; within = within-upto b at j n (a .within) l }
+pub estimated-upto : (b estimate at : List ℕ) (j n : ℕ) → Estimated b j estimate at → n ≤ j → Estimated b n estimate at
+estimated-upto b estimate at j n a l = record { estimates = a .estimates; within = within-upto b at j n (a .within) l }
 
 -- ---- places of hashes
 
 -- what is read of one
-pub low-read : {t : Table} {hashes low : List ℕ} {n : ℕ} → AllLow t hashes n low → (j : ℕ) → j < n → {h r : ℕ} → h ≡ getD hashes j 0 → r ≡ getD low j 0
-    → Lower t (bucketOf (t .buckets) h) h r
+pub low-read : {t : Table} {hashes low : List ℕ} {n : ℕ} → LowerBounds t hashes n low → (j : ℕ) → j < n → {h r : ℕ} → h ≡ getD hashes j 0 → r ≡ getD low j 0
+    → LowerBound t (bucketOf (t .buckets) h) h r
 low-read a j l e f = rw (e, f) (a .each j l)

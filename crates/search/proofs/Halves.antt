@@ -13,7 +13,7 @@ use Rattle.strings.specs.Order.{allEntryChecks, stringChecks}
 use Rattle.strings.proofs.Accepted.{strings-parts}
 use Rattle.strings.proofs.Only.{rises}
 use Rattle.search.specs.Bucket.{BucketSearch}
-use Rattle.search.specs.inner.Lower.{Lower, Halved}
+use Rattle.search.specs.inner.LowerBound.{LowerBound, Halved}
 
 -- the hashes of a bucket ascend
 pub bucket-ascends : (t : Table) → Clean (allEntryChecks t) → (k : ℕ) → k < t .buckets → Ascending (hashOf t k) (entries t k)
@@ -24,10 +24,10 @@ pub bucket-search : (t : Table) → firstFault (stringChecks t) ≡ Accepted →
 bucket-search t ok b h k l r = halving-laws (hashOf t b) (entries t b) h (bucket-ascends t (strings-parts t ok .0) b l) k r
 
 -- where the halving stops is the first entry whose hash is not below h
-pub halved-lower : (t : Table) (k h r : ℕ) → Clean (allEntryChecks t) → k < t .buckets → Halved t k h r → Lower t k h r
+pub halved-lower : (t : Table) (k h r : ℕ) → Clean (allEntryChecks t) → k < t .buckets → Halved t k h r → LowerBound t k h r
 halved-lower t k h r ok b w =
     rw (w .stops) (halving-laws (hashOf t k) (entries t k) h (bucket-ascends t ok k b) (w .rounds) (w .allowed) .first)
 
--- a distance of hashes times a number of entries: what a guess is made of
+-- a distance of hashes times a number of entries: what an estimate is made of
 pub distance-fits : (d n : ℕ) → d ≤ 2 ^ 33 → n ≤ 2 ^ 30 → d * n ≤ 2 ^ 63
 distance-fits d n h l = omega (arith, mul-le-mul {n₁ = d} {m₁ = n} {n₂ = 2 ^ 33} {m₂ = 2 ^ 30} h l)

@@ -1,4 +1,4 @@
--- The search of a bucket from a guess. Assumes nothing.
+-- The search of a bucket from an estimate. Assumes nothing.
 use Prim.Native.Nat.{ℕ, zero, suc, _+_, _-_, _≤_, _<_}
 use native.Mathlib.Nat.{mod-lt}
 use native.Mathlib.Numerals.{add-one}
@@ -17,12 +17,12 @@ use Rattle.layout.specs.Table.{Table, entries, hashOf}
 use Rattle.strings.specs.Texts.{textOf}
 use Rattle.strings.specs.Order.{allEntryChecks}
 use Rattle.strings.proofs.Only.{hash-of}
-use Rattle.search.specs.inner.Lower.{Lower, Near, few, eight, halved, countBelow, atMost, countFew, Settled}
+use Rattle.search.specs.inner.LowerBound.{LowerBound, Near, few, eight, halved, countBelow, atMost, countFew, Settled}
 use Rattle.search.proofs.Halves.{bucket-ascends, halved-lower}
 
 -- in a bucket by another name
-pub lower-in : (t : Table) (k m h r : ℕ) → k ≡ m → Lower t k h r → Lower t m h r
-lower-in t k m h r e w = subst (λ (x : ℕ). Lower t x h r) e w
+pub lower-in : (t : Table) (k m h r : ℕ) → k ≡ m → LowerBound t k h r → LowerBound t m h r
+lower-in t k m h r e w = subst (λ (x : ℕ). LowerBound t x h r) e w
 
 -- ---- numbers counted in a row
 
@@ -242,7 +242,7 @@ module _ (t : Table) (k h n : ℕ) (q : n ≡ entries t k) where
   near-eight w c l e s = eight w (omega arith) (rw (← e, ← q) s) (ap (λ (x : ℕ). w + x) e)
 
 -- what is found is the first entry whose hash is not below h
-pub near-lower : (t : Table) (k h r : ℕ) → Clean (allEntryChecks t) → k < t .buckets → Near t k h r → Lower t k h r
+pub near-lower : (t : Table) (k h r : ℕ) → Clean (allEntryChecks t) → k < t .buckets → Near t k h r → LowerBound t k h r
 near-lower t k h r ok b (few l e) = rw e (few-first (hashOf t k) (entries t k) h (bucket-ascends t ok k b) l)
 near-lower t k h r ok b (eight w l s e) =
     let up = bucket-ascends t ok k b in
@@ -251,11 +251,11 @@ near-lower t k h r ok b (halved w) = halved-lower t k h r ok b w
 
 -- in the bucket of the hash
 pub near-place : (t : Table) (h r : ℕ) → 0 < t .buckets → Clean (allEntryChecks t) → Near t (bucketOf (t .buckets) h) h r
-    → Lower t (bucketOf (t .buckets) h) h r
+    → LowerBound t (bucketOf (t .buckets) h) h r
 unfolding bucketOf
 near-place t h r b ok w = near-lower t (bucketOf (t .buckets) h) h r ok (mod-lt _ b) w
 
 -- no entry bears a text before the first whose hash is not below the text's
-pub none-before : (t : Table) → Clean (allEntryChecks t) → (k r m : ℕ) (q : List ℕ) → k < t .buckets → Lower t k (hashText q) r → m < entries t k → m < r
+pub none-before : (t : Table) → Clean (allEntryChecks t) → (k r m : ℕ) (q : List ℕ) → k < t .buckets → LowerBound t k (hashText q) r → m < entries t k → m < r
     → textOf t k m ≡ q → ⊥
 none-before t ok k r m q h w l a e = omega (arith, w .below m a, hash-of t ok k m q h l e)

@@ -11,7 +11,7 @@ use Rattle.le.specs.Le.{u32At}
 use Rattle.layout.specs.Table.{Table, entries, entryAt, hashOf}
 use Rattle.strings.specs.Order.{allEntryChecks}
 use Rattle.strings.proofs.Only.{rises}
-use Rattle.search.specs.inner.Lower.{Lower}
+use Rattle.search.specs.inner.LowerBound.{LowerBound}
 use Rattle.search.specs.inner.Run.{wordOf, Meets}
 
 -- a field, by where its entry stands
@@ -24,7 +24,7 @@ pub record Read (t : Table) (k h field w n j : ℕ) : Type 0 where
   pub none : (m : ℕ) → m < j → hashOf t k m ≡ h → wordOf t k m field ≡ w → ⊥
   pub above : (m : ℕ) → j ≤ m → m < entries t k → h ≤ hashOf t k m
 
-pub read-start : (t : Table) (k h field w n j : ℕ) → n ≡ entries t k → Lower t k h j → Read t k h field w n j
+pub read-start : (t : Table) (k h field w n j : ℕ) → n ≡ entries t k → LowerBound t k h j → Read t k h field w n j
 read-start t k h field w n j e f = record { many = e; none = λ m l g. absurd (omega (arith, f .below m l)); above = f .above }
 
 module _ (t : Table) (k h field w n j : ℕ) (r : Read t k h field w n j) where

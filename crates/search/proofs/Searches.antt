@@ -14,8 +14,8 @@ use Rattle.verdict.proofs.Laws.{Clean}
 use Rattle.hash.specs.Hash.{bucketOf}
 use Rattle.layout.specs.Table.{Table, entries, hashOf}
 use Rattle.strings.specs.Order.{allEntryChecks}
-use Rattle.search.specs.inner.Lower.{Near, halved, Searching, told, going-on}
-use Rattle.search.specs.inner.Group.{AllLow, NearAt, AllNear, SearchingAt, AllSearching, Advanced, Listed, ListedFrom, Looked, Gathered}
+use Rattle.search.specs.inner.LowerBound.{Near, halved, Searching, told, going-on}
+use Rattle.search.specs.inner.Group.{LowerBounds, NearAt, AllNear, SearchingAt, AllSearching, Advanced, Listed, ListedFrom, Looked, Gathered}
 use Rattle.search.proofs.Nearby.{near-place}
 
 -- ---- one search
@@ -136,7 +136,7 @@ pub near-of : (t : Table) (h g r : ℕ) → h ≡ g → Near t (bucketOf (t .buc
 near-of t h g r e w = rw (sym e) w
 
 -- each of them is found
-pub near-all : (t : Table) (hashes low : List ℕ) → Clean (allEntryChecks t) → 0 < t .buckets → (n : ℕ) → AllNear t hashes n low → AllLow t hashes n low
+pub near-all : (t : Table) (hashes low : List ℕ) → Clean (allEntryChecks t) → 0 < t .buckets → (n : ℕ) → AllNear t hashes n low → LowerBounds t hashes n low
 near-all t hashes low ok b n a = record { long = a .long; each = λ j l. near-place t (getD hashes j 0) (getD low j 0) b ok (a .each j l) }
 
 pub looked-none : (t : Table) (hashes low which : List ℕ) → length low ≡ 64 → length which ≡ 64 → Looked t hashes 0 low which 0 0

@@ -1,3 +1,3 @@
 pub mod Group
-pub mod Lower
+pub mod LowerBound
 pub mod Run

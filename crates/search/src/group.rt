@@ -10,15 +10,15 @@ ghost use Rattle.verdict.specs.declared.Verdict.the-variants.{Accepted};
 ghost use Rattle.layout.specs.Table.{bucketAt};
 ghost use Rattle.strings.specs.Order.{allEntryChecks};
 ghost use Rattle.strings.specs.inner.Held.{Held, heldTable};
-ghost use Rattle.search.specs.inner.Group.{AllLow, Looked, Aimed, Within, Lengths};
+ghost use Rattle.search.specs.inner.Group.{LowerBounds, Looked, Estimated, Within, Lengths};
 use crate::near;
 use crate::pending;
 use strings::Strings;
 use strings::entry;
 
 // Which entry of its bucket a hash is to be expected at, and where that entry stands.
-struct Target {
-    guess: u32,
+struct Estimate {
+    entry: u32,
     at: u32,
 }
 
@@ -34,7 +34,7 @@ pub fn spread(b: &[u8], s: Strings, segments: &[u32; 1024], buckets: &[u32], byt
 }
 
 // Where hash h is to be expected when w was met at place g of its bucket. In an empty bucket that is its count: it can be read, too.
-fn aim_at(
+fn estimate_at(
     b: &[u8],
     s: Strings,
     segments: &[u32; 1024],
@@ -42,28 +42,28 @@ fn aim_at(
     h: usize,
     g: usize,
     w: usize,
-) -> Target
+) -> Estimate
     requires { ⌜ Held (now b) s (now segments) (now buckets) × (h < 2 ^ 32) × (g < 2 ^ 32) × (w < 2 ^ 32) ⌝ }
     ensures { λ r. ⌜ r .at + 4 ≤ length (now (b .entry)) ⌝ }
 {
     let k = hash::bucket(h, buckets.len());
     let n = entry::entry_count(b, s, segments, buckets, k);
     if n == 0 {
-        return Target {
-            guess: 0,
+        return Estimate {
+            entry: 0,
             at: buckets[k],
         };
     }
     let r = crate::expected(n, h, g, w);
     let e = entry::entry_at(b, s, segments, buckets, k, r);
-    Target {
-        guess: r as u32,
+    Estimate {
+        entry: r as u32,
         at: e as u32,
     }
 }
 
 // Aims at each hash, from where it was looked for before.
-fn aim(
+fn estimate_each(
     b: &[u8],
     s: Strings,
     segments: &[u32; 1024],
@@ -71,32 +71,32 @@ fn aim(
     hashes: &[u32; 64],
     n: usize,
     met: &[u32; 64],
-    guess: &mut [u32; 64],
+    estimate: &mut [u32; 64],
     at: &mut [u32; 64],
 )
     requires { ⌜ Held (now b) s (now segments) (now buckets) × (n ≤ 64) × (length (now hashes) ≡ 64) × (length (now met) ≡ 64)
-        × (length (now guess) ≡ 64) × (length (now at) ≡ 64) ⌝ }
-    ensures { λ _. ⌜ Aimed (now (b .entry)) n (now (guess .exit)) (now (at .exit)) ⌝ }
+        × (length (now estimate) ≡ 64) × (length (now at) ≡ 64) ⌝ }
+    ensures { λ _. ⌜ Estimated (now (b .entry)) n (now (estimate .exit)) (now (at .exit)) ⌝ }
 {
     let mut j = 0;
     while j < n {
-        let a = aim_at(
+        let a = estimate_at(
             b,
             s,
             segments,
             buckets,
             le::wide(hashes[j]),
-            le::wide(guess[j]),
+            le::wide(estimate[j]),
             le::wide(met[j]),
         );
-        guess[j] = a.guess;
+        estimate[j] = a.entry;
         at[j] = a.at;
         j += 1;
     }
 }
 
 // Looks at each.
-fn look(b: &[u8], n: usize, at: &[u32; 64], met: &mut [u32; 64])
+fn probe(b: &[u8], n: usize, at: &[u32; 64], met: &mut [u32; 64])
     requires { ⌜ (n ≤ 64) × Within (now b) n (now at) × (length (now met) ≡ 64) ⌝ }
     ensures { λ _. ⌜ length (now (met .exit)) ≡ 64 ⌝ }
 {
@@ -109,39 +109,39 @@ fn look(b: &[u8], n: usize, at: &[u32; 64], met: &mut [u32; 64])
 
 // What was met of each hash's neighbours, and where: from nowhere first, and then from what was met there. In a table of less than a
 // megabyte one look is enough.
-fn come_near(
+fn refine(
     b: &[u8],
     s: Strings,
     segments: &[u32; 1024],
     buckets: &[u32],
     hashes: &[u32; 64],
     n: usize,
-    guess: &mut [u32; 64],
+    estimate: &mut [u32; 64],
     met: &mut [u32; 64],
 )
-    requires { ⌜ Held (now b) s (now segments) (now buckets) × (n ≤ 64) × (length (now hashes) ≡ 64) × (length (now guess) ≡ 64)
+    requires { ⌜ Held (now b) s (now segments) (now buckets) × (n ≤ 64) × (length (now hashes) ≡ 64) × (length (now estimate) ≡ 64)
         × (length (now met) ≡ 64) ⌝ }
-    ensures { λ _. ⌜ (length (now (guess .exit)) ≡ 64) × (length (now (met .exit)) ≡ 64) ⌝ }
+    ensures { λ _. ⌜ (length (now (estimate .exit)) ≡ 64) × (length (now (met .exit)) ≡ 64) ⌝ }
 {
     let mut at = [0u32; 64];
-    aim(b, s, segments, buckets, hashes, n, met, guess, &mut at);
-    look(b, n, &at, met);
+    estimate_each(b, s, segments, buckets, hashes, n, met, estimate, &mut at);
+    probe(b, n, &at, met);
     if !spread(b, s, segments, buckets, 1048576) {
         return;
     }
-    aim(b, s, segments, buckets, hashes, n, met, guess, &mut at);
-    look(b, n, &at, met);
+    estimate_each(b, s, segments, buckets, hashes, n, met, estimate, &mut at);
+    probe(b, n, &at, met);
 }
 
 // Eight entries that a hash is to be expected among: the number of the first, and where the first and the last of them stand.
-struct Eight {
+struct Window {
     start: u32,
     first: u32,
     last: u32,
 }
 
 // Those for hash h when w was met at place g of its bucket. A bucket of fewer is read as a whole: there it is the bucket's count twice.
-fn span_at(
+fn window_at(
     b: &[u8],
     s: Strings,
     segments: &[u32; 1024],
@@ -149,14 +149,14 @@ fn span_at(
     h: usize,
     g: usize,
     w: usize,
-) -> Eight
+) -> Window
     requires { ⌜ Held (now b) s (now segments) (now buckets) × (h < 2 ^ 32) × (g < 2 ^ 32) × (w < 2 ^ 32) ⌝ }
     ensures { λ r. ⌜ (r .first + 4 ≤ length (now (b .entry))) × (r .last + 4 ≤ length (now (b .entry))) ⌝ }
 {
     let k = hash::bucket(h, buckets.len());
     let n = entry::entry_count(b, s, segments, buckets, k);
     if n < 8 {
-        return Eight {
+        return Window {
             start: 0,
             first: buckets[k],
             last: buckets[k],
@@ -166,7 +166,7 @@ fn span_at(
     let f = near::window(if r < 4 { 0 } else { r - 4 }, n);
     let e = entry::entry_at(b, s, segments, buckets, k, f);
     let l = entry::entry_at(b, s, segments, buckets, k, f + 7);
-    Eight {
+    Window {
         start: f as u32,
         first: e as u32,
         last: l as u32,
@@ -174,7 +174,7 @@ fn span_at(
 }
 
 // Those of each hash, from where it was looked for before.
-fn find_spans(
+fn find_windows(
     b: &[u8],
     s: Strings,
     segments: &[u32; 1024],
@@ -182,26 +182,26 @@ fn find_spans(
     hashes: &[u32; 64],
     n: usize,
     met: &[u32; 64],
-    guess: &mut [u32; 64],
+    estimate: &mut [u32; 64],
     first: &mut [u32; 64],
     last: &mut [u32; 64],
 )
     requires { ⌜ Held (now b) s (now segments) (now buckets) × (n ≤ 64) × (length (now hashes) ≡ 64) × (length (now met) ≡ 64)
-        × Lengths (now guess) (now first) (now last) ⌝ }
-    ensures { λ _. ⌜ Aimed (now (b .entry)) n (now (guess .exit)) (now (first .exit)) × Within (now (b .entry)) n (now (last .exit)) ⌝ }
+        × Lengths (now estimate) (now first) (now last) ⌝ }
+    ensures { λ _. ⌜ Estimated (now (b .entry)) n (now (estimate .exit)) (now (first .exit)) × Within (now (b .entry)) n (now (last .exit)) ⌝ }
 {
     let mut j = 0;
     while j < n {
-        let a = span_at(
+        let a = window_at(
             b,
             s,
             segments,
             buckets,
             le::wide(hashes[j]),
-            le::wide(guess[j]),
+            le::wide(estimate[j]),
             le::wide(met[j]),
         );
-        guess[j] = a.start;
+        estimate[j] = a.start;
         first[j] = a.first;
         last[j] = a.last;
         j += 1;
@@ -209,25 +209,25 @@ fn find_spans(
 }
 
 // Eight entries for each hash, from `guess` on, with the first and the last hash of them.
-fn approach(
+fn probe_windows(
     b: &[u8],
     s: Strings,
     segments: &[u32; 1024],
     buckets: &[u32],
     hashes: &[u32; 64],
     n: usize,
-    guess: &mut [u32; 64],
+    estimate: &mut [u32; 64],
     least: &mut [u32; 64],
     most: &mut [u32; 64],
 )
     requires { ⌜ Held (now b) s (now segments) (now buckets) × (n ≤ 64) × (length (now hashes) ≡ 64)
-        × Lengths (now guess) (now least) (now most) ⌝ }
-    ensures { λ _. ⌜ Lengths (now (guess .exit)) (now (least .exit)) (now (most .exit)) ⌝ }
+        × Lengths (now estimate) (now least) (now most) ⌝ }
+    ensures { λ _. ⌜ Lengths (now (estimate .exit)) (now (least .exit)) (now (most .exit)) ⌝ }
 {
-    come_near(b, s, segments, buckets, hashes, n, guess, least);
+    refine(b, s, segments, buckets, hashes, n, estimate, least);
     let mut first = [0u32; 64];
     let mut last = [0u32; 64];
-    find_spans(
+    find_windows(
         b,
         s,
         segments,
@@ -235,12 +235,12 @@ fn approach(
         hashes,
         n,
         least,
-        guess,
+        estimate,
         &mut first,
         &mut last,
     );
-    look(b, n, &first, least);
-    look(b, n, &last, most);
+    probe(b, n, &first, least);
+    probe(b, n, &last, most);
 }
 
 // Where to look for h when eight entries from g on have hashes from `least` to `most`: there, or seven entries on or back.
@@ -265,69 +265,69 @@ fn shift_each(
     n: usize,
     least: &[u32; 64],
     most: &[u32; 64],
-    guess: &mut [u32; 64],
+    estimate: &mut [u32; 64],
 )
-    requires { ⌜ (n ≤ 64) × (length (now hashes) ≡ 64) × Lengths (now guess) (now least) (now most) ⌝ }
-    ensures { λ _. ⌜ length (now (guess .exit)) ≡ 64 ⌝ }
+    requires { ⌜ (n ≤ 64) × (length (now hashes) ≡ 64) × Lengths (now estimate) (now least) (now most) ⌝ }
+    ensures { λ _. ⌜ length (now (estimate .exit)) ≡ 64 ⌝ }
 {
     let mut j = 0;
     while j < n {
         let g = shifted(
             le::wide(hashes[j]),
-            le::wide(guess[j]),
+            le::wide(estimate[j]),
             le::wide(least[j]),
             le::wide(most[j]),
         );
-        guess[j] = g as u32;
+        estimate[j] = g as u32;
         j += 1;
     }
 }
 
 // A guess for each hash: where eight entries are to be read. In a table of less than 64 kilobytes nothing is read for it: it is near as it is.
-fn guess_each(
+fn estimate_windows(
     b: &[u8],
     s: Strings,
     segments: &[u32; 1024],
     buckets: &[u32],
     hashes: &[u32; 64],
     n: usize,
-    guess: &mut [u32; 64],
+    estimate: &mut [u32; 64],
 )
-    requires { ⌜ Held (now b) s (now segments) (now buckets) × (n ≤ 64) × (length (now hashes) ≡ 64) × (length (now guess) ≡ 64) ⌝ }
-    ensures { λ _. ⌜ length (now (guess .exit)) ≡ 64 ⌝ }
+    requires { ⌜ Held (now b) s (now segments) (now buckets) × (n ≤ 64) × (length (now hashes) ≡ 64) × (length (now estimate) ≡ 64) ⌝ }
+    ensures { λ _. ⌜ length (now (estimate .exit)) ≡ 64 ⌝ }
 {
     if !spread(b, s, segments, buckets, 65536) {
         return;
     }
     let mut least = [0u32; 64];
     let mut most = [0u32; 64];
-    approach(
+    probe_windows(
         b,
         s,
         segments,
         buckets,
         hashes,
         n,
-        guess,
+        estimate,
         &mut least,
         &mut most,
     );
-    shift_each(hashes, n, &least, &most, guess);
+    shift_each(hashes, n, &least, &most, estimate);
 }
 
 // Looks for each hash where it is guessed to stand. Answers how many are not found so, and lists these.
-fn look_each(
+fn probe_each(
     b: &[u8],
     s: Strings,
     segments: &[u32; 1024],
     buckets: &[u32],
     hashes: &[u32; 64],
     n: usize,
-    guess: &[u32; 64],
+    estimate: &[u32; 64],
     low: &mut [usize; 64],
     which: &mut [usize; 64],
 ) -> usize
-    requires { ⌜ Held (now b) s (now segments) (now buckets) × (n ≤ 64) × (length (now hashes) ≡ 64) × Lengths (now guess) (now low) (now which) ⌝ }
+    requires { ⌜ Held (now b) s (now segments) (now buckets) × (n ≤ 64) × (length (now hashes) ≡ 64) × Lengths (now estimate) (now low) (now which) ⌝ }
     ensures { λ m. ⌜ Looked (heldTable (now (b .entry)) s (now (buckets .entry))) (now (hashes .entry)) n (now (low .exit)) (now (which .exit)) m 0 ⌝ }
 {
     let mut m = 0;
@@ -335,7 +335,7 @@ fn look_each(
     while j < n {
         let h = le::wide(hashes[j]);
         let k = hash::bucket(h, buckets.len());
-        let r = near::look_near(b, s, segments, buckets, k, h, le::wide(guess[j]));
+        let r = near::probe_near(b, s, segments, buckets, k, h, le::wide(estimate[j]));
         low[j] = r;
         which[m] = j;
         if r == near::NOT_TOLD {
@@ -347,7 +347,7 @@ fn look_each(
 }
 
 // The places of the first n hashes, each in its bucket.
-pub fn settle(
+pub fn lower_bounds(
     b: &[u8],
     s: Strings,
     segments: &[u32; 1024],
@@ -358,12 +358,22 @@ pub fn settle(
 )
     requires { ⌜ Held (now b) s (now segments) (now buckets) × (firstFault (allEntryChecks (heldTable (now b) s (now buckets))) ≡ Accepted)
         × (n ≤ 64) × (length (now hashes) ≡ 64) × (length (now low) ≡ 64) ⌝ }
-    ensures { λ _. ⌜ AllLow (heldTable (now (b .entry)) s (now (buckets .entry))) (now (hashes .entry)) n (now (low .exit)) ⌝ }
+    ensures { λ _. ⌜ LowerBounds (heldTable (now (b .entry)) s (now (buckets .entry))) (now (hashes .entry)) n (now (low .exit)) ⌝ }
 {
-    let mut guess = [0u32; 64];
-    guess_each(b, s, segments, buckets, hashes, n, &mut guess);
+    let mut estimate = [0u32; 64];
+    estimate_windows(b, s, segments, buckets, hashes, n, &mut estimate);
     let mut which = [0usize; 64];
-    let m = look_each(b, s, segments, buckets, hashes, n, &guess, low, &mut which);
+    let m = probe_each(
+        b,
+        s,
+        segments,
+        buckets,
+        hashes,
+        n,
+        &estimate,
+        low,
+        &mut which,
+    );
     if m > 0 {
         pending::find_rest(b, s, segments, buckets, hashes, n, &which, m, low);
     }

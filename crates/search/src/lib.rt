@@ -4,7 +4,7 @@ ghost use Prim.Native.Nat.{_≤_, _<_, _^_};
 ghost use lib.ListN.{length};
 ghost use Rattle.laws.specs.Halving.{Rounds};
 ghost use Rattle.strings.specs.inner.Held.{Held, heldTable};
-ghost use Rattle.search.specs.inner.Lower.{Halved};
+ghost use Rattle.search.specs.inner.LowerBound.{Halved};
 
 pub mod group;
 mod near;
@@ -13,6 +13,7 @@ pub mod run;
 
 use strings::Strings;
 use strings::entry;
+use strings::fields;
 
 // No bucket has 2 to the 31 entries: a file has at most 2 to the 30 bytes.
 const MOST_ROUNDS: usize = 31;
@@ -52,7 +53,7 @@ fn rounds(n: usize) -> usize
 
 // The first entry of bucket k whose hash is not below h, or the number of entries, by halving. `left` is the number of rounds left; a
 // round reads one entry.
-pub fn lower(
+pub fn lower_bound(
     b: &[u8],
     s: Strings,
     segments: &[u32; 1024],
@@ -70,7 +71,7 @@ pub fn lower(
         left -= 1;
         let mid = lo + (hi - lo) / 2;
         let e = entry::entry_at(b, s, segments, buckets, k, mid);
-        if le::u32_at(b, e) < h {
+        if fields::hash(b, e) < h {
             lo = mid + 1;
         } else {
             hi = mid;

@@ -5,9 +5,10 @@ ghost use lib.ListN.{length};
 ghost use Rattle.verdict.specs.inner.Tells.{Tells};
 ghost use Rattle.layout.specs.Table.{entries, hashOf};
 ghost use Rattle.strings.specs.inner.Held.{Held, heldTable};
-ghost use Rattle.search.specs.inner.Lower.{Near, countBelow, atMost, countFew, Settled};
+ghost use Rattle.search.specs.inner.LowerBound.{Near, countBelow, atMost, countFew, Settled};
 use strings::Strings;
 use strings::entry;
+use strings::fields;
 
 // No place in a bucket: the entries that were read do not tell.
 pub const NOT_TOLD: usize = 4294967295;
@@ -31,7 +32,7 @@ fn count_below(
     let mut i = 0;
     while i < 8 {
         let e = entry::entry_at(b, s, segments, buckets, k, w + i);
-        if le::u32_at(b, e) < h {
+        if fields::hash(b, e) < h {
             c += 1;
         }
         i += 1;
@@ -66,7 +67,7 @@ fn count_few(
     let mut i = 0;
     while i < 8 {
         let e = entry::entry_at(b, s, segments, buckets, k, at_most(i, n));
-        if le::u32_at(b, e) < h {
+        if fields::hash(b, e) < h {
             c += 1;
         }
         i += 1;
@@ -94,7 +95,7 @@ fn settled(w: usize, c: usize, n: usize) -> bool
 }
 
 // Where h stands in bucket k, if eight entries from g on tell; NOT_TOLD if they do not. Any guess works; a close one saves the halving.
-pub fn look_near(
+pub fn probe_near(
     b: &[u8],
     s: Strings,
     segments: &[u32; 1024],

@@ -5,11 +5,12 @@ ghost use Prim.Native.Nat.{_-_, _≤_, _<_};
 ghost use lib.ListN.{length, getD};
 ghost use Rattle.strings.specs.inner.Held.{Held, heldTable};
 ghost use Rattle.hash.specs.Hash.{bucketOf};
-ghost use Rattle.search.specs.inner.Lower.{Near, Searching};
+ghost use Rattle.search.specs.inner.LowerBound.{Near, Searching};
 ghost use Rattle.search.specs.inner.Group.{SearchingAt, AllSearching, Advanced, Listed, Gathered, Looked, AllNear, Lengths};
 use crate::Bounds;
 use strings::Strings;
 use strings::entry;
+use strings::fields;
 
 // One round of the halving for hash h, if something is left: one entry is read.
 fn halve(
@@ -32,7 +33,7 @@ fn halve(
     let k = hash::bucket(h, buckets.len());
     let mid = lo + (hi - lo) / 2;
     let e = entry::entry_at(b, s, segments, buckets, k, mid);
-    if le::u32_at(b, e) < h {
+    if fields::hash(b, e) < h {
         return Bounds { lo: mid + 1, hi };
     }
     Bounds { lo, hi: mid }

@@ -8,7 +8,7 @@ use Rattle.verdict.specs.Checks.{firstFault}
 use Rattle.verdict.specs.declared.Verdict.the-variants.{Accepted}
 use Rattle.verdict.proofs.Laws.{Clean, pass, clean-inv, fault-none, fault-append, append-inv, each-inv, each-clean}
 use Rattle.layout.specs.Table.{Table, entries, hashOf, count}
-use Rattle.strings.specs.Rules.{Resolved, Sized, Hashed, Placed, Indexed, Twin, Carried, TableRules}
+use Rattle.strings.specs.Rules.{Resolved, Sized, Hashed, Placed, Indexed, Duplicate, Carried, TableRules}
 use Rattle.strings.specs.inner.Held.{TextPasses}
 use Rattle.strings.specs.Order.{entryChecks, bucketEntryChecks, allEntryChecks, positionChecks, allPositionChecks, stringChecks}
 
@@ -19,7 +19,7 @@ pub record Good (t : Table) (k j : ℕ) : Type 0 where
   pub hashed : Hashed t k j
   pub placed : Placed t k j
   pub indexed : Indexed t k j
-  pub alone : ¬ Twin t k j
+  pub alone : ¬ Duplicate t k j
 
 -- among them those of its text
 pub good-text : (t : Table) (k j : ℕ) → Good t k j → TextPasses t k j

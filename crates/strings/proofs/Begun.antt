@@ -11,7 +11,7 @@ use Rattle.le.specs.Le.{u16At}
 use Rattle.region.specs.Region.{placeOf}
 use Rattle.layout.specs.Table.{Table, entries, elementOf}
 use Rattle.strings.specs.inner.Begins.{begins, Begun, AllBegun}
-use Rattle.strings.specs.inner.Ahead.{Glanced}
+use Rattle.strings.specs.inner.Ahead.{Prefetched}
 use Rattle.strings.specs.Order.{entryChecks}
 use Rattle.strings.proofs.Spots.{spot-in}
 use Rattle.strings.proofs.Accepted.{entry-good}
@@ -30,7 +30,7 @@ module _ (b : List ℕ) (r seg : ℕ) where
   begins-behind (suc el) x e z = eq-eqb _ 0 (ap (u16At b) (omega arith) ∙ z)
 
 -- an entry that passed, by what was read ahead of it
-module _ (t : Table) (k j : ℕ) {p n c : ℕ} (ok : Clean (entryChecks t k j)) (g : Glanced t k j p n c) where
+module _ (t : Table) (k j : ℕ) {p n c : ℕ} (ok : Clean (entryChecks t k j)) (g : Prefetched t k j p n c) where
   pub begun-first : (el : ℕ) → el ≡ elementOf t k j → el ≡ 0 → Begun t k j
   begun-first el e z = begins-first _ _ _ _ (sym e ∙ z)
 

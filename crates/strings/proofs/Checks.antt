@@ -17,7 +17,7 @@ use Rattle.text.specs.declared.Extent.{Extent}
 use Rattle.text.proofs.Laws.{text-length-le}
 use Rattle.layout.specs.Table.{Table, entryAt, hashOf, lengthOf, indexOf, segmentOf, elementOf, count, listedSegment, listedElement}
 use Rattle.strings.specs.Texts.{textOf}
-use Rattle.strings.specs.Rules.{Resolved, Sized, Hashed, Placed, Indexed, Twin}
+use Rattle.strings.specs.Rules.{Resolved, Sized, Hashed, Placed, Indexed, Duplicate}
 use Rattle.strings.specs.inner.Held.{TextPasses}
 use Rattle.strings.specs.Order.{entryChecks}
 use Rattle.strings.proofs.Accepted.{entry-clean}
@@ -119,14 +119,14 @@ module _ (t : Table) (k j : ℕ) where
           at-entry
           (pass _ _ _ _ _ (r .resolved) ∙ pass _ _ _ _ _ (r .sized) ∙ pass _ _ _ _ _ (r .hashed) ∙ pass _ _ _ _ _ a ∙ stop _ _ _ _ _ f)
 
-      pub refused-12 : Placed t k j → Indexed t k j → Twin t k j → Refused 12 e ≡ firstFault (entryChecks t k j)
+      pub refused-12 : Placed t k j → Indexed t k j → Duplicate t k j → Refused 12 e ≡ firstFault (entryChecks t k j)
       unfolding entryChecks
       refused-12 a b w =
           at-entry
           (pass _ _ _ _ _ (r .resolved) ∙ pass _ _ _ _ _ (r .sized) ∙ pass _ _ _ _ _ (r .hashed) ∙ pass _ _ _ _ _ a ∙ pass _ _ _ _ _ b
           ∙ stop _ _ _ _ _ (λ f. f w))
 
-  pub entry-passes : TextPasses t k j → Placed t k j → Indexed t k j → ¬ Twin t k j → Accepted ≡ firstFault (entryChecks t k j)
+  pub entry-passes : TextPasses t k j → Placed t k j → Indexed t k j → ¬ Duplicate t k j → Accepted ≡ firstFault (entryChecks t k j)
   entry-passes r a b f = sym (entry-clean t k j (record {
     resolved = r .resolved;
     sized = r .sized;

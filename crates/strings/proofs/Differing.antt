@@ -37,11 +37,11 @@ module _ (t : Table) (k j : ℕ) where
     unfolding textOf
     text-here = sym (s .text)
 
-    pub told-some : w ≡ 0 → TextPasses t k j → ⊥
-    told-some z r = omega (arith, r .sized)
+    pub length-some : w ≡ 0 → TextPasses t k j → ⊥
+    length-some z r = omega (arith, r .sized)
 
-    pub told-few : n + 1 < w → TextPasses t k j → ⊥
-    told-few l r = omega (arith, r .sized, ap length text-here, text-length-le (t .bytes) p n)
+    pub length-few : n + 1 < w → TextPasses t k j → ⊥
+    length-few l r = omega (arith, r .sized, ap length text-here, text-length-le (t .bytes) p n)
 
     pub fingerprint-some : (x : ℕ) → (x ≡ fingerprintOf (chars (t .bytes) p (w - 1))) × (x < 2 ^ 16) → Fingerprinted t k j x
     fingerprint-some x e = record {

@@ -2,7 +2,7 @@ pub mod Accepted
 pub mod Places
 pub mod Spots
 pub mod Filling
-pub mod Glances
+pub mod Prefetched
 pub mod Begun
 pub mod Checks
 pub mod Runs

@@ -5,7 +5,7 @@ use mathlib.Core.Path.{_≡_, refl, ap, _∙_}
 use mathlib.Core.List.{List}
 use lib.ListN.{length, getD}
 use Rattle.le.specs.Le.{u16At, u32At}
-use Rattle.layout.specs.Table.{Table, bucketAt, entries, entryAt, hashOf, lengthOf, indexOf, segmentOf, elementOf, count, positionAt, listedSegment, listedElement, listAt}
+use Rattle.layout.specs.Table.{Table, bucketAt, entries, entryHash, entryLength, entryIndex, entrySegment, entryElement, entryAt, hashOf, lengthOf, indexOf, segmentOf, elementOf, count, positionAt, listedSegment, listedElement, listAt}
 use Rattle.layout.proofs.Laws.{bucket-next, bucket-fits, entry-fits, position-fits}
 use Rattle.strings.specs.inner.Held.{Held, heldTable, Here}
 use Rattle.strings.specs.declared.Strings.{Strings}
@@ -51,18 +51,12 @@ module _ (b : List ℕ) (s : Strings) (segments buckets : List ℕ) (h : Held b 
   unfolding count
   list-is n e = e ∙ ap (u32At b) (h .list)
 
-  pub position-in : (n i : ℕ) → n ≡ u32At b (s .list) → i < n → s .list + 4 * i + 4 ≤ length b
+  pub position-is : (i : ℕ) → s .list + 4 * i ≡ positionAt (heldTable b s buckets) i
   unfolding positionAt
-  position-in n i e l =
-      omega (arith, h .list, list-is n e, position-fits (heldTable b s buckets) (h .laid) i (omega (arith, list-is n e)))
+  position-is i = ap (λ (a : ℕ). a + 4 * i) (h .list)
 
-  pub listed-segment-at : (i x : ℕ) → x ≡ u16At b (s .list + 4 * i) → x ≡ listedSegment (heldTable b s buckets) i
-  unfolding listedSegment positionAt
-  listed-segment-at i x e = e ∙ ap (λ (a : ℕ). u16At b (a + 4 * i)) (h .list)
-
-  pub listed-element-at : (i x : ℕ) → x ≡ u16At b (s .list + 4 * i + 2) → x ≡ listedElement (heldTable b s buckets) i
-  unfolding listedElement positionAt
-  listed-element-at i x e = e ∙ ap (λ (a : ℕ). u16At b (a + 4 * i + 2)) (h .list)
+  pub position-in : (i : ℕ) → i < count (heldTable b s buckets) → s .list + 4 * i + 4 ≤ length b
+  position-in i l = omega (arith, position-is i, position-fits (heldTable b s buckets) (h .laid) i l)
 
 -- an entry below the count that was read, and an earlier one of its bucket
 pub here-in : (t : Table) (k j n : ℕ) → k < t .buckets → n ≡ entries t k → j < n → Here t k j
@@ -73,25 +67,35 @@ earlier t k i j h l = record { bucket = h .bucket; entry = omega (arith, h .entr
 
 -- the fields of an entry as they are read at its place
 module _ (t : Table) (k j e x : ℕ) (q : e ≡ entryAt t k j) where
-  pub hash-at : x ≡ u32At (t .bytes) e → x ≡ hashOf t k j
+  pub hash-at : x ≡ entryHash (t .bytes) e → x ≡ hashOf t k j
   unfolding hashOf
-  hash-at p = p ∙ ap (u32At (t .bytes)) q
+  hash-at p = p ∙ ap (entryHash (t .bytes)) q
 
-  pub length-at : x ≡ u32At (t .bytes) (e + 4) → x ≡ lengthOf t k j
+  pub length-at : x ≡ entryLength (t .bytes) e → x ≡ lengthOf t k j
   unfolding lengthOf
-  length-at p = p ∙ ap (λ (a : ℕ). u32At (t .bytes) (a + 4)) q
+  length-at p = p ∙ ap (entryLength (t .bytes)) q
 
-  pub index-at : x ≡ u32At (t .bytes) (e + 8) → x ≡ indexOf t k j
+  pub index-at : x ≡ entryIndex (t .bytes) e → x ≡ indexOf t k j
   unfolding indexOf
-  index-at p = p ∙ ap (λ (a : ℕ). u32At (t .bytes) (a + 8)) q
+  index-at p = p ∙ ap (entryIndex (t .bytes)) q
 
-  pub segment-at : x ≡ u16At (t .bytes) (e + 12) → x ≡ segmentOf t k j
+  pub segment-at : x ≡ entrySegment (t .bytes) e → x ≡ segmentOf t k j
   unfolding segmentOf
-  segment-at p = p ∙ ap (λ (a : ℕ). u16At (t .bytes) (a + 12)) q
+  segment-at p = p ∙ ap (entrySegment (t .bytes)) q
 
-  pub element-at : x ≡ u16At (t .bytes) (e + 14) → x ≡ elementOf t k j
+  pub element-at : x ≡ entryElement (t .bytes) e → x ≡ elementOf t k j
   unfolding elementOf
-  element-at p = p ∙ ap (λ (a : ℕ). u16At (t .bytes) (a + 14)) q
+  element-at p = p ∙ ap (entryElement (t .bytes)) q
+
+-- the address at a list position, as it is read there
+module _ (t : Table) (i p x : ℕ) (q : p ≡ positionAt t i) where
+  pub listed-segment-at : x ≡ u16At (t .bytes) p → x ≡ listedSegment t i
+  unfolding listedSegment
+  listed-segment-at e = e ∙ ap (u16At (t .bytes)) q
+
+  pub listed-element-at : x ≡ u16At (t .bytes) (p + 2) → x ≡ listedElement t i
+  unfolding listedElement
+  listed-element-at e = e ∙ ap (λ (a : ℕ). u16At (t .bytes) (a + 2)) q
 
 -- the entry before stands 16 bytes before
 module _ (t : Table) (k j e : ℕ) (q : e ≡ entryAt t k j) (z : j ≡ 0 → ⊥) where

@@ -1,4 +1,4 @@
--- Runs of equal hashes in a bucket: where a twin stands (12). Assumes nothing.
+-- Runs of equal hashes in a bucket: where a duplicate stands (12). Assumes nothing.
 use Prim.Native.Nat.{ℕ, zero, suc, _+_, _-_, _≤_, _<_}
 use native.Mathlib.Nat.{le-refl, le-trans, eq-or-lt-of-le}
 use native.Mathlib.Omega.{arith}
@@ -10,7 +10,7 @@ use Rattle.verdict.proofs.Laws.{Clean}
 use Rattle.hash.specs.Hash.{hashText}
 use Rattle.layout.specs.Table.{Table, hashOf, lengthOf}
 use Rattle.strings.specs.Texts.{textOf}
-use Rattle.strings.specs.Rules.{Placed, Twin}
+use Rattle.strings.specs.Rules.{Placed, Duplicate}
 use Rattle.strings.specs.inner.Held.{TextPasses, Sorted}
 use Rattle.strings.specs.Order.{entryChecks}
 use Rattle.strings.proofs.Accepted.{entry-good, good-text}
@@ -31,7 +31,7 @@ module _ (t : Table) (k j : ℕ) where
   unfolding Alone
   alone-more i n e f g m l h q = ⊎-elim (λ w. g (ap (textOf t k) w ∙ q)) (λ w. f m (omega arith) h q) (eq-or-lt-of-le l)
 
-  pub alone-none : (i : ℕ) → i ≤ 0 → Alone t k j i → ¬ Twin t k j
+  pub alone-none : (i : ℕ) → i ≤ 0 → Alone t k j i → ¬ Duplicate t k j
   unfolding Alone
   alone-none i l f w = f (w .0) (omega arith) (w .1) (w .2)
 
@@ -48,7 +48,7 @@ module _ (t : Table) (k j : ℕ) where
         subst (λ (x : ℕ). hashOf t k m ≤ hashOf t k x) z (rising (i - m) m (omega arith))
 
     -- where the run is over no entry before has the text
-    pub alone-over : (i n h g : ℕ) → n + 1 ≡ i → i ≤ j → Alone t k j i → h ≡ hashOf t k j → g ≡ hashOf t k n → (g ≡ h → ⊥) → ¬ Twin t k j
+    pub alone-over : (i n h g : ℕ) → n + 1 ≡ i → i ≤ j → Alone t k j i → h ≡ hashOf t k j → g ≡ hashOf t k n → (g ≡ h → ⊥) → ¬ Duplicate t k j
     unfolding Alone
     alone-over i n h g e l f q p d w = ⊎-elim (λ a. f (w .0) a (w .1) (w .2)) (λ a. below a) (le-or-lt i (w .0))
       where
@@ -60,8 +60,8 @@ module _ (t : Table) (k j : ℕ) where
             let z : hashOf t k m ≡ hashOf t k j = r .right m (omega (arith, w .1)) .hashed ∙ ap hashText (w .2) ∙ sym (r .right j (le-refl j) .hashed) in
             d (omega arith)
 
-  pub twin-found : (i n : ℕ) → n + 1 ≡ i → i ≤ j → textOf t k n ≡ textOf t k j → Twin t k j
-  twin-found i n e l q = (n, omega arith, q)
+  pub duplicate-found : (i n : ℕ) → n + 1 ≡ i → i ≤ j → textOf t k n ≡ textOf t k j → Duplicate t k j
+  duplicate-found i n e l q = (n, omega arith, q)
 
   -- an entry whose text is right and that is placed, behind entries that passed
   pub sorted : ((i : ℕ) → i < j → Clean (entryChecks t k i)) → TextPasses t k j → Placed t k j → Sorted t k j

@@ -9,14 +9,14 @@ use lib.ListN.{length}
 use borrow.Author.Tests.{lt-ltb, le-ltb}
 use Rattle.laws.proofs.Order.{le-or-lt}
 use Rattle.verdict.specs.inner.Tells.{Tells}
-use Rattle.le.specs.Le.{u16At, u32At}
+use Rattle.le.specs.Le.{u32At}
 use Rattle.region.specs.Region.{countOf, startOf, usedOf, placeOf, endOf, Resolves, Laid}
 use Rattle.region.specs.inner.Samples.{Mapped}
 use Rattle.region.specs.Decisions.{resolves?}
 use Rattle.region.specs.declared.Region.{Region}
 use Rattle.text.specs.Text.{roomAt, textIn, textAt}
 use Rattle.text.proofs.Laws.{room-some, room-fits, room-within}
-use Rattle.layout.specs.Table.{Table, entryAt, segmentOf, elementOf}
+use Rattle.layout.specs.Table.{Table, entrySegment, entryElement, entryAt, segmentOf, elementOf}
 use Rattle.strings.specs.Texts.{spotAt, textTo}
 use Rattle.strings.specs.Rules.{Resolved}
 use Rattle.strings.proofs.Places.{segment-at, element-at}
@@ -111,14 +111,13 @@ same-texts t s e p m u f q n v w g = record {
   not = λ z y. g .not z (v .text ∙ y ∙ sym (w .text));
 }
 
--- the spot of an entry, found by the address 12 bytes behind its place
+-- the spot of an entry, found by the address that stands in it
 module _ (t : Table) (k j e : ℕ) {r : Spot} (q : e ≡ entryAt t k j)
-    (f : r ≡ spotAt (t .bytes) (t .at) (u16At (t .bytes) (e + 12)) (u16At (t .bytes) (e + 12 + 2))) where
+    (f : r ≡ spotAt (t .bytes) (t .at) (entrySegment (t .bytes) e) (entryElement (t .bytes) e)) where
   pub found : spotAt (t .bytes) (t .at) (segmentOf t k j) (elementOf t k j) ≡ r
   found =
-      let z : e + 12 + 2 ≡ e + 14 = omega arith in
       let x = segment-at t k j e _ q refl in
-      let y = element-at t k j e _ q (ap (u16At (t .bytes)) z) in cc
+      let y = element-at t k j e _ q refl in cc
 
   pub unspotted : r ≡ Nowhere → Resolved t k j → ⊥
   unspotted g h = spot-out _ _ _ _ (found ∙ g) h

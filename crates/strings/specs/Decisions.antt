@@ -7,7 +7,7 @@ use Rattle.hash.specs.Hash.{hashText, bucketOf}
 use Rattle.region.specs.Decisions.{resolves?}
 use Rattle.layout.specs.Table.{Table, entries, hashOf, indexOf, segmentOf, elementOf, count, listedSegment, listedElement}
 use Rattle.strings.specs.Texts.{textOf}
-use Rattle.strings.specs.Rules.{Resolved, Sized, Hashed, Placed, Indexed, Twin, Carried}
+use Rattle.strings.specs.Rules.{Resolved, Sized, Hashed, Placed, Indexed, Duplicate, Carried}
 
 unfoldable pub resolved? : (t : Table) (k j : ℕ) → Dec (Resolved t k j)
 resolved? t k j = resolves? 2 (t .bytes) (t .at) (segmentOf t k j) (elementOf t k j)
@@ -30,7 +30,7 @@ indexed? t k j =
     (Dec·and (decLt (indexOf t k j) (count t))
     (Dec·and (ℕ-discrete (listedSegment t (indexOf t k j)) (segmentOf t k j)) (ℕ-discrete (listedElement t (indexOf t k j)) (elementOf t k j)))))
 
-unfoldable pub alone? : (t : Table) (k j : ℕ) → Dec (¬ Twin t k j)
+unfoldable pub alone? : (t : Table) (k j : ℕ) → Dec (¬ Duplicate t k j)
 alone? t k j = Dec·not (someBelow? j (λ i. texts? (textOf t k i) (textOf t k j)))
 
 unfoldable pub carried? : (t : Table) (i : ℕ) → Dec (Carried t i)

@@ -11,7 +11,7 @@ use Rattle.le.specs.Le.{u16At}
 use Rattle.region.specs.Region.{placeOf}
 use Rattle.text.specs.Text.{roomAt}
 use Rattle.layout.specs.Table.{Table, entries, entryAt, lengthOf, segmentOf, elementOf}
-use Rattle.strings.specs.Rules.{Resolved, Hashed, Placed, Indexed, Twin}
+use Rattle.strings.specs.Rules.{Resolved, Hashed, Placed, Indexed, Duplicate}
 use Rattle.strings.specs.Decisions.{resolved?, hashed?, placed?, indexed?, alone?}
 use Rattle.strings.specs.Order.{allPositionChecks}
 
@@ -53,7 +53,7 @@ entryChecksBefore t k j =
     ∷ check 9 (entryAt t k j) (Hashed t k j) (hashed? t k j)
     ∷ check 10 (entryAt t k j) (Placed t k j) (placed? t k j)
     ∷ check 11 (entryAt t k j) (Indexed t k j) (indexed? t k j)
-    ∷ check 12 (entryAt t k j) (¬ Twin t k j) (alone? t k j)
+    ∷ check 12 (entryAt t k j) (¬ Duplicate t k j) (alone? t k j)
     ∷ []
 
 unfoldable pub stringChecksBefore : Table → List Check

@@ -3,7 +3,7 @@ use Prim.Native.Nat.{ℕ, _+_, _-_}
 use mathlib.Core.List.{List, [], _∷_, _++_}
 use Rattle.verdict.specs.Checks.{Check, check, each}
 use Rattle.layout.specs.Table.{Table, entries, entryAt, count, positionAt}
-use Rattle.strings.specs.Rules.{Resolved, Sized, Hashed, Placed, Indexed, Twin, Carried}
+use Rattle.strings.specs.Rules.{Resolved, Sized, Hashed, Placed, Indexed, Duplicate, Carried}
 use Rattle.strings.specs.Decisions.{resolved?, sized?, hashed?, placed?, indexed?, alone?, carried?}
 
 -- All of an entry's checks come before the next entry's; the place is the entry.
@@ -14,7 +14,7 @@ entryChecks t k j =
     ∷ check 9 (entryAt t k j) (Hashed t k j) (hashed? t k j)
     ∷ check 10 (entryAt t k j) (Placed t k j) (placed? t k j)
     ∷ check 11 (entryAt t k j) (Indexed t k j) (indexed? t k j)
-    ∷ check 12 (entryAt t k j) (¬ Twin t k j) (alone? t k j)
+    ∷ check 12 (entryAt t k j) (¬ Duplicate t k j) (alone? t k j)
     ∷ []
 
 -- A bucket, entry by entry.

@@ -33,8 +33,8 @@ pub record Indexed (t : Table) (k j : ℕ) : Type 0 where
   pub element : listedElement t (indexOf t k j) ≡ elementOf t k j
 
 -- 12 is given where an earlier entry of the bucket has the same text.
-abbrev pub Twin : Table → ℕ → ℕ → Type 0
-Twin t k j = SomeBelow j (λ i. textOf t k i ≡ textOf t k j)
+abbrev pub Duplicate : Table → ℕ → ℕ → Type 0
+Duplicate t k j = SomeBelow j (λ i. textOf t k i ≡ textOf t k j)
 
 -- 13: an entry carries the list position's index.
 abbrev pub Carried : Table → ℕ → Type 0

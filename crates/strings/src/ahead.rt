@@ -1,5 +1,5 @@
 // Reading ahead. The entries of a bucket stand by hash, their texts anywhere, so that the processor would wait for each in turn. Here 64
-// entries are glanced at together: none of these reads waits for another, and the texts are near when they are checked.
+// entries are prefetched together: none of these reads waits for another, and the texts are near when they are checked.
 ghost use mathlib.Core.Path.{_≡_};
 ghost use Prim.Native.Nat.{ℕ, _+_, _-_, _*_, _%_, _≤_, _<_, _^_};
 ghost use lib.ListN.{length};
@@ -9,17 +9,18 @@ ghost use Rattle.strings.specs.inner.Held.{Held, heldTable, Here};
 ghost use Rattle.strings.specs.inner.Ahead.{Standing, Seen, Stood, SeenBefore, ReadAhead, Ahead};
 use crate::Strings;
 use crate::entry;
+use crate::fields;
 use crate::spot;
 use crate::spot::Spot;
 
 // The spot of an entry's text. Where its address does not resolve, no characters are left.
-pub struct Stretch {
+pub struct TextSpan {
     pub at: usize,
     pub left: usize,
 }
 
 // The same, what touch_whole reads there, and from which entry on those before it are known to have other texts.
-pub struct Glance {
+pub struct PrefetchedText {
     pub at: usize,
     pub left: usize,
     pub seen: usize,
@@ -45,9 +46,9 @@ pub fn touch(b: &[u8], p: usize, n: usize) -> usize
     before
 }
 
-// The character before the n at p, if there are any, plus 65,536 times a number without meaning: where a length is told for the text, its end is
-// read, and its middle if it is long.
-fn touch_whole(b: &[u8], p: usize, n: usize, told: usize) -> usize
+// The character before the n at p, if there are any, plus 65,536 times a number without meaning: the text is read at its end,
+// by the length that its entry tells, and in its middle if it is long.
+fn touch_whole(b: &[u8], p: usize, n: usize, len: usize) -> usize
     requires { ⌜ (0 < n → 2 ≤ p) × (0 < n → p + 2 * n ≤ length (now b)) ⌝ }
     ensures { λ r. ⌜ Seen (now (b .entry)) p n r ⌝ }
 {
@@ -55,34 +56,34 @@ fn touch_whole(b: &[u8], p: usize, n: usize, told: usize) -> usize
         return 0;
     }
     let first = p - 2;
-    let all = least(told, n);
+    let all = least(len, n);
     let most = least(all, 32);
     le::u16_at(b, first)
         + 65536 * (le::u16_at(b, first + 2 * all) + le::u16_at(b, first + 2 * most))
 }
 
 // Where the text of entry j of bucket k stands.
-fn stretch_at(
+fn text_span_at(
     b: &[u8],
     s: Strings,
     segments: &[u32; 1024],
     buckets: &[u32],
     k: usize,
     j: usize,
-) -> Stretch
+) -> TextSpan
     requires { ⌜ Held (now b) s (now segments) (now buckets) × Here (heldTable (now b) s (now buckets)) k j ⌝ }
     ensures { λ r. ⌜ Standing (heldTable (now (b .entry)) s (now (buckets .entry))) k j (r .at) (r .left) ⌝ }
 {
     let e = entry::entry_at(b, s, segments, buckets, k, j);
-    let a = spot::spot_to(b, s.chars, segments, e + 12);
+    let a = spot::entry_spot(b, s.chars, segments, e);
     let Spot::At(p, n) = a else {
-        return Stretch { at: 0, left: 0 };
+        return TextSpan { at: 0, left: 0 };
     };
-    Stretch { at: p, left: n }
+    TextSpan { at: p, left: n }
 }
 
 // Where the texts of m entries of bucket k from j on stand.
-fn find_stretches(
+fn find_text_spans(
     b: &[u8],
     s: Strings,
     segments: &[u32; 1024],
@@ -99,7 +100,7 @@ fn find_stretches(
 {
     let mut i = 0;
     while i < m {
-        let w = stretch_at(b, s, segments, buckets, k, j + i);
+        let w = text_span_at(b, s, segments, buckets, k, j + i);
         at[i] = w.at;
         left[i] = w.left;
         i += 1;
@@ -128,12 +129,12 @@ fn load_ahead(
     let mut i = 0;
     while i < m {
         let e = entry::entry_at(b, s, segments, buckets, k, j + i);
-        seen[i] = touch_whole(b, at[i], left[i], le::u32_at(b, e + 4));
+        seen[i] = touch_whole(b, at[i], left[i], fields::length(b, e));
         i += 1;
     }
 }
 
-// Sees to it that entry j of bucket k, which has n, was glanced at: at each multiple of 64 it and the 63 behind it are, as far as there are
+// Sees to it that entry j of bucket k, which has n, is prefetched: at each multiple of 64 it and the 63 behind it are, as far as there are
 // so many.
 pub(crate) fn keep_ahead(
     b: &[u8],
@@ -156,6 +157,6 @@ pub(crate) fn keep_ahead(
         return;
     }
     let m = least(n - j, 64);
-    find_stretches(b, s, segments, buckets, k, j, m, at, left);
+    find_text_spans(b, s, segments, buckets, k, j, m, at, left);
     load_ahead(b, s, segments, buckets, k, j, m, at, left, seen);
 }

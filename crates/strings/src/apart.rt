@@ -11,6 +11,7 @@ ghost use Rattle.strings.specs.inner.Apart.{Apart, Fingerprinted, Collec
 use crate::Strings;
 use crate::ahead;
 use crate::entry;
+use crate::fields;
 use crate::spot;
 use crate::spot::Spot;
 
@@ -39,18 +40,18 @@ fn fingerprint_at(
     ensures { λ r. ⌜ Fingerprinted (heldTable (now (b .entry)) s (now (buckets .entry))) k j r ⌝ }
 {
     let e = entry::entry_at(b, s, segments, buckets, k, j);
-    let a = spot::spot_to(b, s.chars, segments, e + 12);
+    let a = spot::entry_spot(b, s.chars, segments, e);
     let Spot::At(p, n) = a else {
         return 0;
     };
-    let told = le::u32_at(b, e + 4);
-    if told == 0 {
+    let length = fields::length(b, e);
+    if length == 0 {
         return 0;
     }
-    if told > n + 1 {
+    if length > n + 1 {
         return 0;
     }
-    text::fingerprint::fingerprint(b, p, told - 1)
+    text::fingerprint::fingerprint(b, p, length - 1)
 }
 
 // Whether entry j, whose fingerprint is x, may have the text of one of the n collected entries, those from `from` on.
@@ -197,7 +198,7 @@ fn run_start(
     let mut i = j;
     while i > 0 {
         let e = entry::entry_at(b, s, segments, buckets, k, i - 1);
-        if le::u32_at(b, e) != h {
+        if fields::hash(b, e) != h {
             return i;
         }
         i -= 1;
@@ -223,7 +224,7 @@ fn run_end(
     let mut i = j;
     while i < n {
         let e = entry::entry_at(b, s, segments, buckets, k, i);
-        if le::u32_at(b, e) != h {
+        if fields::hash(b, e) != h {
             return i;
         }
         i += 1;
@@ -256,8 +257,8 @@ pub(crate) fn span_at(
     if n - j < 64 {
         return span;
     }
-    let h = le::u32_at(b, entry::entry_at(b, s, segments, buckets, k, j));
-    if le::u32_at(b, entry::entry_at(b, s, segments, buckets, k, j + 63)) != h {
+    let h = fields::hash(b, entry::entry_at(b, s, segments, buckets, k, j));
+    if fields::hash(b, entry::entry_at(b, s, segments, buckets, k, j + 63)) != h {
         return span;
     }
     let start = run_start(b, s, segments, buckets, k, j, h);

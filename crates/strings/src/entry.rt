@@ -6,16 +6,21 @@ ghost use Rattle.verdict.specs.Checks.{firstFault};
 ghost use Rattle.verdict.specs.inner.Tells.{Tells, Sure};
 ghost use Rattle.verdict.specs.declared.Verdict.the-variants.{Accepted};
 ghost use Rattle.hash.specs.inner.Tables.{Tables};
-ghost use Rattle.layout.specs.Table.{entryAt, entries};
-ghost use Rattle.strings.specs.Rules.{Placed, Indexed, Twin};
+ghost use Rattle.layout.specs.Table.{entryAt, entries, count, positionAt, listedSegment, listedElement};
+ghost use Rattle.strings.specs.Texts.{spotAt};
+ghost use Rattle.strings.specs.Rules.{Placed, Indexed, Duplicate};
 ghost use Rattle.strings.specs.Order.{entryChecks};
 ghost use Rattle.strings.specs.inner.Held.{Held, heldTable, Here, TextPasses, Sorted};
-ghost use Rattle.strings.specs.inner.Ahead.{Glanced};
+ghost use Rattle.strings.specs.inner.Ahead.{Prefetched};
 ghost use Rattle.strings.specs.inner.Apart.{Compared, Away};
 use crate::Strings;
-use crate::ahead::Glance;
+use crate::ahead::PrefetchedText;
+use crate::fields;
 use crate::spot;
 use crate::spot::Spot;
+use layout::BUCKET_COUNT_SIZE;
+use layout::ENTRY_SIZE;
+use layout::POSITION_SIZE;
 use verdict::Verdict;
 
 // Where entry j of bucket k stands.
@@ -30,7 +35,7 @@ pub fn entry_at(
     requires { ⌜ Held (now b) s (now segments) (now buckets) × Here (heldTable (now b) s (now buckets)) k j ⌝ }
     ensures { λ r. ⌜ (r ≡ entryAt (heldTable (now (b .entry)) s (now (buckets .entry))) k j) × (r + 16 ≤ length (now (b .entry))) ⌝ }
 {
-    le::wide(buckets[k]) + 4 + 16 * j
+    le::wide(buckets[k]) + BUCKET_COUNT_SIZE + ENTRY_SIZE * j
 }
 
 // The number of entries of bucket k: as many as fit between its start and where the next bucket starts, or the address count. The starts are
@@ -41,9 +46,31 @@ pub fn entry_count(b: &[u8], s: Strings, segments: &[u32; 1024], buckets: &[u32]
 {
     let at = le::wide(buckets[k]);
     if k + 1 < buckets.len() {
-        return (le::wide(buckets[k + 1]) - at - 4) / 16;
+        return (le::wide(buckets[k + 1]) - at - BUCKET_COUNT_SIZE) / ENTRY_SIZE;
     }
-    (s.list - at - 4) / 16
+    (s.list - at - BUCKET_COUNT_SIZE) / ENTRY_SIZE
+}
+
+// Where list position i stands.
+pub fn position_at(b: &[u8], s: Strings, segments: &[u32; 1024], buckets: &[u32], i: usize) -> usize
+    requires { ⌜ Held (now b) s (now segments) (now buckets) × (i < count (heldTable (now b) s (now buckets))) ⌝ }
+    ensures { λ r. ⌜ (r ≡ positionAt (heldTable (now (b .entry)) s (now (buckets .entry))) i) × (r + 4 ≤ length (now (b .entry))) ⌝ }
+{
+    s.list + POSITION_SIZE * i
+}
+
+// The spot of the address at list position i.
+pub fn listed_spot(b: &[u8], s: Strings, segments: &[u32; 1024], buckets: &[u32], i: usize) -> Spot
+    requires { ⌜ Held (now b) s (now segments) (now buckets) × (i < count (heldTable (now b) s (now buckets))) ⌝ }
+    ensures { λ r. ⌜ r ≡ spotAt (now (b .entry)) (s .chars .at) (listedSegment (heldTable (now (b .entry)) s (now (buckets .entry))) i)
+        (listedElement (heldTable (now (b .entry)) s (now (buckets .entry))) i) ⌝ }
+{
+    spot::spot_to(
+        b,
+        s.chars,
+        segments,
+        position_at(b, s, segments, buckets, i),
+    )
 }
 
 // Refusal 10 is not due.
@@ -52,14 +79,14 @@ fn placed(b: &[u8], s: Strings, segments: &[u32; 1024], buckets: &[u32], k: usiz
     ensures { λ r. ⌜ Tells (Placed (heldTable (now (b .entry)) s (now (buckets .entry))) k j) r ⌝ }
 {
     let e = entry_at(b, s, segments, buckets, k, j);
-    let h = le::u32_at(b, e);
+    let h = fields::hash(b, e);
     if hash::bucket(h, buckets.len()) != k {
         return false;
     }
     if j == 0 {
         return true;
     }
-    le::u32_at(b, e - 16) <= h
+    fields::hash(b, e - ENTRY_SIZE) <= h
 }
 
 // Refusal 11 is not due.
@@ -75,18 +102,18 @@ pub(crate) fn indexed(
     ensures { λ r. ⌜ Tells (Indexed (heldTable (now (b .entry)) s (now (buckets .entry))) k j) r ⌝ }
 {
     let e = entry_at(b, s, segments, buckets, k, j);
-    let i = le::u32_at(b, e + 8);
+    let i = fields::index(b, e);
     if i == 0 {
         return false;
     }
     if le::u32_at(b, s.list) <= i {
         return false;
     }
-    let p = s.list + 4 * i;
-    if le::u16_at(b, p) != le::u16_at(b, e + 12) {
+    let p = position_at(b, s, segments, buckets, i);
+    if le::u16_at(b, p) != fields::segment(b, e) {
         return false;
     }
-    le::u16_at(b, p + 2) == le::u16_at(b, e + 14)
+    le::u16_at(b, p + spot::ELEMENT_AT) == fields::element(b, e)
 }
 
 // Whether entries i and j of bucket k have the same text, if their texts are right. Their lengths are compared first: texts that repeat one
@@ -106,11 +133,11 @@ pub(crate) fn same_text(
 {
     let d = entry_at(b, s, segments, buckets, k, i);
     let e = entry_at(b, s, segments, buckets, k, j);
-    if le::u32_at(b, d + 4) != le::u32_at(b, e + 4) {
+    if fields::length(b, d) != fields::length(b, e) {
         return false;
     }
-    let x = spot::spot_to(b, s.chars, segments, d + 12);
-    let y = spot::spot_to(b, s.chars, segments, e + 12);
+    let x = spot::entry_spot(b, s.chars, segments, d);
+    let y = spot::entry_spot(b, s.chars, segments, e);
     let Spot::At(p, m) = x else {
         return false;
     };
@@ -122,7 +149,7 @@ pub(crate) fn same_text(
 
 // What refusal 12 is given for, where the entries from `from` on are known to have other texts. Texts that are the same have one hash, and
 // hashes ascend: only the run of entries just before with the same hash is read.
-fn twin(
+fn duplicate(
     b: &[u8],
     s: Strings,
     segments: &[u32; 1024],
@@ -133,14 +160,14 @@ fn twin(
 ) -> bool
     requires { ⌜ Held (now b) s (now segments) (now buckets) × Here (heldTable (now b) s (now buckets)) k j
         × Sorted (heldTable (now b) s (now buckets)) k j × Away (heldTable (now b) s (now buckets)) k from j ⌝ }
-    ensures { λ r. ⌜ Tells (Twin (heldTable (now (b .entry)) s (now (buckets .entry))) k j) r ⌝ }
+    ensures { λ r. ⌜ Tells (Duplicate (heldTable (now (b .entry)) s (now (buckets .entry))) k j) r ⌝ }
 {
     let e = entry_at(b, s, segments, buckets, k, j);
-    let h = le::u32_at(b, e);
+    let h = fields::hash(b, e);
     let mut i = from;
     while i > 0 {
         let d = entry_at(b, s, segments, buckets, k, i - 1);
-        if le::u32_at(b, d) != h {
+        if fields::hash(b, d) != h {
             return false;
         }
         if same_text(b, s, segments, buckets, k, i - 1, j) {
@@ -175,7 +202,7 @@ fn check_order(
     if !listed {
         return Verdict::Refused(11, e);
     }
-    if twin(b, s, segments, buckets, k, j, from) {
+    if duplicate(b, s, segments, buckets, k, j, from) {
         return Verdict::Refused(12, e);
     }
     Verdict::Accepted
@@ -201,7 +228,7 @@ fn index_passes(
     indexed(b, s, segments, buckets, k, j)
 }
 
-// Refusals 7 to 12 of an entry that was glanced at, where those before it in the bucket passed; 11 may be known not to be due.
+// Refusals 7 to 12 of an entry that is prefetched, where those before it in the bucket passed; 11 may be known not to be due.
 pub(crate) fn check_entry(
     b: &[u8],
     t: &[u32; 2048],
@@ -210,12 +237,12 @@ pub(crate) fn check_entry(
     buckets: &[u32],
     k: usize,
     j: usize,
-    g: Glance,
+    g: PrefetchedText,
     listed: bool,
 ) -> Verdict
     requires { ⌜ Tables (now t) × Held (now b) s (now segments) (now buckets) × Here (heldTable (now b) s (now buckets)) k j
         × ((i : ℕ) → i < j → firstFault (entryChecks (heldTable (now b) s (now buckets)) k i) ≡ Accepted)
-        × Glanced (heldTable (now b) s (now buckets)) k j (g .at) (g .left) (g .seen) × Away (heldTable (now b) s (now buckets)) k (g .from) j
+        × Prefetched (heldTable (now b) s (now buckets)) k j (g .at) (g .left) (g .seen) × Away (heldTable (now b) s (now buckets)) k (g .from) j
         × Sure (Indexed (heldTable (now b) s (now buckets)) k j) listed ⌝ }
     ensures { λ r. ⌜ r ≡ firstFault (entryChecks (heldTable (now (b .entry)) s (now (buckets .entry))) k j) ⌝ }
 {
@@ -224,10 +251,10 @@ pub(crate) fn check_entry(
         return Verdict::Refused(7, e);
     }
     let m = text::measure(b, t, g.at, g.left);
-    if le::u32_at(b, e + 4) != m.length + 1 {
+    if fields::length(b, e) != m.length + 1 {
         return Verdict::Refused(8, e);
     }
-    if le::u32_at(b, e) != m.hash {
+    if fields::hash(b, e) != m.hash {
         return Verdict::Refused(9, e);
     }
     let right = index_passes(b, s, segments, buckets, k, j, listed);

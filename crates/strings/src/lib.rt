@@ -2,6 +2,7 @@
 pub mod ahead;
 mod apart;
 pub mod entry;
+pub mod fields;
 mod listed;
 pub mod spot;
 pub mod table;

@@ -7,14 +7,15 @@ ghost use Rattle.verdict.specs.declared.Verdict.the-variants.{Accepted};
 ghost use Rattle.hash.specs.inner.Tables.{Tables};
 ghost use Rattle.strings.specs.Order.{entryChecks, allEntryChecks};
 ghost use Rattle.strings.specs.inner.Begins.{Begun, AllBegun};
-ghost use Rattle.strings.specs.inner.Ahead.{Glanced};
+ghost use Rattle.strings.specs.inner.Ahead.{Prefetched};
 ghost use Rattle.strings.specs.inner.Held.{Held, heldTable, Here};
 use crate::Strings;
 use crate::ahead;
-use crate::ahead::Glance;
+use crate::ahead::PrefetchedText;
 use crate::apart;
 use crate::apart::Span;
 use crate::entry;
+use crate::fields;
 use crate::listed;
 use verdict::Verdict;
 
@@ -32,19 +33,19 @@ fn still_begun(
     buckets: &[u32],
     k: usize,
     j: usize,
-    g: Glance,
+    g: PrefetchedText,
     before: bool,
 ) -> bool
     requires { ⌜ Held (now b) s (now segments) (now buckets) × Here (heldTable (now b) s (now buckets)) k j
         × (firstFault (entryChecks (heldTable (now b) s (now buckets)) k j) ≡ Accepted)
-        × Glanced (heldTable (now b) s (now buckets)) k j (g .at) (g .left) (g .seen) ⌝ }
+        × Prefetched (heldTable (now b) s (now buckets)) k j (g .at) (g .left) (g .seen) ⌝ }
     ensures { λ r. ⌜ Sure ((before ≡ true) × Begun (heldTable (now (b .entry)) s (now (buckets .entry))) k j) r ⌝ }
 {
     if !before {
         return false;
     }
     let e = entry::entry_at(b, s, segments, buckets, k, j);
-    if le::u16_at(b, e + 14) == 0 {
+    if fields::element(b, e) == 0 {
         return true;
     }
     g.seen % 65536 == 0
@@ -88,7 +89,7 @@ pub fn check_entries(
             );
             span = apart::span_at(b, s, segments, buckets, k, n, j, span);
             let i = j % 64;
-            let g = Glance {
+            let g = PrefetchedText {
                 at: at[i],
                 left: left[i],
                 seen: seen[i],

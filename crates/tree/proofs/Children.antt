@@ -4,16 +4,14 @@ use mathlib.Core.Logic.{⊎-elim}
 use mathlib.Core.List.{List}
 use Prim.Native.Nat.{ℕ, _+_, _*_, _/_, _%_, _≤_, _<_}
 use native.Mathlib.Omega.{arith}
-use borrow.Author.Tests.{eq-eqb, ne-eqb}
 use lib.ListN.{length}
-use Rattle.le.specs.Le.{u16At}
 use Rattle.region.specs.Region.{rangeAt}
 use Rattle.region.specs.inner.Samples.{Mapped, Starts}
 use Rattle.region.specs.declared.Region.{Region}
 use Rattle.region.specs.declared.Place.the-variants.{At, Nowhere}
 use Rattle.region.proofs.Laws.{place-fits, range-at-in, range-at-out}
 use Rattle.layout.specs.Layout.{nodeSize, nodesAt}
-use Rattle.nodes.specs.Node.{nodeName, childField, childSegment, childElement, childCount, nodeAt}
+use Rattle.nodes.specs.Node.{nodeName, childSegment, childElement, childCount, nodeAt}
 use Rattle.nodes.specs.Rules.{NodesRules}
 use Rattle.nodes.proofs.Accepted.{nodes-iff}
 use Rattle.tree.specs.File.{nodeOf, Used, treeOf}
@@ -25,16 +23,6 @@ use Rattle.tree.proofs.Addresses.{child-used, child-place}
 -- x was read from a field, and is its number y
 abbrev Field : ℕ → ℕ → Type 0
 Field x y = (x ≡ y) × (x < 65536)
-
--- the child count, as the code reads it
-module _ (b : List ℕ) (p : ℕ) where
-  pub none-nameless : u16At b p ≡ 0 → childCount b p ≡ 0
-  unfolding childCount nodeName
-  none-nameless z = rw (eq-eqb (u16At b p) 0 z)
-
-  pub count-field : (u16At b p ≡ 0 → ⊥) → childCount b p ≡ u16At b (p + 6)
-  unfolding childCount nodeName childField
-  count-field f = rw (ne-eqb (u16At b p) 0 f)
 
 module _ {b : List ℕ} {r : Region} {segments : List ℕ} (g : TreeReady b r segments) where
   pub own-region : Mapped 24 b (r .at) r × Starts 24 b (r .at) (r .shift) segments
@@ -55,17 +43,9 @@ module _ {b : List ℕ} {r : Region} {segments : List ℕ} (g : TreeReady b r se
     node-reached = rw q (rules-hold .each (a / 65536) (a % 65536) u .children .reach)
 
   -- the child range by its fields
-  module _ (p : ℕ) {seg el n : ℕ} (s : Field seg (u16At b (p + 16))) (e : Field el (u16At b (p + 18))) (c : n ≡ childCount b p) where
-    segment-is : seg ≡ childSegment b p
-    unfolding childSegment
-    segment-is = s .0
-
-    element-is : el ≡ childElement b p
-    unfolding childElement
-    element-is = e .0
-
+  module _ (p : ℕ) {seg el n : ℕ} (s : Field seg (childSegment b p)) (e : Field el (childElement b p)) (c : n ≡ childCount b p) where
     row : (q : ℕ) → Row b (seg * 65536 + el) q n → ChildrenOf b p (record { first = seg * 65536 + el; place = q; count = n })
-    row q h = record { first = rw (segment-is, element-is); count = c; row = h }
+    row q h = record { first = rw (s .0, e .0); count = c; row = h }
 
     pub no-children : n ≡ 0 → ChildrenOf b p (record { first = seg * 65536 + el; place = 0; count = n })
     no-children z = row 0 (record { low = omega (arith, s .1, e .1); few = omega arith; node = λ j l. absurd (omega arith) })
@@ -75,7 +55,7 @@ module _ {b : List ℕ} {r : Region} {segments : List ℕ} (g : TreeReady b r se
     unfolding nodeSize
     found-range h z w =
         range-at-out 24 b (r .at) seg el n w
-        (rw (g .nodes .at-is, segment-is, element-is, c) (⊎-elim (λ y. absurd (z (c ∙ y))) (λ y. y) h))
+        (rw (g .nodes .at-is, s .0, e .0, c) (⊎-elim (λ y. absurd (z (c ∙ y))) (λ y. y) h))
 
     pub children-at : n < 65536 → {x : ℕ} → rangeAt 24 b (r .at) seg el n ≡ At x
         → ChildrenOf b p (record { first = seg * 65536 + el; place = x; count = n })
@@ -93,9 +73,9 @@ module _ {b : List ℕ} {r : Region} {segments : List ℕ} (g : TreeReady b r se
 
   -- the children stand in a row, each a used node
   module _ {p : ℕ} {k : Children} (h : ChildrenOf b p k) (j : ℕ) (l : j < k .count) where
-    pub child-name : {x : ℕ} → x ≡ u16At b (k .place + j * 24) → x ≡ treeOf b .name (k .first + j)
-    unfolding treeOf nodeName
-    child-name e = e ∙ ap (u16At b) (h .row .node j l .1)
+    pub child-name : {x : ℕ} → x ≡ nodeName b (k .place + j * 24) → x ≡ treeOf b .name (k .first + j)
+    unfolding treeOf
+    child-name e = e ∙ ap (nodeName b) (h .row .node j l .1)
 
     pub child-fits : k .place + j * 24 + 24 ≤ length b
     child-fits = let w = h .row .node j l in node-fits _ _ (w .0) (w .1)

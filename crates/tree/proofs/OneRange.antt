@@ -6,7 +6,6 @@ use mathlib.Core.Bool.{Bool, true, false, true≢false, false≢true}
 use mathlib.Core.Logic.{⊎-elim}
 use mathlib.Core.List.{List}
 use lib.ListN.{length, replicate}
-use Rattle.le.specs.Le.{u16At}
 use Rattle.laws.specs.inner.Lists.{splice}
 use Rattle.laws.proofs.Splice.{splice-nil}
 use Rattle.verdict.specs.inner.Tells.{Tells}
@@ -38,12 +37,11 @@ module _ (b : List ℕ) (p : ℕ) where
   }
 
   -- the range resolves, so its segment is there
-  pub segment-there : (n seg : ℕ) → n ≡ childCount b p → seg ≡ u16At b (p + 16) → (n ≡ 0 → ⊥) → Reached b p → seg < countOf b (nodesAt b)
-  unfolding childSegment
+  pub segment-there : (n seg : ℕ) → n ≡ childCount b p → seg ≡ childSegment b p → (n ≡ 0 → ⊥) → Reached b p → seg < countOf b (nodesAt b)
   segment-there n seg k s f h = ⊎-elim (λ z. absurd (f (k ∙ z))) (λ x. omega (arith, x .seg-in)) h
 
-  pub first-number : (at seg el i : ℕ) → at ≡ nodesAt b → seg ≡ u16At b (p + 16) → el ≡ u16At b (p + 18) → i ≡ numberOf 24 b at seg el → i ≡ firstNumber b p
-  unfolding firstNumber childSegment childElement nodeSize
+  pub first-number : (at seg el i : ℕ) → at ≡ nodesAt b → seg ≡ childSegment b p → el ≡ childElement b p → i ≡ numberOf 24 b at seg el → i ≡ firstNumber b p
+  unfolding firstNumber nodeSize
   first-number at seg el i a s e q = q ∙ rw (a, s, e)
 
   module _ (i n : ℕ) (w : List ℕ) (q : i ≡ firstNumber b p) (k : n ≡ childCount b p) where

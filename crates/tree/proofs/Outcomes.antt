@@ -23,9 +23,9 @@ use Rattle.tree.proofs.Deepest.{depth-clean, depth-fault}
 use Rattle.tree.proofs.Marking.{clear-same, marked-rest}
 
 -- the root stands behind the node segment count and the first segment's counts
-pub root-place : (b : List ℕ) (at : ℕ) → at ≡ nodesAt b → at + 12 ≡ nodeOf b 0
+pub root-place : (b : List ℕ) (r p : ℕ) → p ≡ r + 12 → r ≡ nodesAt b → p ≡ nodeOf b 0
 unfolding nodeOf nodeAt placeOf startOf nodeSize
-root-place b at q = omega arith
+root-place b r p e q = omega arith
 
 -- what the three answer, and what they leave
 module _ (b ws : List ℕ) where

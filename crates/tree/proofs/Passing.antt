@@ -12,8 +12,10 @@ use Rattle.verdict.specs.Checks.{firstFault}
 use Rattle.verdict.specs.declared.Verdict.{Verdict}
 use Rattle.verdict.specs.declared.Verdict.the-variants.{Accepted, Refused}
 use Rattle.verdict.proofs.Laws.{never}
-use Rattle.region.specs.Region.{Resolves, Laid, countOf, usedOf, fullOf, startOf, placeOf}
-use Rattle.region.proofs.Laws.{start-next, place-fits}
+use Rattle.region.specs.Region.{Resolves, Laid, countOf, usedOf, startOf}
+use Rattle.region.specs.inner.Samples.{Mapped}
+use Rattle.region.specs.declared.Region.{Region}
+use Rattle.region.proofs.Samples.{segment-fits, start-more, used-at}
 use Rattle.layout.specs.Layout.{nodeSize, nodesAt}
 use Rattle.nodes.specs.Node.{nodeAt}
 use Rattle.nodes.specs.Rules.{NodesRules}
@@ -50,33 +52,15 @@ pub record Passed (b ws : List ℕ) (fault : Verdict) (w : List ℕ) : Type 0 wh
 pub record Inside (b : List ℕ) (seg at : ℕ) : Type 0 where
   pub seg-in : seg < countOf b (nodesAt b)
   pub used : u32At b (at + 4) ≡ usedOf nodeSize b (nodesAt b) seg
-  pub few : usedOf nodeSize b (nodesAt b) seg ≤ 65535
-  pub full : u32At b at ≡ fullOf nodeSize b (nodesAt b) seg
-  pub fits : at + 8 + fullOf nodeSize b (nodesAt b) seg * 24 ≤ length b
+  pub fits : at + 8 + u32At b at * 24 ≤ length b
 
-module _ (b : List ℕ) (g : Laid nodeSize b (nodesAt b)) (seg at : ℕ) (h : seg < countOf b (nodesAt b)) (q : at ≡ startOf nodeSize b (nodesAt b) seg) where
-  pub inside : Inside b seg at
-  unfolding usedOf fullOf nodeSize
-  inside = record {
-    seg-in = h;
-    used = ap (λ (x : ℕ). u32At b (x + 4)) q;
-    few = omega (arith, g .used seg h, g .full seg h);
-    full = ap (u32At b) q;
-    fits = omega (arith, g .fits seg h);
-  }
-
-  -- node seg:el
-  module _ (el : ℕ) (l : el < usedOf nodeSize b (nodesAt b) seg) where
-    pub node-there : Resolves nodeSize b (nodesAt b) seg el
-    node-there = record { seg-in = h; el-in = l }
-
-    pub node-place : at + 8 + el * 24 ≡ nodeAt b seg el
-    unfolding nodeAt placeOf nodeSize
-    node-place = ap (λ (x : ℕ). x + 8 + el * 24) q
-
-    pub node-fits : at + 8 + el * 24 + 24 ≤ length b
-    unfolding nodeAt nodeSize
-    node-fits = omega (arith, place-fits nodeSize b (nodesAt b) g seg el node-there, node-place)
+pub inside : (b : List ℕ) {r : Region} → Mapped nodeSize b (nodesAt b) r → (seg at : ℕ) → seg < r .count → at ≡ startOf nodeSize b (nodesAt b) seg → Inside b seg at
+unfolding nodeSize
+inside b m seg at h q = record {
+  seg-in = omega (arith, m .count-is);
+  used = used-at nodeSize b (nodesAt b) seg at _ q refl;
+  fits = segment-fits nodeSize b (nodesAt b) m seg at h q;
+}
 
 module _ (b ws : List ℕ) where
   pub pass-open : (seg at : ℕ) (w : List ℕ) → seg < countOf b (nodesAt b) → AtSegment b ws seg at w → AtNode b w seg 0 w
@@ -87,25 +71,25 @@ module _ (b ws : List ℕ) where
   }
 
 module _ (b ws : List ℕ) (room : usedNodes b ≤ length ws) where
-  pub pass-start : (at : ℕ) (w : List ℕ) → at ≡ nodesAt b → w ≡ splice ws 0 (replicate (usedNodes b) 0) → AtSegment b w 0 (at + 4) w
+  pub pass-start : (at r : ℕ) (w : List ℕ) → at ≡ r + 4 → r ≡ nodesAt b → w ≡ splice ws 0 (replicate (usedNodes b) 0) → AtSegment b w 0 at w
   unfolding startOf
-  pass-start at w h q = record {
+  pass-start at r w e h q = record {
     low = omega arith;
-    at-is = ap (λ (x : ℕ). x + 4) h;
+    at-is = omega arith;
     marks = rw q (marks-start b ws room);
     left = left-start b;
   }
 
   module _ (g : Laid nodeSize b (nodesAt b)) where
     -- the next segment; v was the workspace where this one began
-    pub pass-next : (seg el at : ℕ) (v w : List ℕ) → seg < countOf b (nodesAt b) → usedOf nodeSize b (nodesAt b) seg ≤ el → AtSegment b ws seg at v
-        → AtNode b v seg el w → AtSegment b ws (seg + 1) (at + 8 + fullOf nodeSize b (nodesAt b) seg * 24) w
+    pub pass-next : (seg el at next : ℕ) (v w : List ℕ) → next ≡ at + 8 + u32At b at * 24 → seg < countOf b (nodesAt b) → usedOf nodeSize b (nodesAt b) seg ≤ el → AtSegment b ws seg at v
+        → AtNode b v seg el w → AtSegment b ws (seg + 1) next w
     unfolding nodeSize
-    pass-next seg el at v w l e h k =
+    pass-next seg el at next v w q l e h k =
         let m : Marks b ws (address seg el) w = record { long = k .marks .long ∙ h .marks .long; rest = k .marks .rest ∙ h .marks .rest; bits = k .marks .bits } in
         record {
           low = omega arith;
-          at-is = omega (arith, h .at-is, start-next nodeSize b (nodesAt b) seg);
+          at-is = start-more nodeSize b (nodesAt b) seg (seg + 1) at next refl (h .at-is) q;
           marks = marks-segment b ws room seg el w e (omega (arith, k .low, g .used seg l, g .full seg l)) m;
           left = k .left ∙ left-next b seg el e;
         }

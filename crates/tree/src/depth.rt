@@ -5,6 +5,8 @@ ghost use Rattle.tree.specs.Chain.{ends};
 ghost use Rattle.tree.specs.File.{Used, nodeOf, treeOf};
 ghost use Rattle.tree.specs.inner.Marking.{TreeReady, firstPlace};
 use crate::ranges;
+use layout::NODE_SIZE;
+use nodes::fields;
 use region::Region;
 
 pub enum Found {
@@ -30,8 +32,8 @@ pub fn find_deep(
     let k = ranges::children_of(b, nodes, segments, p);
     let mut j = 0;
     while j < k.count {
-        let c = k.place + j * 24;
-        if le::u16_at(b, c) != 0 {
+        let c = k.place + j * NODE_SIZE;
+        if fields::node_name(b, c) != 0 {
             if let Found::At(x) = find_deep(b, nodes, segments, k.first + j, c, left - 1) {
                 return Found::At(x);
             }

@@ -16,6 +16,12 @@ use depth::Found;
 use region::Region;
 use verdict::Verdict;
 
+// A chain has at most so many nodes.
+pub const MOST_LEVELS: usize = 64;
+
+// The root is at level 0.
+pub const DEEPEST_LEVEL: usize = MOST_LEVELS - 1;
+
 // Refusals 20 to 22 of a file that passed the others, with what they leave in the workspace.
 pub fn check_tree(
     b: &[u8],
@@ -37,7 +43,7 @@ pub fn check_tree(
     if let Verdict::Refused(num, place) = m {
         return Verdict::Refused(num, place);
     }
-    match depth::find_deep(b, nodes, segments, 0, nodes.at + 12, 64) {
+    match depth::find_deep(b, nodes, segments, 0, ranges::root_at(nodes), MOST_LEVELS) {
         Found::At(p) => {
             marks::set_range(ws, 0, used, 0);
             Verdict::Refused(22, p)

@@ -11,7 +11,10 @@ ghost use Rattle.tree.specs.File.{usedNodes};
 ghost use Rattle.tree.specs.Order.{allRangeChecks};
 ghost use Rattle.tree.specs.Outcome.{workspaceAfter};
 ghost use Rattle.tree.specs.inner.Marking.{TreeReady, Free, Reached, MarkedOne};
+use layout::NODE_SIZE;
+use nodes::fields;
 use region::Region;
+use region::SEGMENT_HEADER;
 use verdict::Verdict;
 
 // Whether none of the n nodes from number i on is the root or is marked.
@@ -61,21 +64,21 @@ fn mark_node(
     requires { ⌜ Reached (now b) p ⌝ }
     ensures { λ r. ⌜ MarkedOne (now (b .entry)) p (now (ws .entry)) r (now (ws .exit)) ⌝ }
 {
-    if le::u16_at(b, p) == 0 {
+    if fields::node_name(b, p) == 0 {
         return true;
     }
-    let n = le::u16_at(b, p + 6);
+    let n = fields::child_field(b, p);
     if n == 0 {
         return true;
     }
     let i = region::number(
         b,
         nodes,
-        24,
+        NODE_SIZE,
         segments,
         counts,
-        le::u16_at(b, p + 16),
-        le::u16_at(b, p + 18),
+        fields::child_segment(b, p),
+        fields::child_element(b, p),
     );
     if !range_free(ws, i, n) {
         return false;
@@ -100,20 +103,21 @@ pub fn mark_nodes(
 {
     set_range(ws, 0, used, 0);
     let mut fault = Verdict::Accepted;
-    let mut at = nodes.at + 4;
+    let mut at = region::first_start(nodes);
     let mut seg = 0;
     'segments: while seg < nodes.count {
-        let n = le::u32_at(b, at + 4);
+        let n = region::used_count(b, at);
+        let mut p = at + SEGMENT_HEADER;
         let mut el = 0;
         while el < n {
-            let p = at + 8 + el * 24;
             if !mark_node(b, nodes, segments, counts, p, ws) {
                 fault = Verdict::Refused(21, p);
                 break 'segments;
             }
+            p += NODE_SIZE;
             el += 1;
         }
-        at = at + 8 + le::u32_at(b, at) * 24;
+        at = region::next_start(b, at, NODE_SIZE);
         seg += 1;
     }
     if let Verdict::Refused(_, _) = fault {

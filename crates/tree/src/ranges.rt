@@ -1,10 +1,14 @@
 // A node's child range, as the walks down the tree find it.
-ghost use Prim.Native.Nat.{_+_, _≤_};
+ghost use mathlib.Core.Path.{_≡_};
+ghost use Prim.Native.Nat.{_+_, _≤_, _<_, _^_};
 ghost use lib.ListN.{length};
 ghost use Rattle.tree.specs.inner.Marking.{TreeReady, Reached};
 ghost use Rattle.tree.specs.inner.Children.{ChildrenOf};
+use layout::NODE_SIZE;
+use nodes::fields;
 use region::Place;
 use region::Region;
+use region::SEGMENT_HEADER;
 
 // The number of the first, where it stands, and how many they are.
 pub struct Children {
@@ -13,27 +17,35 @@ pub struct Children {
     pub count: usize,
 }
 
+// Where the root stands: it is the first node of the first segment.
+pub fn root_at(nodes: Region) -> usize
+    requires { ⌜ nodes .at < 2 ^ 32 ⌝ }
+    ensures { λ p. ⌜ p ≡ nodes .at + 12 ⌝ }
+{
+    region::first_start(nodes) + SEGMENT_HEADER
+}
+
 // The children of the node at p; a nameless node has none.
 pub fn children_of(b: &[u8], nodes: Region, segments: &[u32; 1024], p: usize) -> Children
     requires { ⌜ TreeReady (now b) nodes (now segments) × Reached (now b) p × (p + 24 ≤ length (now b)) ⌝ }
     ensures { λ r. ⌜ ChildrenOf (now (b .entry)) p r ⌝ }
 {
-    let seg = le::u16_at(b, p + 16);
-    let el = le::u16_at(b, p + 18);
+    let seg = fields::child_segment(b, p);
+    let el = fields::child_element(b, p);
     let first = seg * 65536 + el;
     let none = Children {
         first,
         place: 0,
         count: 0,
     };
-    if le::u16_at(b, p) == 0 {
+    if fields::node_name(b, p) == 0 {
         return none;
     }
-    let count = le::u16_at(b, p + 6);
+    let count = fields::child_field(b, p);
     if count == 0 {
         return none;
     }
-    let Place::At(place) = region::range_at(b, nodes, 24, segments, seg, el, count) else {
+    let Place::At(place) = region::range_at(b, nodes, NODE_SIZE, segments, seg, el, count) else {
         return none;
     };
     Children {

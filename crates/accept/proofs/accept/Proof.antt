@@ -11,16 +11,16 @@ returns c =
     let s = layout-refused _ _ (k .answer) (c .enum-told .given .1) in
     (record { answer = s .0; view = λ a. absurd (never (c .enum-told .given .1) a) }, s .1)
 
-judge-requires : tie.Need-judge-requires
-judge-requires c κs = c .before .before .before .before .check-layout .ensures .view (c .before .enum-told2 .given .1)
+check-contents-requires : tie.Need-check-contents-requires
+check-contents-requires c κs = c .before .before .before .before .check-layout .ensures .view (c .before .enum-told2 .given .1)
 
 returns-2 : tie.Need-returns-2
 returns-2 c =
     let k = c .before .before .before .before .before .before .before .check-layout .ensures in
-    let j = c .before .before .judge .ensures in
+    let j = c .before .before .check-contents .ensures in
     (record { answer = j .0; view = λ a. k .view (c .before .before .before .before .enum-told2 .given .1) }, j .1)
 
 pub accept-spec : {M : Type 1} → statement M
 accept-spec =
     tie.close
-    (tie.spec (λ c κs. search needs) (λ c. search needs) returns (λ c. search needs) judge-requires (λ c. search needs) returns-2)
+    (tie.spec (λ c κs. search needs) (λ c. search needs) returns (λ c. search needs) check-contents-requires (λ c. search needs) returns-2)

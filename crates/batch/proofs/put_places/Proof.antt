@@ -13,17 +13,17 @@ use Rattle.batch.proofs.put_places.Statement.{statement}
 use Rattle.batch.proofs.put_places.Tie as tie
 
 abbrev Inv-loop2 : tie.InvT-loop2
-Inv-loop2 b t s segments buckets kind texts answers₀ lengths hashes low text told i₀ at₀ n j₀ answers i at j = Going (toldIn kind (heldTable b s buckets)) texts answers₀ i₀ at₀ n lengths hashes j answers i at
+Inv-loop2 b t s segments buckets kind texts answers₀ lengths hashes low text results i₀ at₀ n j₀ answers i at j = Going (toldIn kind (heldTable b s buckets)) texts answers₀ i₀ at₀ n lengths hashes j answers i at
 
 abbrev μ-loop2 : tie.MeasureT-loop2
-μ-loop2 b t s segments buckets kind texts answers₀ lengths hashes low text told i₀ at₀ n j₀ answers i at j = n - j
+μ-loop2 b t s segments buckets kind texts answers₀ lengths hashes low text results i₀ at₀ n j₀ answers i at j = n - j
 
 abbrev Inv-loop : tie.InvT-loop
-Inv-loop b t s segments buckets kind texts answers₀ lengths₀ hashes₀ low₀ text₀ told₀ i₀ at₀ answers lengths hashes low text told i at =
-    Writing (toldIn kind (heldTable b s buckets)) texts answers₀ i at answers × Lengths lengths hashes low × (length text ≡ 64) × (length told ≡ 64)
+Inv-loop b t s segments buckets kind texts answers₀ lengths₀ hashes₀ low₀ text₀ results₀ i₀ at₀ answers lengths hashes low text results i at =
+    Writing (toldIn kind (heldTable b s buckets)) texts answers₀ i at answers × Lengths lengths hashes low × (length text ≡ 64) × (length results ≡ 64)
 
 abbrev μ-loop : tie.MeasureT-loop
-μ-loop b t s segments buckets kind texts answers₀ lengths₀ hashes₀ low₀ text₀ told₀ i₀ at₀ answers lengths hashes low text told i at = length texts - at
+μ-loop b t s segments buckets kind texts answers₀ lengths₀ hashes₀ low₀ text₀ results₀ i₀ at₀ answers lengths hashes low text results i at = length texts - at
 
 loop-holds : tie.Need-loop-holds Inv-loop2 μ-loop2 Inv-loop μ-loop
 loop-holds c = (writing-start _ _ _ (c .before .before .before .before .pre .1 .1), search needs, search needs, search needs)
@@ -48,7 +48,7 @@ loop-again : tie.Need-loop-again Inv-loop2 μ-loop2 Inv-loop μ-loop
 loop-again c =
     let g = c .before .loop2 .inv in
     let e = c .before .before .bring-near .ensures in
-    (g .kept _ (c .before .before .before .before .before .before .before .before .before .before .before .before .loop .inv .0), record { first = g .group .lengths-long; second = g .group .hashes-long; third = e .0 .long }, e .1 .text-long, e .1 .told-long)
+    (g .kept _ (c .before .before .before .before .before .before .before .before .before .before .before .before .loop .inv .0), record { first = g .group .lengths-long; second = g .group .hashes-long; third = e .0 .long }, e .1 .text-long, e .1 .results-long)
 
 find-picked-requires : tie.Need-find-picked-requires Inv-loop2 μ-loop2 Inv-loop μ-loop
 find-picked-requires c κs = let p = c .before .before .before .before .before .before .before .before .before .before .before .before .before .before .before .before .before .before .pre .0 in

@@ -6,7 +6,7 @@ use lib.ListN.{length, getD}
 use Rattle.hash.specs.Hash.{hashText, bucketOf}
 use Rattle.text.specs.Text.{textIn}
 use Rattle.layout.specs.Table.{Table}
-use Rattle.search.specs.inner.Lower.{Lower}
+use Rattle.search.specs.inner.LowerBound.{LowerBound}
 use Rattle.lookup.specs.inner.PickedEntry.{PickedEntry}
 use Rattle.lookup.specs.declared.Kind.{Kind}
 
@@ -31,7 +31,7 @@ pub record Group (texts : List ℕ) (at n : ℕ) (lengths hashes : List ℕ) : T
 -- The low half of each of the first n is where its hash stands in its bucket, or would.
 pub record AllNear (t : Table) (hashes : List ℕ) (n : ℕ) (low : List ℕ) : Type 0 where
   pub long : length low ≡ 64
-  pub each : (j : ℕ) → j < n → Lower t (bucketOf (t .buckets) (getD hashes j 0)) (getD hashes j 0) (getD low j 0 % 4294967296)
+  pub each : (j : ℕ) → j < n → LowerBound t (bucketOf (t .buckets) (getD hashes j 0)) (getD hashes j 0) (getD low j 0 % 4294967296)
 
 -- A character of the file stands at each of the first n offsets of two lists.
 pub record Texts (b : List ℕ) (n : ℕ) (first later : List ℕ) : Type 0 where
@@ -41,10 +41,10 @@ pub record Texts (b : List ℕ) (n : ℕ) (first later : List ℕ) : Type 0 wher
   pub later-in : (j : ℕ) → j < n → getD later j 0 + 2 ≤ length b
 
 -- For each of the first n either nothing is picked, which is 0, or an entry that bears as many characters as its text has.
-pub record Picked (kind : Kind) (t : Table) (lengths : List ℕ) (n : ℕ) (text told : List ℕ) : Type 0 where
+pub record Picked (kind : Kind) (t : Table) (lengths : List ℕ) (n : ℕ) (text results : List ℕ) : Type 0 where
   pub text-long : length text ≡ 64
-  pub told-long : length told ≡ 64
-  pub each : (j : ℕ) → j < n → (getD text j 0 ≡ 0 → ⊥) → PickedEntry kind t (getD lengths j 0) (getD text j 0) (getD told j 0)
+  pub results-long : length results ≡ 64
+  pub each : (j : ℕ) → j < n → (getD text j 0 ≡ 0 → ⊥) → PickedEntry kind t (getD lengths j 0) (getD text j 0) (getD results j 0)
 
 -- The low halves of two lists are the same.
 pub record SameLow (a b : List ℕ) : Type 0 where

@@ -22,7 +22,7 @@ entry-at-requires : tie.Need-entry-at-requires Inv-loop μ-loop
 entry-at-requires c κs = let i = c .before .loop .inv in (c .before .before .before .before .before .before .before .pre .0 .0, here-in _ _ _ _ (i .bucket) (i .many) (c .loop-test .taken))
 
 returns : tie.Need-returns Inv-loop μ-loop
-returns c = searched-over _ _ _ _ _ _ (c .before .before .before .before .loop .inv) (c .before .before .before .before .before .before .before .before .before .before .pre .0 .1) _ (c .before .before .before .loop-test .taken) (hash-at _ _ _ _ _ (c .before .before .entry-at .ensures .0) (c .before .u32-at .ensures .0)) (c .if1 .taken)
+returns c = searched-over _ _ _ _ _ _ (c .before .before .before .before .loop .inv) (c .before .before .before .before .before .before .before .before .before .before .pre .0 .1) _ (c .before .before .before .loop-test .taken) (hash-at _ _ _ _ _ (c .before .before .entry-at .ensures .0) (c .before .hash .ensures .0)) (c .if1 .taken)
 
 entry-bears-requires : tie.Need-entry-bears-requires Inv-loop μ-loop
 entry-bears-requires c κs = let s = c .before .before .before .before .before .before .before .before .before .before in

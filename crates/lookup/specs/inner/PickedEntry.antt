@@ -16,4 +16,4 @@ pub record PickedEntry (kind : Kind) (t : Table) (n p w : ℕ) : Type 0 where
   pub here : Here t bucket entry
   pub fits : p + 2 * n ≤ length (t .bytes)
   pub text : textOf t bucket entry ≡ chars (t .bytes) p n
-  pub told : w ≡ tellsAt kind (t .bytes) (entryAt t bucket entry)
+  pub result : w ≡ tellsAt kind (t .bytes) (entryAt t bucket entry)

@@ -8,7 +8,6 @@ use Rattle.layout.specs.Table.{count}
 use Rattle.strings.specs.inner.Held.{heldTable}
 use Rattle.strings.specs.Order.{allPositionChecks}
 use Rattle.strings.proofs.Places.{list-is}
-use Rattle.positions.proofs.Listed.{listed-is}
 use Rattle.positions.proofs.Laws.{positionsLeft, left-start, left-more, left-stop, left-none}
 use Rattle.positions.proofs.Enough.{enough}
 use Rattle.positions.proofs.check_positions.Statement.{statement}
@@ -35,7 +34,7 @@ carried-requires c κs = let p = c .before .before .before .before .before .befo
 
 returns-2 : tie.Need-returns-2 Inv-loop μ-loop
 returns-2 c = let l = c .before .before .before .before .loop .inv in
-    sym (l .2 ∙ left-stop _ _ _ (omega (arith, l .1)) (listed-is _ _ _ _ (c .before .before .before .before .before .before .before .before .before .before .pre .1) _)
+    sym (l .2 ∙ left-stop _ _ _ (omega (arith, l .1)) (c .position-at .ensures .0)
     (c .before .before .carried .ensures .not (not-true _ (c .before .if2 .taken))))
 
 loop-again : tie.Need-loop-again Inv-loop μ-loop
@@ -49,4 +48,4 @@ pub check-positions-spec : {M : Type 1} → statement M
 check-positions-spec =
     tie.close
     (tie.spec Inv-loop μ-loop (λ c κs. search needs) (λ c κs. search needs) (λ c. search needs) returns loop-holds carried-requires
-    (λ c. search needs) (λ c. search needs) returns-2 (λ c. search needs) (λ c. search needs) loop-again returns-3)
+    (λ c κs. search needs) returns-2 (λ c. search needs) (λ c. search needs) loop-again returns-3)

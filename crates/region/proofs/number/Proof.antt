@@ -62,11 +62,8 @@ element-copy-out-wide-2 c = element-copy-out-wide (c .before .before)
 loop-holds : tie.Need-loop-holds Inv-loop μ-loop
 loop-holds c = (mask-le (c .before .before .before .before .before .before .before .pre .0 .0 .stride) _, λ at h. h)
 
-add-u32-at : tie.Need-add-u32-at Inv-loop μ-loop
-add-u32-at c = record { fits = omega (arith, fits c) }
-
-u32-at-requires : tie.Need-u32-at-requires Inv-loop μ-loop
-u32-at-requires c κs = omega (arith, fits c)
+used-count-requires : tie.Need-used-count-requires Inv-loop μ-loop
+used-count-requires c κs = omega (arith, fits c)
 
 add-n : tie.Need-add-n Inv-loop μ-loop
 add-n c = record { fits = omega (arith, low (c .before .before)) }
@@ -80,7 +77,7 @@ loop-again c = (
   λ at h.
       let q = c .before .before .before .loop .inv .1 at h in (
         start-more _ _ at _ _ _ _ (omega arith) (q .0) (c .next-start .ensures),
-        before-more _ _ at _ _ _ _ _ (omega arith) (q .0) (q .1) (c .before .u32-at .ensures .0),
+        before-more _ _ at _ _ _ _ _ (omega arith) (q .0) (q .1) (c .before .used-count .ensures .0),
       ),
 )
 
@@ -98,5 +95,5 @@ pub number-spec : {M : Type 1} → statement M
 number-spec =
     tie.close
     (tie.spec Inv-loop μ-loop (λ c. search needs) shr-k mul-wide element-copy-out-wide (λ c κs. search needs) mul-wide-2
-    element-copy-out-wide-2 (λ c κs. search needs) loop-holds add-u32-at u32-at-requires add-n next-start-requires (λ c. search needs)
+    element-copy-out-wide-2 (λ c κs. search needs) loop-holds used-count-requires add-n next-start-requires (λ c. search needs)
     (λ c. search needs) loop-again add-result returns)

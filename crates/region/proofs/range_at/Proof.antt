@@ -18,15 +18,12 @@ fits c = let s = c .before .before .before .before in segment-fits _ _ _ (s .pre
 returns : tie.Need-returns
 returns c = let s = c .before .before .before in sym (range-at-no _ _ _ _ _ _ (λ h. omega (arith, h .seg-in, s .pre .0 .0 .count-is)))
 
-add-u32-at : tie.Need-add-u32-at
-add-u32-at c = record { fits = omega (arith, fits c) }
-
-u32-at-requires : tie.Need-u32-at-requires
-u32-at-requires c κs = omega (arith, fits c)
+used-count-requires : tie.Need-used-count-requires
+used-count-requires c κs = omega (arith, fits c)
 
 returns-2 : tie.Need-returns-2
 returns-2 c =
-    let u = used-at _ _ _ _ _ _ (c .before .before .locate .ensures) (c .before .u32-at .ensures .0) in
+    let u = used-at _ _ _ _ _ _ (c .before .before .locate .ensures) (c .before .used-count .ensures .0) in
     sym (range-at-no _ _ _ _ _ _ (λ h. omega (arith, h .els-in)))
 
 add-t10 : tie.Need-add-t10
@@ -44,11 +41,11 @@ add-t12 c =
 returns-3 : tie.Need-returns-3
 returns-3 c =
     let s = c .before .before .before .before .before .before in
-    let u = used-at _ _ _ _ _ _ (c .before .before .locate .ensures) (c .before .u32-at .ensures .0) in
+    let u = used-at _ _ _ _ _ _ (c .before .before .locate .ensures) (c .before .used-count .ensures .0) in
     ap At (place-at _ _ _ _ _ (s .args .el) (c .before .before .locate .ensures))
     ∙ sym (range-at-yes _ _ _ _ _ _ (record { seg-in = omega (arith, s .pre .0 .0 .count-is); els-in = omega arith }))
 
 pub range-at-spec : {M : Type 1} → statement M
 range-at-spec =
     tie.close
-    (tie.spec returns (λ c κs. search needs) (λ c. search needs) add-u32-at u32-at-requires returns-2 add-t10 mul-t11 add-t12 returns-3)
+    (tie.spec returns (λ c κs. search needs) (λ c. search needs) used-count-requires returns-2 add-t10 mul-t11 add-t12 returns-3)

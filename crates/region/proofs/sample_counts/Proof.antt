@@ -2,7 +2,7 @@
 use Prim.Native.Nat.{_+_, _-_, _*_, _^_, _≤_, _<_}
 use borrow.Author.Needs.{needs}
 use native.Mathlib.Omega.{arith}
-use mathlib.Core.Path.{_≡_, refl}
+use mathlib.Core.Path.{_≡_, refl, _∙_}
 use mathlib.Core.Logic.{inl, inr, ⊎-elim}
 use lib.ListN.{length}
 use Rattle.le.specs.Le.{u32At}
@@ -28,7 +28,7 @@ low : (c : tie.Then1 Inv-loop μ-loop) → c .before .before .loop .n < 2 ^ 32
 low c = let l = c .before .before .loop in count-low _ _ _ (c .before .before .before .before .before .pre .0) (l .s) _ (l .inv .0) (l .inv .2)
 
 loop-holds : tie.Need-loop-holds Inv-loop μ-loop
-loop-holds c = (omega arith, start-zero _ _ _, before-zero _ _ _, sampled-none _ _ _, c .before .before .pre .1)
+loop-holds c = (omega arith, c .first-start .ensures ∙ start-zero _ _ _, before-zero _ _ _, sampled-none _ _ _, c .before .before .pre .1)
 
 cast-counts : tie.Need-cast-counts Inv-loop μ-loop
 cast-counts c = record { fits = low (c .before) }
@@ -44,11 +44,8 @@ mul-counts c =
 element-write-counts : tie.Need-element-write-counts Inv-loop μ-loop
 element-write-counts c = sample-in (c .before .before .before .before .before .before .before .pre .0 .stride) _ (c .before .before .if1 .taken)
 
-add-u32-at : tie.Need-add-u32-at Inv-loop μ-loop
-add-u32-at c = record { fits = omega (arith, fits (c .before)) }
-
-u32-at-requires : tie.Need-u32-at-requires Inv-loop μ-loop
-u32-at-requires c κs = omega (arith, fits (c .before))
+used-count-requires : tie.Need-used-count-requires Inv-loop μ-loop
+used-count-requires c κs = omega (arith, fits (c .before))
 
 add-n : tie.Need-add-n Inv-loop μ-loop
 add-n c = record { fits = omega (arith, low (c .before .before)) }
@@ -64,7 +61,7 @@ loop-again c =
     (⊎-elim (λ w. inl (w .0 .taken, w .2)) (λ w. inr (w .0 .left, w .1)) (c .before .before .if2 .came)) in (
       omega arith,
       start-more _ _ _ (l .s) _ _ _ refl (l .inv .1) (c .next-start .ensures),
-      before-more _ _ _ (l .s) _ _ _ _ refl (l .inv .1) (l .inv .2) (c .before .u32-at .ensures .0),
+      before-more _ _ _ (l .s) _ _ _ _ refl (l .inv .1) (l .inv .2) (c .before .used-count .ensures .0),
       t .0,
       t .1,
     )
@@ -81,4 +78,4 @@ pub sample-counts-spec : {M : Type 1} → statement M
 sample-counts-spec =
     tie.close
     (tie.spec Inv-loop μ-loop (λ c. search needs) loop-holds cast-counts (λ c. search needs) shr-counts mul-counts element-write-counts
-    add-u32-at u32-at-requires add-n next-start-requires (λ c. search needs) (λ c. search needs) loop-again returns)
+    used-count-requires add-n next-start-requires (λ c. search needs) (λ c. search needs) loop-again returns)

@@ -2,7 +2,7 @@
 use Prim.Native.Nat.{_+_, _-_, _*_, _^_, _≤_}
 use borrow.Author.Needs.{needs}
 use native.Mathlib.Omega.{arith}
-use mathlib.Core.Path.{_≡_, refl}
+use mathlib.Core.Path.{_≡_, refl, _∙_}
 use mathlib.Core.Logic.{inl, inr, ⊎-elim}
 use lib.ListN.{length}
 use Rattle.le.specs.Le.{u32At}
@@ -25,7 +25,7 @@ fits : (c : tie.Then1 Inv-loop μ-loop)
 fits c = let l = c .before .before .loop in segment-fits _ _ _ (c .before .before .before .before .before .pre .0) (l .s) _ (c .if1 .taken) (l .inv .1)
 
 loop-holds : tie.Need-loop-holds Inv-loop μ-loop
-loop-holds c = (omega arith, start-zero _ _ _, sampled-none _ _ _, c .before .before .pre .1)
+loop-holds c = (omega arith, c .first-start .ensures ∙ start-zero _ _ _, sampled-none _ _ _, c .before .before .pre .1)
 
 cast-segments : tie.Need-cast-segments Inv-loop μ-loop
 cast-segments c = record { fits = omega (arith, fits (c .before), c .before .before .before .before .before .before .pre .0 .short) }

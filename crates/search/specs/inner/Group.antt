@@ -6,12 +6,12 @@ use mathlib.Core.List.{List}
 use lib.ListN.{length, getD, set}
 use Rattle.hash.specs.Hash.{bucketOf}
 use Rattle.layout.specs.Table.{Table}
-use Rattle.search.specs.inner.Lower.{Lower, Near, Searching}
+use Rattle.search.specs.inner.LowerBound.{LowerBound, Near, Searching}
 
 -- Each of the first n hashes stands at its place in its bucket, or would.
-pub record AllLow (t : Table) (hashes : List ℕ) (n : ℕ) (low : List ℕ) : Type 0 where
+pub record LowerBounds (t : Table) (hashes : List ℕ) (n : ℕ) (low : List ℕ) : Type 0 where
   pub long : length low ≡ 64
-  pub each : (j : ℕ) → j < n → Lower t (bucketOf (t .buckets) (getD hashes j 0)) (getD hashes j 0) (getD low j 0)
+  pub each : (j : ℕ) → j < n → LowerBound t (bucketOf (t .buckets) (getD hashes j 0)) (getD hashes j 0) (getD low j 0)
 
 -- How far the search of hash j has come, in its bucket.
 abbrev pub SearchingAt : Table → List ℕ → ℕ → ℕ → ℕ → Type 0
@@ -66,9 +66,9 @@ pub record Within (b : List ℕ) (n : ℕ) (at : List ℕ) : Type 0 where
   pub long : length at ≡ 64
   pub each : (j : ℕ) → j < n → getD at j 0 + 4 ≤ length b
 
--- A guess for each, and an offset to look at.
-pub record Aimed (b : List ℕ) (n : ℕ) (guess at : List ℕ) : Type 0 where
-  pub guesses : length guess ≡ 64
+-- A estimate for each, and an offset to look at.
+pub record Estimated (b : List ℕ) (n : ℕ) (estimate at : List ℕ) : Type 0 where
+  pub estimates : length estimate ≡ 64
   pub within : Within b n at
 
 -- Three arrays have the length of a group.

@@ -27,7 +27,7 @@ abbrev pub Seen : List ℕ → ℕ → ℕ → ℕ → Type 0
 Seen b p n c = 0 < n → c % 65536 ≡ u16At b (p - 2)
 
 -- Both, of entry j of bucket k.
-pub record Glanced (t : Table) (k j p n c : ℕ) : Type 0 where
+pub record Prefetched (t : Table) (k j p n c : ℕ) : Type 0 where
   pub standing : Standing t k j p n
   pub before : Seen (t .bytes) p n c
 
@@ -51,7 +51,7 @@ pub record Room (at left seen : List ℕ) : Type 0 where
 -- 64 entries of bucket k from j on, as far as there are so many.
 pub record ReadAhead (t : Table) (k j : ℕ) (at left seen : List ℕ) : Type 0 where
   pub room : Room at left seen
-  pub glanced : (i : ℕ) → i < 64 → j + i < entries t k → Glanced t k (j + i) (getD at i 0) (getD left i 0) (getD seen i 0)
+  pub prefetched : (i : ℕ) → i < 64 → j + i < entries t k → Prefetched t k (j + i) (getD at i 0) (getD left i 0) (getD seen i 0)
 
 -- Those from the multiple of 64 up to j on, unless j is that multiple: then they are still to be read.
 pub record Ahead (t : Table) (k j : ℕ) (at left seen : List ℕ) : Type 0 where

@@ -34,7 +34,7 @@ pub record TextPasses (t : Table) (k j : ℕ) : Type 0 where
   pub sized : Sized t k j
   pub hashed : Hashed t k j
 
--- The texts of the entries of a bucket up to j are right, and their hashes in order: what the test for a twin asks.
+-- The texts of the entries of a bucket up to j are right, and their hashes in order: what the test for a duplicate asks.
 pub record Sorted (t : Table) (k j : ℕ) : Type 0 where
   pub right : (i : ℕ) → i ≤ j → TextPasses t k i
   pub ascends : (i : ℕ) → i ≤ j → hashOf t k (i - 1) ≤ hashOf t k i

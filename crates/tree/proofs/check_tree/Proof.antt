@@ -22,7 +22,7 @@ returns-2 c = let m = c .before .before .before .before .before .mark-nodes .ens
 find-deep-requires : tie.Need-find-deep-requires
 find-deep-requires c κs =
     let s = c .before .before .before .before .before .before .before .before .before .before in
-    (s .pre .0, rules-hold (s .pre .0) .root, root-place (s .args .b .now) _ (s .pre .0 .nodes .at-is), omega arith)
+    (s .pre .0, rules-hold (s .pre .0) .root, root-place _ _ _ (c .root-at .ensures) (s .pre .0 .nodes .at-is), omega arith)
 
 returns-3 : tie.Need-returns-3
 returns-3 c =

@@ -9,10 +9,10 @@ use Rattle.batch.proofs.group.pick_each.Statement.{statement}
 use Rattle.batch.proofs.group.pick_each.Tie as tie
 
 abbrev Inv-loop : tie.InvT-loop
-Inv-loop b s segments buckets kind lengths hashes low n text₀ end₀ told₀ j₀ text end told j = Texts b j text end × Picked kind (heldTable b s buckets) lengths j text told
+Inv-loop b s segments buckets kind lengths hashes low n text₀ end₀ results₀ j₀ text end results j = Texts b j text end × Picked kind (heldTable b s buckets) lengths j text results
 
 abbrev μ-loop : tie.MeasureT-loop
-μ-loop b s segments buckets kind lengths hashes low n text₀ end₀ told₀ j₀ text end told j = n - j
+μ-loop b s segments buckets kind lengths hashes low n text₀ end₀ results₀ j₀ text end results j = n - j
 
 loop-holds : tie.Need-loop-holds Inv-loop μ-loop
 loop-holds c = let p = c .before .before .pre .4 in (texts-none _ _ _ (p .first) (p .second), picked-none _ _ _ _ _ (p .first) (p .third))

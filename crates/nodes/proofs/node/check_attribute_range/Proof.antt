@@ -9,20 +9,20 @@ use Rattle.nodes.proofs.Ways.{attribute-count, attributes-sought, attri
 use Rattle.nodes.proofs.node.check_attribute_range.Statement.{statement}
 use Rattle.nodes.proofs.node.check_attribute_range.Tie as tie
 
-count : (c : tie.After-u16-at) → let a = c .before .before .before .args in c .u16-at .result ≡ attributeCount (a .b .now) (a .x)
-count c = attribute-count _ _ (c .before .before .before .pre .1 .3) _ (c .u16-at .ensures .0)
+count : (c : tie.After-attribute-field) → let a = c .before .before .before .args in c .attribute-field .result ≡ attributeCount (a .b .now) (a .x)
+count c = attribute-count _ _ (c .before .before .before .pre .1 .3) _ (c .attribute-field .ensures .0)
 
 range : (c : tie.After-range-at)
     → let a = c .before .before .before .before .before .before .before .args in
-    c .range-at .result ≡ rangeAt attributeSize (a .b .now) (attributesAt (a .b .now)) (attributeSegment (a .b .now) (a .x)) (attributeElement (a .b .now) (a .x)) (c .before .before .before .before .u16-at .result)
-range c = attributes-sought _ _ _ _ (c .before .before .before .before .before .before .before .pre .1 .0) _ _ (c .before .before .u16-at2 .ensures .0) (c .before .u16-at3 .ensures .0) _ (c .range-at .ensures)
+    c .range-at .result ≡ rangeAt attributeSize (a .b .now) (attributesAt (a .b .now)) (attributeSegment (a .b .now) (a .x)) (attributeElement (a .b .now) (a .x)) (c .before .before .before .before .attribute-field .result)
+range c = attributes-sought _ _ _ _ (c .before .before .before .before .before .before .before .pre .1 .0) _ _ (c .before .before .attribute-segment .ensures .0) (c .before .attribute-element .ensures .0) _ (c .range-at .ensures)
 
 returns : tie.Need-returns
 returns c = (range-none _ _ _ (count (c .before)) (c .if1 .taken), c .before .before .before .before .pre .1 .6)
 
 range-at-requires : tie.Need-range-at-requires
 unfolding attributeSize
-range-at-requires c κs = let p = c .before .before .before .before .before .before .pre .1 in (lent (p .0) (p .1), (c .u16-at3 .ensures .1, c .before .before .before .u16-at .ensures .1))
+range-at-requires c κs = let p = c .before .before .before .before .before .before .pre .1 in (lent (p .0) (p .1), (c .attribute-element .ensures .1, c .before .before .before .attribute-field .ensures .1))
 
 check-attributes-requires : tie.Need-check-attributes-requires
 check-attributes-requires c κs = let p = c .before .before .before .before .before .before .before .before .before .before .before .pre .1 in
@@ -40,5 +40,4 @@ returns-3 c = (range-nowhere _ _ _ (count (c .before .before .before .before .be
 pub check-attribute-range-spec : {M : Type 1} → statement M
 check-attribute-range-spec =
     tie.close
-    (tie.spec (λ c. search needs) (λ c κs. search needs) returns (λ c. search needs) (λ c κs. search needs) (λ c. search needs)
-    (λ c κs. search needs) range-at-requires (λ c. search needs) check-attributes-requires (λ c. search needs) returns-2 returns-3)
+    (tie.spec (λ c κs. search needs) returns (λ c κs. search needs) (λ c κs. search needs) range-at-requires (λ c. search needs) check-attributes-requires (λ c. search needs) returns-2 returns-3)

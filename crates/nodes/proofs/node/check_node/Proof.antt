@@ -18,7 +18,7 @@ rule : (c : tie.Else1) → let a = c .before .before .before .before .args in No
 rule c = c .before .node-right .ensures .so (not-false _ (c .if1 .left))
 
 live : (c : tie.Else2) → let a = c .before .before .before .before .before .before .args in Live (a .b .now) (a .x)
-live c = live-node _ _ _ (c .before .u16-at .ensures .0) (c .if2 .left)
+live c = live-node _ _ _ (c .before .node-name .ensures .0) (c .if2 .left)
 
 node-right-requires : tie.Need-node-right-requires
 node-right-requires c κs = let s = c .before .before in (s .pre .1 .known, s .pre .1 .placed .keys, s .pre .3, fits s)
@@ -26,11 +26,11 @@ node-right-requires c κs = let s = c .before .before in (s .pre .1 .known, s .p
 returns : tie.Need-returns
 returns c = let p = c .before .before .before .before .pre in (refused-16 _ _ _ _ (p .3) (c .before .node-right .ensures .not (not-true _ (c .if1 .taken))), p .6)
 
-u16-at-requires : tie.Need-u16-at-requires
-u16-at-requires c κs = omega (arith, fits (c .before .before .before .before))
+node-name-requires : tie.Need-node-name-requires
+node-name-requires c κs = omega (arith, fits (c .before .before .before .before))
 
 returns-2 : tie.Need-returns-2
-returns-2 c = let p = c .before .before .before .before .before .before .pre in (nameless-passes _ _ _ _ (p .3) (rule (c .before .before)) _ (c .before .u16-at .ensures .0) (c .if2 .taken), p .6)
+returns-2 c = let p = c .before .before .before .before .before .before .pre in (nameless-passes _ _ _ _ (p .3) (rule (c .before .before)) _ (c .before .node-name .ensures .0) (c .if2 .taken), p .6)
 
 check-attribute-range-requires : tie.Need-check-attribute-range-requires
 unfolding valueStrings
@@ -56,5 +56,5 @@ returns-5 c = let w = c .before .before .before .before .check-attribute-range .
 pub check-node-spec : {M : Type 1} → statement M
 check-node-spec =
     tie.close
-    (tie.spec node-right-requires returns u16-at-requires returns-2 check-attribute-range-requires (λ c. search needs) returns-3
+    (tie.spec node-right-requires returns node-name-requires returns-2 check-attribute-range-requires (λ c. search needs) returns-3
     (λ c. search needs) children-right-requires returns-4 returns-5)

@@ -9,20 +9,20 @@ use Rattle.nodes.proofs.Ways.{child-count}
 use Rattle.nodes.proofs.node.children_right.Statement.{statement}
 use Rattle.nodes.proofs.node.children_right.Tie as tie
 
-count : (c : tie.After-u16-at) → let a = c .before .before .args in c .u16-at .result ≡ childCount (a .b .now) (a .p)
-count c = child-count _ _ (c .before .before .pre .1 .1) _ (c .u16-at .ensures .0)
+count : (c : tie.After-child-field) → let a = c .before .before .args in c .child-field .result ≡ childCount (a .b .now) (a .p)
+count c = child-count _ _ (c .before .before .pre .1 .1) _ (c .child-field .ensures .0)
 
 range : (c : tie.After-range-at)
     → let a = c .before .before .before .before .before .before .args in
-    c .range-at .result ≡ rangeAt nodeSize (a .b .now) (nodesAt (a .b .now)) (childSegment (a .b .now) (a .p)) (childElement (a .b .now) (a .p)) (c .before .before .before .before .u16-at .result)
-range c = children-sought _ _ _ _ (c .before .before .before .before .before .before .pre .0 .0) _ _ (c .before .before .u16-at2 .ensures .0) (c .before .u16-at3 .ensures .0) _ (c .range-at .ensures)
+    c .range-at .result ≡ rangeAt nodeSize (a .b .now) (nodesAt (a .b .now)) (childSegment (a .b .now) (a .p)) (childElement (a .b .now) (a .p)) (c .before .before .before .before .child-field .result)
+range c = children-sought _ _ _ _ (c .before .before .before .before .before .before .pre .0 .0) _ _ (c .before .before .child-segment .ensures .0) (c .before .child-element .ensures .0) _ (c .range-at .ensures)
 
 returns : tie.Need-returns
 returns c = children-none _ _ _ (count (c .before)) (c .if1 .taken)
 
 range-at-requires : tie.Need-range-at-requires
 unfolding nodeSize
-range-at-requires c κs = let w = c .before .before .before .before .before .pre .0 in (lent (w .0) (w .1), (c .u16-at3 .ensures .1, c .before .before .before .u16-at .ensures .1))
+range-at-requires c κs = let w = c .before .before .before .before .before .pre .0 in (lent (w .0) (w .1), (c .child-element .ensures .1, c .before .before .before .child-field .ensures .1))
 
 rising-requires : tie.Need-rising-requires
 rising-requires c κs = children-fit _ _ _ (count (c .before .before .before .before .before .before .before)) _ (range (c .before .before .before)) _ (c .before .r .given .1) (c .before .before .before .before .before .before .before .before .before .pre .0 .0 .laid)
@@ -36,5 +36,4 @@ returns-3 c = children-nowhere _ _ _ (count (c .before .before .before .before .
 pub children-right-spec : {M : Type 1} → statement M
 children-right-spec =
     tie.close
-    (tie.spec (λ c. search needs) (λ c κs. search needs) returns (λ c. search needs) (λ c κs. search needs) (λ c. search needs)
-    (λ c κs. search needs) range-at-requires (λ c. search needs) rising-requires (λ c. search needs) returns-2 returns-3)
+    (tie.spec (λ c κs. search needs) returns (λ c κs. search needs) (λ c κs. search needs) range-at-requires (λ c. search needs) rising-requires (λ c. search needs) returns-2 returns-3)

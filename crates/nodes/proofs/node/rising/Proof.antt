@@ -16,11 +16,11 @@ loop-holds : tie.Need-loop-holds Inv-loop μ-loop
 loop-holds c = (omega arith, climb-none _ _)
 
 returns : tie.Need-returns Inv-loop μ-loop
-returns c = climb-falls _ _ _ _ (c .before .before .before .before .loop .inv .1) _ (c .before .before .u16-at .ensures .0) _ (c .before .before .before .loop-test .taken) (c .before .if1 .taken) (c .if2 .taken)
+returns c = climb-falls _ _ _ _ (c .before .before .before .before .loop .inv .1) _ (c .before .before .node-name .ensures .0) _ (c .before .before .before .loop-test .taken) (c .before .if1 .taken) (c .if2 .taken)
 
 loop-again : tie.Need-loop-again Inv-loop μ-loop
 loop-again c = let h = c .before .before .before .loop .inv .1 in
-    let e = c .before .u16-at .ensures .0 in
+    let e = c .before .node-name .ensures .0 in
     (omega arith, ⊎-elim (λ w. rw (w .2) (climb-more _ _ _ _ h _ e (w .1 .left))) (λ w. rw (w .1) (climb-skip _ _ _ _ h _ e (w .0 .left))) (c .if1 .came))
 
 returns-2 : tie.Need-returns-2 Inv-loop μ-loop

@@ -21,7 +21,7 @@ use Rattle.outline.proofs.blocks.+write_node+write_range.Lts-write_node
 use Rattle.outline.proofs.blocks.write_range.Reads as write-range
 use Rattle.outline.proofs.blocks.write_range.Kinds as write-range-kinds
 use Rattle.outline.proofs.blocks.+write_node+write_range.Lts-write_range as write-range-lts
-use Rattle.le.proofs.u16_at.Reads as u16-at-reads
+use Rattle.nodes.proofs.fields.node_name.Reads as node-name-reads
 use Rattle.tree.proofs.ranges.children_of.Reads as children-of-reads
 use Rattle.outline.proofs.blocks.put_node.Reads as put-node-reads
 use Rattle.outline.proofs.blocks.+write_node+write_range.{statement}
@@ -54,7 +54,7 @@ write-node-callees t = (put-node-reads.Asked, put-node-reads.Learnt, write-range
 
 abbrev write-range-callees : ℕ → write-range-lts.Claims
 write-range-callees t =
-    (children-of-reads.Asked, children-of-reads.Learnt, u16-at-reads.Asked, u16-at-reads.Learnt, write-node-below t, write-node.Post)
+    (children-of-reads.Asked, children-of-reads.Learnt, node-name-reads.Asked, node-name-reads.Learnt, write-node-below t, write-node.Post)
 
 -- a buffer's length is a number of 64 bits
 write-node-room : (t : ℕ) (s : write-node-lts.Start (write-node-callees t) (write-node-at t) write-node.Post) → length (s .args .out .now) ≤ top
@@ -133,8 +133,8 @@ write-range-mul-c t c = search needs
 write-range-add-c : (t : ℕ) → write-range-lts.Need-add-c (write-range-callees t) (write-range-at t) write-range.Post write-range-Inv-loop write-range-μ-loop
 write-range-add-c t c = record { fits = omega (arith, write-range-there t (c .before)) }
 
-write-range-u16-at-requires : (t : ℕ) → write-range-lts.Need-u16-at-requires (write-range-callees t) (write-range-at t) write-range.Post write-range-Inv-loop write-range-μ-loop
-write-range-u16-at-requires t c κs = omega (arith, write-range-there t (c .before))
+write-range-node-name-requires : (t : ℕ) → write-range-lts.Need-node-name-requires (write-range-callees t) (write-range-at t) write-range.Post write-range-Inv-loop write-range-μ-loop
+write-range-node-name-requires t c κs = omega (arith, write-range-there t (c .before))
 
 write-range-add-write-node : (t : ℕ) → write-range-lts.Need-add-write-node (write-range-callees t) (write-range-at t) write-range.Post write-range-Inv-loop write-range-μ-loop
 write-range-add-write-node t c = search needs
@@ -146,7 +146,7 @@ write-range-write-node-requires t c κs =
     let p = s .pre .1 in
     let h = c .before .before .before .before .before .if1 .taken in
     let w = k .children-of .ensures .row .node (c .before .before .before .before .before .before .before .loop .j) (omega arith) in
-    let l = live-node _ _ _ (c .before .before .before .u16-at .ensures .0) (c .before .before .if2 .taken) in
+    let l = live-node _ _ _ (c .before .before .before .node-name .ensures .0) (c .before .before .if2 .taken) in
     (omega (arith, s .pre .0), (p .0, (w .0, w .1, l, p .1 .2)))
 
 write-range-add-j : (t : ℕ) → write-range-lts.Need-add-j (write-range-callees t) (write-range-at t) write-range.Post write-range-Inv-loop write-range-μ-loop
@@ -162,7 +162,7 @@ write-range-loop-again t c =
     let k = c .before .before .before .before .before .before in
     let h : l .j < k .children-of .result .count = omega arith in
     let p = k .before .before .before .pre .1 in
-    let n = child-name (tree-held (p .0)) (k .children-of .ensures) (l .j) h (c .before .u16-at .ensures .0) in (
+    let n = child-name (tree-held (p .0)) (k .children-of .ensures) (l .j) h (c .before .node-name .ensures .0) in (
       omega arith,
       let g = ranged-next _ _ _ (l .j) h in
           ⊎-elim
@@ -199,7 +199,7 @@ pub +write-node+write-range-spec : {M : Type 1} → statement M
     (write-range-loop-holds t)
     (write-range-mul-c t)
     (write-range-add-c t)
-    (write-range-u16-at-requires t)
+    (write-range-node-name-requires t)
     (write-range-add-write-node t)
     (write-range-write-node-requires t)
     (write-range-add-j t)

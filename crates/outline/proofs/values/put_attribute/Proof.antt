@@ -12,10 +12,10 @@ room : (s : tie.Start) → length (s .args .out .now) ≤ top
 room s = omega arith
 
 put-name-requires : tie.Need-put-name-requires
-put-name-requires c κs = let p = c .before .before .before .before .before .before .before .before .pre in let n = attribute-named _ _ (c .before .u16-at .ensures .0) (p .4) in (p .0, p .1, p .3, n .0, n .1)
+put-name-requires c κs = let p = c .before .before .before .before .before .before .before .before .pre in let n = attribute-named _ _ (c .before .attribute-name .ensures .0) (p .4) in (p .0, p .1, p .3, n .0, n .1)
 
 returns : tie.Need-returns
-returns c = put-four (room (c .before .before .before .before .before .before .before .before .before .before .before .before .before .before .before .before .before .before .before)) (c .before .before .before .before .before .before .before .before .before .before .before .before .before .before .before .put .ensures) (c .before .before .before .before .before .before .before .before .before .before .put-name .ensures) (c .before .before .before .before .before .before .put2 .ensures) (c .before .before .put-value .ensures) (attribute-is _ _ (c .before .before .before .before .before .before .before .before .before .before .before .before .u16-at .ensures .0))
+returns c = put-four (room (c .before .before .before .before .before .before .before .before .before .before .before .before .before .before .before .before .before .before .before)) (c .before .before .before .before .before .before .before .before .before .before .before .before .before .before .before .put .ensures) (c .before .before .before .before .before .before .before .before .before .before .put-name .ensures) (c .before .before .before .before .before .before .put2 .ensures) (c .before .before .put-value .ensures) (attribute-is _ _ (c .before .before .before .before .before .before .before .before .before .before .before .before .attribute-name .ensures .0))
 
 pub put-attribute-spec : {M : Type 1} → statement M
 put-attribute-spec =

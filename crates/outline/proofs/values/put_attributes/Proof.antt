@@ -34,18 +34,18 @@ there c =
 returns : tie.Need-returns Inv-loop μ-loop
 returns c =
     let p = c .before .before .before .before .pre in
-    put-same (sym (ranged-none _ 0 _ (sym (attributes-count (p .0) (p .1) (c .before .u16-at .ensures .0)) ∙ c .if1 .taken))) (put-none _ _ (omega arith))
+    put-same (sym (ranged-none _ 0 _ (sym (attributes-count (p .0) (p .1) (c .before .attribute-field .ensures .0)) ∙ c .if1 .taken))) (put-none _ _ (omega arith))
 
 range-at-requires : tie.Need-range-at-requires Inv-loop μ-loop
-range-at-requires c κs = let p = c .before .before .before .before .before .before .pre in (regions (p .0), (c .u16-at3 .ensures .1, c .before .before .before .u16-at .ensures .1))
+range-at-requires c κs = let p = c .before .before .before .before .before .before .pre in (regions (p .0), (c .attribute-element .ensures .1, c .before .before .before .attribute-field .ensures .1))
 
 returns-2 : tie.Need-returns-2 Inv-loop μ-loop
-returns-2 c = let p = c .before .before .before .before .before .before .before .before .before .pre in absurd (attributes-lost (p .0) (p .1) (c .before .before .before .before .before .before .u16-at .ensures .0) (c .before .before .before .before .u16-at2 .ensures .0) (c .before .before .before .u16-at3 .ensures .0) (c .before .before .range-at .ensures) (c .before .before .before .before .before .if1 .left) (c .enum-told .given .1))
+returns-2 c = let p = c .before .before .before .before .before .before .before .before .before .pre in absurd (attributes-lost (p .0) (p .1) (c .before .before .before .before .before .before .attribute-field .ensures .0) (c .before .before .before .before .attribute-segment .ensures .0) (c .before .before .before .attribute-element .ensures .0) (c .before .before .range-at .ensures) (c .before .before .before .before .before .if1 .left) (c .enum-told .given .1))
 
 loop-holds : tie.Need-loop-holds Inv-loop μ-loop
 loop-holds c =
     let p = c .before .before .before .before .before .before .before .before .before .before .pre in
-    let t = attributes-at (p .0) (p .1) (c .before .before .before .before .before .before .before .u16-at .ensures .0) (c .before .before .before .before .before .u16-at2 .ensures .0) (c .before .before .before .before .u16-at3 .ensures .0) (c .before .before .before .range-at .ensures) (c .before .q .given .1) in
+    let t = attributes-at (p .0) (p .1) (c .before .before .before .before .before .before .before .attribute-field .ensures .0) (c .before .before .before .before .before .attribute-segment .ensures .0) (c .before .before .before .before .attribute-element .ensures .0) (c .before .before .before .range-at .ensures) (c .before .q .given .1) in
     (t, (omega arith, left-start (room (c .before .before .before .before .before .before .before .before .before .before)) (omega arith) (ranged-start _ 0 _ ∙ ap (ranged _ 0) (t .count))))
 
 mul-put-attribute : tie.Need-mul-put-attribute Inv-loop μ-loop
@@ -74,6 +74,4 @@ returns-3 c = left-end (c .before .loop .inv .1 .1) (ranged-past _ 0 _ (c .befor
 pub put-attributes-spec : {M : Type 1} → statement M
 put-attributes-spec =
     tie.close
-    (tie.spec Inv-loop μ-loop (λ c. search needs) (λ c κs. search needs) returns (λ c. search needs) (λ c κs. search needs)
-    (λ c. search needs) (λ c κs. search needs) range-at-requires (λ c. search needs) (λ c. search needs) returns-2 loop-holds
-    mul-put-attribute add-put-attribute put-attribute-requires (λ c. search needs) (λ c. search needs) loop-again same-length returns-3)
+    (tie.spec Inv-loop μ-loop (λ c κs. search needs) returns (λ c κs. search needs) (λ c κs. search needs) range-at-requires (λ c. search needs) (λ c. search needs) returns-2 loop-holds mul-put-attribute add-put-attribute put-attribute-requires (λ c. search needs) (λ c. search needs) loop-again same-length returns-3)

@@ -17,7 +17,7 @@ use Rattle.path.proofs.below.list_below.Reads as list-below
 use Rattle.path.proofs.below.list_below.Kinds as list-below-kinds
 use Rattle.path.proofs.below.+list_below.Lts-list_below as list-below-lts
 use Rattle.le.proofs.put_u32.Reads as put-u32-reads
-use Rattle.le.proofs.u16_at.Reads as u16-at-reads
+use Rattle.nodes.proofs.fields.node_name.Reads as node-name-reads
 use Rattle.le.proofs.wide.Reads as wide-reads
 use Rattle.tree.proofs.ranges.children_of.Reads as children-of-reads
 use Rattle.path.proofs.below.+list_below.{statement}
@@ -42,8 +42,8 @@ callees t = (
   wide-reads.Learnt,
   children-of-reads.Asked,
   children-of-reads.Learnt,
-  u16-at-reads.Asked,
-  u16-at-reads.Learnt,
+  node-name-reads.Asked,
+  node-name-reads.Learnt,
   list-below-below t,
   list-below.Post,
 )
@@ -74,9 +74,9 @@ child : (t : ℕ) (c : list-below-lts.Then3 (callees t) (list-below-at t) list-b
 child t c = child-fits (c .before .before .before .before .before .before .before .before .before .pre .1 .0 .0) (c .before .before .before .children-of .ensures) (c .before .before .loop .j) (omega arith)
 
 -- the name read is the child's
-named : (t : ℕ) (c : list-below-lts.After-u16-at (callees t) (list-below-at t) list-below.Post list-below-Inv-loop list-below-μ-loop)
-    → c .u16-at .result ≡ treeOf (c .before .before .before .before .before .before .before .before .before .before .before .args .b .now) .name (c .before .before .before .before .before .children-of .result .first + c .before .before .before .before .loop .j)
-named t c = child-name (c .before .before .before .before .before .before .before .before .before .before .before .pre .1 .0 .0) (c .before .before .before .before .before .children-of .ensures) (c .before .before .before .before .loop .j) (omega arith) (c .u16-at .ensures .0)
+named : (t : ℕ) (c : list-below-lts.After-node-name (callees t) (list-below-at t) list-below.Post list-below-Inv-loop list-below-μ-loop)
+    → c .node-name .result ≡ treeOf (c .before .before .before .before .before .before .before .before .before .before .before .args .b .now) .name (c .before .before .before .before .before .children-of .result .first + c .before .before .before .before .loop .j)
+named t c = child-name (c .before .before .before .before .before .before .before .before .before .before .before .pre .1 .0 .0) (c .before .before .before .before .before .children-of .ensures) (c .before .before .before .before .loop .j) (omega arith) (c .node-name .ensures .0)
 
 list-below-mul-put-u32 : (t : ℕ) → list-below-lts.Need-mul-put-u32 (callees t) (list-below-at t) list-below.Post list-below-Inv-loop list-below-μ-loop
 list-below-mul-put-u32 t c = search needs
@@ -119,8 +119,8 @@ list-below-mul-x t c = search needs
 list-below-add-x : (t : ℕ) → list-below-lts.Need-add-x (callees t) (list-below-at t) list-below.Post list-below-Inv-loop list-below-μ-loop
 list-below-add-x t c = record { fits = omega (arith, child t (c .before)) }
 
-list-below-u16-at-requires : (t : ℕ) → list-below-lts.Need-u16-at-requires (callees t) (list-below-at t) list-below.Post list-below-Inv-loop list-below-μ-loop
-list-below-u16-at-requires t c κs = omega (arith, child t (c .before))
+list-below-node-name-requires : (t : ℕ) → list-below-lts.Need-node-name-requires (callees t) (list-below-at t) list-below.Post list-below-Inv-loop list-below-μ-loop
+list-below-node-name-requires t c κs = omega (arith, child t (c .before))
 
 list-below-add-list-below : (t : ℕ) → list-below-lts.Need-add-list-below (callees t) (list-below-at t) list-below.Post list-below-Inv-loop list-below-μ-loop
 list-below-add-list-below t c = search needs
@@ -189,7 +189,7 @@ pub +list-below-spec : {M : Type 1} → statement M
     (list-below-loop-holds t)
     (list-below-mul-x t)
     (list-below-add-x t)
-    (list-below-u16-at-requires t)
+    (list-below-node-name-requires t)
     (list-below-add-list-below t)
     (list-below-add-list-below-2 t)
     (list-below-list-below-requires t)

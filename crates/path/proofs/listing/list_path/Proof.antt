@@ -7,11 +7,12 @@ use lib.ListN.{length}
 use Rattle.verdict.proofs.Laws.{Clean}
 use Rattle.strings.proofs.Accepted.{strings-iff}
 use Rattle.tree.specs.File.{treeOf}
+use Rattle.tree.proofs.Outcomes.{root-place}
 use Rattle.path.specs.Names.{pathChecks}
 use Rattle.path.specs.Listing.{pathMatches}
 use Rattle.path.specs.inner.Indices.{matchesAt, indicesFrom}
 use Rattle.path.proofs.Few.{few}
-use Rattle.path.proofs.Answers.{path-refused, too-many, all-listed, none-match, matches-unknown, matches-known, root-place}
+use Rattle.path.proofs.Answers.{path-refused, too-many, all-listed, none-match, matches-unknown, matches-known}
 use Rattle.path.proofs.listing.list_path.Statement.{statement}
 use Rattle.path.proofs.listing.list_path.Tie as tie
 
@@ -35,16 +36,14 @@ find-names-requires c κs = let s = c .before .before .before .before .before .b
 returns-2 : tie.Need-returns-2
 returns-2 c = none-match _ _ _ (formed (c .before .before .before)) (matches-unknown _ _ (c .before .before .before .before .before .before .before .before .before .before .pre .4) _ (c .before .before .find-names .ensures) (not-true _ (c .if1 .taken)))
 
-add-root : tie.Need-add-root
-add-root c =
-    let g = c .before .before .before .before .before .before .before .before .before .before .before .before .pre .3 in
-    record { fits = omega (arith, g .nodes .short, g .nodes .at-is, g .laid .nodes .head) }
+root-at-requires : tie.Need-root-at-requires
+root-at-requires c κs = let m = c .before .before .before .before .before .before .before .before .before .before .before .pre .3 .nodes in omega (arith, m .short, m .at-is, m .laid .head)
 
 list-below-requires : tie.Need-list-below-requires
 list-below-requires c κs =
     let s = c .before .before .before .before .before .before .before .before .before .before .before .before .before .before in
     let w = c .before .before .before .before .before .before .find-names .ensures in (
-      (s .pre .3, s .pre .4 .nodes .root, root-place (s .pre .3)),
+      (s .pre .3, s .pre .4 .nodes .root, root-place _ _ _ (c .before .before .root-at .ensures) (s .pre .3 .nodes .at-is)),
       (w .long, omega arith, w .few, omega (arith, ap length (found (c .before .before .before .before)), few _ (s .pre .4) (s .args .path .now))),
     )
 
@@ -68,5 +67,5 @@ returns-4 c =
 pub list-path-spec : {M : Type 1} → statement M
 list-path-spec =
     tie.close
-    (tie.spec (λ c κs. search needs) (λ c. search needs) returns (λ c. search needs) find-names-requires returns-2 add-root
+    (tie.spec (λ c κs. search needs) (λ c. search needs) returns (λ c. search needs) find-names-requires returns-2 root-at-requires
     (λ c. search needs) list-below-requires returns-3 list-below-requires-2 (λ c. search needs) returns-4)

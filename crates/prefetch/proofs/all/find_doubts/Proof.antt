@@ -1,8 +1,8 @@
 use borrow.Author.Count.{below-none}
 use Rattle.le.specs.Le.{u32At}
-use Rattle.region.proofs.Samples.{used-at}
+use Rattle.region.proofs.Samples.{start-more, used-at}
 use Rattle.verdict.specs.inner.Tells.{Sure}
-use Rattle.prefetch.proofs.Rights.{rows-start, segment-in, rows-next, row-in, RowsTrusted, rows-none, rows-still, rows-more, rows-all}
+use Rattle.prefetch.proofs.Rights.{rows-start, segment-in, row-in, RowsTrusted, rows-none, rows-still, rows-more, rows-all}
 use Rattle.prefetch.proofs.Doubting.{still}
 use Prim.Native.Nat.{ℕ, _+_, _-_, _*_, _≤_, _<_}
 use mathlib.Core.Path.{_≡_, refl, _∙_}
@@ -36,20 +36,17 @@ abbrev μ-loop : tie.MeasureT-loop
 turn : (c : tie.Then1 Inv-loop2 μ-loop2 Inv-loop μ-loop) → let at = c .before .before .loop .at in at + 8 + u32At (c .before .before .before .before .before .before .args .b .now) at * 12 ≤ length (c .before .before .before .before .before .before .args .b .now)
 turn c = segment-in _ (c .before .before .before .before .before .before .pre .0 .5) _ _ (c .if1 .taken) (c .before .before .loop .inv .1)
 
-row : (c : tie.After-u32-at Inv-loop2 μ-loop2 Inv-loop μ-loop) → c .before .before .before .loop .at + 8 + c .u32-at .result * 12 ≤ length (c .before .before .before .before .before .before .before .args .b .now)
-row c = row-in _ (c .before .before .before .before .before .before .before .pre .0 .5) _ _ (c .before .if1 .taken) (c .before .before .before .loop .inv .1) _ (c .u32-at .ensures .0)
+row : (c : tie.After-used-count Inv-loop2 μ-loop2 Inv-loop μ-loop) → c .before .before .before .loop .at + 8 + c .used-count .result * 12 ≤ length (c .before .before .before .before .before .before .before .args .b .now)
+row c = row-in _ (c .before .before .before .before .before .before .before .pre .0 .5) _ _ (c .before .if1 .taken) (c .before .before .before .loop .inv .1) _ (c .used-count .ensures .0)
 
-add-at : tie.Need-add-at Inv-loop2 μ-loop2 Inv-loop μ-loop
-add-at c = record { fits = omega (arith, c .before .before .before .pre .0 .5 .laid .head, c .before .before .before .pre .0 .5 .at-is, c .before .before .before .pre .0 .1 .small) }
+first-start-requires : tie.Need-first-start-requires Inv-loop2 μ-loop2 Inv-loop μ-loop
+first-start-requires c κs = let w = c .before .before .pre .0 .5 in omega (arith, w .laid .head, w .at-is, w .short)
 
 loop-holds : tie.Need-loop-holds Inv-loop2 μ-loop2 Inv-loop μ-loop
-loop-holds c = let p = c .before .before .before .pre in (omega arith, rows-start _ (p .0 .5), refl, p .1 .0, λ z. p .1 .1, rows-none _ _, p .0 .6)
+loop-holds c = let p = c .before .before .before .pre in (omega arith, rows-start _ (p .0 .5) _ (c .first-start .ensures), refl, p .1 .0, λ z. p .1 .1, rows-none _ _, p .0 .6)
 
-add-u32-at : tie.Need-add-u32-at Inv-loop2 μ-loop2 Inv-loop μ-loop
-add-u32-at c = record { fits = omega (arith, turn c) }
-
-u32-at-requires : tie.Need-u32-at-requires Inv-loop2 μ-loop2 Inv-loop μ-loop
-u32-at-requires c κs = omega (arith, turn c)
+used-count-requires : tie.Need-used-count-requires Inv-loop2 μ-loop2 Inv-loop μ-loop
+used-count-requires c κs = omega (arith, turn c)
 
 loop2-holds : tie.Need-loop2-holds Inv-loop2 μ-loop2 Inv-loop μ-loop
 loop2-holds c = let i = c .before .before .before .loop .inv in (omega arith, i .2, i .3, i .4, i .5, below-none _, i .6)
@@ -78,22 +75,14 @@ loop2-again c =
     let d = e .1 .0 in
     (t .upto, t .slotted .long, d .kept .long ∙ i .2, e .0, rows-still _ _ _ _ (d .kept) (i .4), passed-trusted _ _ _ _ _ _ _ (t .slotted) (d .each) (λ n l. still (d .kept) (i .5 n l)), e .1 .1)
 
-add-at-2 : tie.Need-add-at-2 Inv-loop2 μ-loop2 Inv-loop μ-loop
-add-at-2 c = record { fits = omega (arith, turn (c .before .before .before)) }
-
-u32-at-requires-2 : tie.Need-u32-at-requires-2 Inv-loop2 μ-loop2 Inv-loop μ-loop
-u32-at-requires-2 c κs = omega (arith, turn (c .before .before .before))
-
-mul-at : tie.Need-mul-at Inv-loop2 μ-loop2 Inv-loop μ-loop
-mul-at c = record { fits = omega (arith, turn (c .before .before .before .before), c .u32-at2 .ensures .0) }
-
-add-at-3 : tie.Need-add-at-3 Inv-loop2 μ-loop2 Inv-loop μ-loop
-add-at-3 c = record { fits = omega (arith, turn (c .before .before .before .before), c .u32-at2 .ensures .0) }
+next-start-requires : tie.Need-next-start-requires Inv-loop2 μ-loop2 Inv-loop μ-loop
+next-start-requires c κs = turn (c .before .before .before)
 
 loop-again : tie.Need-loop-again Inv-loop2 μ-loop2 Inv-loop μ-loop
+unfolding attributeSize
 loop-again c = let i = c .before .before .before .before .before .before .loop .inv in
     let j = c .before .before .loop2 .inv in
-    (omega arith, rows-next _ (c .before .before .before .before .before .before .before .before .before .before .pre .0 .5) _ _ (c .before .before .before .before .if1 .taken) (i .1) _ (c .u32-at2 .ensures .0), j .1, j .2, j .3, rows-more _ _ _ _ _ _ (j .4) (i .1) (used-at _ _ _ _ _ _ (i .1) (c .before .before .before .u32-at .ensures .0)) (c .before .loop2-test .left) (j .5), j .6)
+    (omega arith, start-more attributeSize _ _ _ _ _ _ refl (i .1) (c .next-start .ensures), j .1, j .2, j .3, rows-more _ _ _ _ _ _ (j .4) (i .1) (used-at _ _ _ _ _ _ (i .1) (c .before .before .before .used-count .ensures .0)) (c .before .loop2-test .left) (j .5), j .6)
 
 returns : tie.Need-returns Inv-loop2 μ-loop2 Inv-loop μ-loop
 returns c = let i = c .before .before .loop .inv in (i .4, (rows-all _ _ _ (i .5) (omega (arith, c .if1 .left, c .before .before .before .before .before .before .pre .0 .5 .count-is)), i .6))
@@ -101,6 +90,4 @@ returns c = let i = c .before .before .loop .inv in (i .4, (rows-all _ _ _ (i .5
 pub find-doubts-spec : {M : Type 1} → statement M
 find-doubts-spec =
     tie.close
-    (tie.spec Inv-loop2 μ-loop2 Inv-loop μ-loop add-at loop-holds add-u32-at u32-at-requires loop2-holds add-take-texts take-texts-requires
-    examine-batch-requires loop2-less loop2-again add-at-2 u32-at-requires-2 mul-at add-at-3 (λ c. search needs) (λ c. search needs)
-    loop-again returns)
+    (tie.spec Inv-loop2 μ-loop2 Inv-loop μ-loop first-start-requires loop-holds used-count-requires loop2-holds add-take-texts take-texts-requires examine-batch-requires loop2-less loop2-again next-start-requires (λ c. search needs) (λ c. search needs) loop-again returns)

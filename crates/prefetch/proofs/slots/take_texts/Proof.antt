@@ -1,5 +1,5 @@
 use mathlib.Core.Path.{sym}
-use Rattle.nodes.proofs.Fields.{kind-is}
+use Rattle.nodes.proofs.Types.{kind-is}
 use Prim.Native.Nat.{_-_, _≤_}
 use Rattle.prefetch.specs.inner.Slots.{Slotted}
 use Rattle.prefetch.proofs.Taking.{slotted-start, slotted-step}
@@ -21,7 +21,7 @@ returns : tie.Need-returns Inv-loop μ-loop
 returns c = let i = c .before .before .loop .inv in record { slotted = i .1; on = λ h. omega (arith, i .1 .from, c .if1 .taken); upto = i .0 }
 
 loop-again : tie.Need-loop-again Inv-loop μ-loop
-loop-again c = let i = c .before .before .before .before .loop .inv in (omega arith, slotted-step _ _ _ _ _ _ (i .1) (omega (arith, i .1 .few, c .before .before .if1 .left)) _ (omega (arith, c .before .before .before .loop-test .taken, c .before .before .before .before .before .before .pre .0)) (sym (kind-is _ _ _ (c .before .u16-at .ensures .0) _ (c .kind .ensures .0))) (c .kind .ensures .1))
+loop-again c = let i = c .before .before .before .before .loop .inv in (omega arith, slotted-step _ _ _ _ _ _ (i .1) (omega (arith, i .1 .few, c .before .before .if1 .left)) _ (omega (arith, c .before .before .before .loop-test .taken, c .before .before .before .before .before .before .pre .0)) (sym (kind-is _ _ _ (c .before .type-word .ensures .0) _ (c .kind .ensures .0))) (c .kind .ensures .1))
 
 returns-2 : tie.Need-returns-2 Inv-loop μ-loop
 returns-2 c = let i = c .before .loop .inv in record { slotted = i .1; on = λ h. omega (arith, c .loop-test .left); upto = i .0 }
@@ -29,6 +29,4 @@ returns-2 c = let i = c .before .loop .inv in record { slotted = i .1; on = λ h
 pub take-texts-spec : {M : Type 1} → statement M
 take-texts-spec =
     tie.close
-    (tie.spec Inv-loop μ-loop loop-holds returns (λ c. search needs) (λ c. search needs) (λ c. search needs) (λ c. search needs)
-    (λ c. search needs) (λ c. search needs) (λ c κs. search needs) (λ c κs. search needs) (λ c. search needs) (λ c. search needs)
-    (λ c. search needs) loop-again returns-2)
+    (tie.spec Inv-loop μ-loop loop-holds returns (λ c. search needs) (λ c. search needs) (λ c. search needs) (λ c. search needs) (λ c. search needs) (λ c κs. search needs) (λ c κs. search needs) (λ c. search needs) (λ c. search needs) (λ c. search needs) loop-again returns-2)

@@ -42,13 +42,13 @@ hash-texts-requires c κs =
     let w = c .before .before .before .before .before .before .before .before .before .before .before .before .before .before .before .before .find-spots .ensures in
     (p .0, p .6, record { first = w .1 .0; second = w .1 .1; third = refl }, w .0 (not-false _ (c .before .before .before .before .before .before .before .before .before .before .before .before .before .before .before .if1 .left)) .1, omega (arith, p .1 .small), c .before .before .before .before .before .before .all-pass .ensures .1)
 
-settle-requires : tie.Need-settle-requires
-settle-requires c κs = let p = c .before .before .before .before .before .before .before .before .before .before .before .before .before .before .before .before .before .before .before .before .before .before .before .before .pre in (p .1, clean-entries _ _ (p .2) (p .3), p .6, c .before .before .hash-texts .ensures .0, refl)
+lower-bounds-requires : tie.Need-lower-bounds-requires
+lower-bounds-requires c κs = let p = c .before .before .before .before .before .before .before .before .before .before .before .before .before .before .before .before .before .before .before .before .before .before .before .before .pre in (p .1, clean-entries _ _ (p .2) (p .3), p .6, c .before .before .hash-texts .ensures .0, refl)
 
 find-entries-requires : tie.Need-find-entries-requires
 find-entries-requires c κs =
     let p = c .before .before .before .before .before .before .before .before .before .before .before .before .before .before .before .before .before .before .before .before .before .before .before .before .before .before .before .pre in
-    (p .1, clean-entries _ _ (p .2) (p .3), p .5, p .6, p .4, c .before .before .before .before .before .hash-texts .ensures .0, c .before .before .settle .ensures)
+    (p .1, clean-entries _ _ (p .2) (p .3), p .5, p .6, p .4, c .before .before .before .before .before .hash-texts .ensures .0, c .before .before .lower-bounds .ensures)
 
 returns-4 : tie.Need-returns-4
 returns-4 c =
@@ -60,4 +60,4 @@ returns-4 c =
 pub batch-right-spec : {M : Type 1} → statement M
 batch-right-spec =
     tie.close
-    (tie.spec (λ c κs. search needs) returns load-before-requires all-pass-requires returns-2 returns-3 hash-texts-requires settle-requires find-entries-requires returns-4)
+    (tie.spec (λ c κs. search needs) returns load-before-requires all-pass-requires returns-2 returns-3 hash-texts-requires lower-bounds-requires find-entries-requires returns-4)

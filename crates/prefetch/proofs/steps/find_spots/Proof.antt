@@ -17,31 +17,37 @@ Inv-loop b chars segments slots n at₀ left₀ j₀ at left j = (length at ≡ 
 abbrev μ-loop : tie.MeasureT-loop
 μ-loop b chars segments slots n at₀ left₀ j₀ at left j = n - j
 
-fits : (c : tie.After-known-told Inv-loop μ-loop) → c .before .a .given .0 .0 + 2 * c .before .a .given .0 .1 .0 ≤ length (c .before .before .before .before .before .before .before .before .before .args .b .now)
-fits c = spot-fits _ _ _ _ (c .before .before .before .before .before .before .before .before .before .pre .0 .laid) (c .before .before .before .spot-to .ensures) (c .before .a .given .1)
+fits : (c : tie.After-known-told Inv-loop μ-loop) → c .before .a .given .0 .0 + 2 * c .before .a .given .0 .1 .0 ≤ length (c .before .before .before .before .before .before .before .before .before .before .before .args .b .now)
+fits c = spot-fits _ _ _ _ (c .before .before .before .before .before .before .before .before .before .before .before .pre .0 .laid) (c .before .before .before .spot-at .ensures) (c .before .a .given .1)
 
 loop-holds : tie.Need-loop-holds Inv-loop μ-loop
 loop-holds c = (c .before .pre .6, c .before .pre .7, spots-none, fit-none)
 
-spot-to-requires : tie.Need-spot-to-requires Inv-loop μ-loop
-spot-to-requires c κs = let p = c .before .before .before .before .before .pre in (p .0, p .1, omega (arith, c .wide .ensures .0, p .4 _ (c .before .before .loop-test .taken)))
+text-segment-requires : tie.Need-text-segment-requires Inv-loop μ-loop
+text-segment-requires c κs = omega (arith, c .wide .ensures .0, c .before .before .before .before .before .pre .4 _ (c .before .before .loop-test .taken))
+
+text-element-requires : tie.Need-text-element-requires Inv-loop μ-loop
+text-element-requires c κs = text-segment-requires (c .before) κs
+
+spot-at-requires : tie.Need-spot-at-requires Inv-loop μ-loop
+spot-at-requires c κs = let p = c .before .before .before .before .before .before .before .pre in (p .0, p .1, c .text-element .ensures .1)
 
 returns : tie.Need-returns Inv-loop μ-loop
-returns c = (unsure, (c .before .before .before .before .before .before .loop .inv .0, c .before .before .before .before .before .before .loop .inv .1))
+returns c = (unsure, (c .before .before .before .before .before .before .before .before .loop .inv .0, c .before .before .before .before .before .before .before .before .loop .inv .1))
 
 cast-at : tie.Need-cast-at Inv-loop μ-loop
-cast-at c = record { fits = omega (arith, fits c, c .before .before .before .before .before .before .before .before .before .pre .2) }
+cast-at c = record { fits = omega (arith, fits c, c .before .before .before .before .before .before .before .before .before .before .before .pre .2) }
 
 cast-left : tie.Need-cast-left Inv-loop μ-loop
-cast-left c = record { fits = omega (arith, fits c, c .before .before .before .before .before .before .before .before .before .pre .2) }
+cast-left c = record { fits = omega (arith, fits c, c .before .before .before .before .before .before .before .before .before .before .before .pre .2) }
 
 loop-again : tie.Need-loop-again Inv-loop μ-loop
 loop-again c =
-    let i = c .before .before .before .before .before .before .before .loop .inv in (
+    let i = c .before .before .before .before .before .before .before .before .before .loop .inv in (
       simp length-set (i .0),
       simp length-set (i .1),
-      spots-more (i .0) (i .1) (omega (arith, c .before .before .before .before .before .before .loop-test .taken, c .before .before .before .before .before .before .before .before .before .pre .5)) (i .2) (c .before .before .before .before .wide .ensures .0) (spot-of (c .before .before .before .spot-to .ensures) (c .before .a .given .1)),
-      fit-more (i .0) (i .1) (omega (arith, c .before .before .before .before .before .before .loop-test .taken, c .before .before .before .before .before .before .before .before .before .pre .5)) (i .3) (fits-of _ (c .before .before .before .before .before .before .before .before .before .pre .0 .laid) (c .before .before .before .spot-to .ensures) (c .before .a .given .1)),
+      spots-more (i .0) (i .1) (omega (arith, c .before .before .before .before .before .before .before .before .loop-test .taken, c .before .before .before .before .before .before .before .before .before .before .before .pre .5)) (i .2) (c .before .before .before .before .before .before .wide .ensures .0) (spot-of (c .before .before .before .before .before .text-segment .ensures .0) (c .before .before .before .before .text-element .ensures .0) (c .before .before .before .spot-at .ensures) (c .before .a .given .1)),
+      fit-more (i .0) (i .1) (omega (arith, c .before .before .before .before .before .before .before .before .loop-test .taken, c .before .before .before .before .before .before .before .before .before .before .before .pre .5)) (i .3) (fits-of _ _ (c .before .before .before .before .before .before .before .before .before .before .before .pre .0 .laid) (c .before .before .before .spot-at .ensures) (c .before .a .given .1)),
     )
 
 returns-2 : tie.Need-returns-2 Inv-loop μ-loop
@@ -50,6 +56,4 @@ returns-2 c = let i = c .before .loop .inv in (λ z. (spots-upto (c .loop-test .
 pub find-spots-spec : {M : Type 1} → statement M
 find-spots-spec =
     tie.close
-    (tie.spec Inv-loop μ-loop loop-holds (λ c. search needs) (λ c. search needs) (λ c κs. search needs) (λ c. search needs)
-    spot-to-requires (λ c. search needs) (λ c. search needs) returns cast-at (λ c. search needs) (λ c. search needs) cast-left
-    (λ c. search needs) (λ c. search needs) (λ c. search needs) (λ c. search needs) loop-again returns-2)
+    (tie.spec Inv-loop μ-loop loop-holds (λ c. search needs) (λ c. search needs) (λ c κs. search needs) text-segment-requires text-element-requires spot-at-requires (λ c. search needs) (λ c. search needs) returns cast-at (λ c. search needs) (λ c. search needs) cast-left (λ c. search needs) (λ c. search needs) (λ c. search needs) (λ c. search needs) loop-again returns-2)

@@ -13,8 +13,8 @@ run-has-requires c κs =
 returns : tie.Need-returns
 returns c =
     let p = c .before .before .before .before .before .pre in
-    λ z. entry-in _ (λ i. omega (arith, c .before .before .before .before .shared-slice-known .given i)) _ _ refl _ _ (c .before .before .bucket .ensures .1) (c .before .u32-at .ensures .0) (c .run-has .ensures .so z)
+    λ z. entry-in _ (λ i. omega (arith, c .before .before .before .before .shared-slice-known .given i)) _ _ refl _ _ (c .before .before .bucket .ensures .1) (c .before .value-word .ensures .0) (c .run-has .ensures .so z)
 
 pub found-spec : {M : Type 1} → statement M
 found-spec =
-    tie.close (tie.spec (λ c κs. search needs) (λ c. search needs) (λ c κs. search needs) run-has-requires returns)
+    tie.close (tie.spec (λ c κs. search needs) (λ c κs. search needs) run-has-requires returns)

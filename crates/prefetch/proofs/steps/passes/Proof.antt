@@ -17,8 +17,8 @@ returns-2 c =
     let p = c .before .before .before .before .before .before .before .before .pre in
     let e = c .before .before in (
       λ z. (
-        hashed-here _ _ _ _ _ _ _ (e .before .u16-at2 .ensures .0) (e .extended .ensures) (c .remembered-hash .ensures .0) (eqb-true _ _ z),
-        λ y. ⊎-elim (behind-first _ _ _ _ (e .before .before .before .before .u16-at .ensures .0)) (behind-zero _ _ _ _ (p .3)) (e .before .before .before .can-begin .ensures (not-false _ (e .before .before .if1 .left)) y),
+        hashed-here _ _ _ _ _ _ _ (e .before .type-word .ensures .0) (e .extended .ensures) (c .remembered-hash .ensures .0) (eqb-true _ _ z),
+        λ y. ⊎-elim (behind-first _ _ _ _ (e .before .before .before .before .text-element .ensures .0)) (behind-zero _ _ _ _ (p .3)) (e .before .before .before .can-begin .ensures (not-false _ (e .before .before .if1 .left)) y),
       ),
       c .remembered-hash .ensures .1,
     )
@@ -26,5 +26,4 @@ returns-2 c =
 pub passes-spec : {M : Type 1} → statement M
 passes-spec =
     tie.close
-    (tie.spec (λ c. search needs) (λ c κs. search needs) (λ c κs. search needs) returns (λ c. search needs) (λ c κs. search needs) (λ c κs. search needs)
-    remembered-hash-requires returns-2)
+    (tie.spec (λ c κs. search needs) (λ c κs. search needs) returns (λ c κs. search needs) (λ c κs. search needs) remembered-hash-requires returns-2)

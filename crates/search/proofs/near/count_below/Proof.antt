@@ -25,7 +25,7 @@ loop-again : tie.Need-loop-again Inv-loop μ-loop
 loop-again c =
     let l = c .before .before .before .loop-test .taken in
     let i = c .before .before .before .before .loop .inv in
-    let x = hash-at _ _ _ _ _ (c .before .before .entry-at .ensures .0) (c .before .u32-at .ensures .0) in
+    let x = hash-at _ _ _ _ _ (c .before .before .entry-at .ensures .0) (c .before .hash .ensures .0) in
     ⊎-elim
     (λ z. rw (z .1) (counting-one _ _ _ _ _ _ i l _ x (z .0 .taken)))
     (λ z. rw (z .1) (counting-other _ _ _ _ _ _ i l _ x (z .0 .left)))

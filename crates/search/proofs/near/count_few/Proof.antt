@@ -3,7 +3,7 @@ use mathlib.Core.Logic.{⊎-elim}
 use Rattle.layout.specs.Table.{hashOf}
 use Rattle.strings.specs.inner.Held.{heldTable}
 use Rattle.strings.proofs.Places.{here-in, hash-at}
-use Rattle.search.specs.inner.Lower.{atMost}
+use Rattle.search.specs.inner.LowerBound.{atMost}
 use Rattle.search.proofs.Nearby.{Counting, counting-start, counting-one, counting-other, counting-end, at-most-less, few-read, few-less, few-all}
 use borrow.Author.Needs.{needs}
 use Rattle.search.proofs.near.count_few.Statement.{statement}
@@ -27,7 +27,7 @@ loop-again : tie.Need-loop-again Inv-loop μ-loop
 loop-again c =
     let l = c .before .before .before .before .loop-test .taken in
     let i = c .before .before .before .before .before .loop .inv in
-    let x = few-read _ _ _ _ _ _ (c .before .before .before .at-most .ensures) (hash-at _ _ _ _ _ (c .before .before .entry-at .ensures .0) (c .before .u32-at .ensures .0)) in
+    let x = few-read _ _ _ _ _ _ (c .before .before .before .at-most .ensures) (hash-at _ _ _ _ _ (c .before .before .entry-at .ensures .0) (c .before .hash .ensures .0)) in
     ⊎-elim
     (λ z. rw (z .1) (counting-one _ _ _ _ _ _ i l _ x (z .0 .taken)))
     (λ z. rw (z .1) (counting-other _ _ _ _ _ _ i l _ x (z .0 .left)))

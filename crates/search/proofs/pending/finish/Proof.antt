@@ -3,7 +3,7 @@ use lib.ListN.{length}
 use borrow.Author.Needs.{needs}
 use Rattle.hash.specs.Hash.{bucketOf}
 use Rattle.strings.specs.inner.Held.{heldTable}
-use Rattle.search.specs.inner.Lower.{Searching}
+use Rattle.search.specs.inner.LowerBound.{Searching}
 use Rattle.search.proofs.Searches.{searching-end}
 use Rattle.search.proofs.pending.finish.Statement.{statement}
 use Rattle.search.proofs.pending.finish.Tie as tie

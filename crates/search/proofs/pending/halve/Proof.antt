@@ -17,13 +17,13 @@ entry-at-requires c κs =
 
 returns-2 : tie.Need-returns-2
 returns-2 c =
-    let h = hash-at _ _ _ _ _ (c .before .before .entry-at .ensures .0) (c .before .u32-at .ensures .0) in
+    let h = hash-at _ _ _ _ _ (c .before .before .entry-at .ensures .0) (c .before .hash .ensures .0) in
     let s = c .before .before .before .before .before .before .before .pre .1 in
     halve-up _ _ _ _ _ _ (c .before .before .before .bucket .ensures .0) s (c .before .before .before .before .if1 .left) _ _ refl h (c .if2 .taken)
 
 returns-3 : tie.Need-returns-3
 returns-3 c =
-    let h = hash-at _ _ _ _ _ (c .before .before .entry-at .ensures .0) (c .before .u32-at .ensures .0) in
+    let h = hash-at _ _ _ _ _ (c .before .before .entry-at .ensures .0) (c .before .hash .ensures .0) in
     let s = c .before .before .before .before .before .before .before .pre .1 in
     halve-down _ _ _ _ _ _ (c .before .before .before .bucket .ensures .0) s (c .before .before .before .before .if1 .left) _ _ refl h (c .if2 .left)
 

@@ -22,17 +22,17 @@ returns : tie.Need-returns Inv-loop μ-loop
 returns c =
     let p = c .before .before .before .before .before .before .before .before .pre in
     read-over _ _ _ _ _ _ _ (c .before .before .before .before .loop .inv) (p .2) (p .1) (c .before .before .before .loop-test .taken) _
-    (hash-at _ _ _ _ _ (c .before .before .entry-at .ensures .0) (c .before .u32-at .ensures .0)) (c .if1 .taken)
+    (hash-at _ _ _ _ _ (c .before .before .entry-at .ensures .0) (c .before .hash .ensures .0)) (c .if1 .taken)
 
 returns-2 : tie.Need-returns-2 Inv-loop μ-loop
 returns-2 c =
     read-found _ _ _ _ _ _ _ (c .before .before .before .before .before .before .loop .inv) (c .before .before .before .before .before .loop-test .taken) _
-    (word-at _ _ _ _ _ _ (c .before .before .before .before .entry-at .ensures .0) (c .before .u32-at2 .ensures .0)) (c .if2 .taken)
+    (word-at _ _ _ _ _ _ (c .before .before .before .before .entry-at .ensures .0) (c .before .u32-at .ensures .0)) (c .if2 .taken)
 
 loop-again : tie.Need-loop-again Inv-loop μ-loop
 loop-again c =
     read-more _ _ _ _ _ _ _ (c .before .before .before .before .before .before .loop .inv) _
-    (word-at _ _ _ _ _ _ (c .before .before .before .before .entry-at .ensures .0) (c .before .u32-at2 .ensures .0)) (c .if2 .left)
+    (word-at _ _ _ _ _ _ (c .before .before .before .before .entry-at .ensures .0) (c .before .u32-at .ensures .0)) (c .if2 .left)
 
 returns-3 : tie.Need-returns-3 Inv-loop μ-loop
 returns-3 c = read-none _ _ _ _ _ _ _ (c .before .loop .inv) (c .loop-test .left)

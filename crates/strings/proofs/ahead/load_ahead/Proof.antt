@@ -3,7 +3,7 @@ use native.Mathlib.Omega.{arith}
 use mathlib.Core.Path.{refl}
 use borrow.Author.Needs.{needs}
 use Rattle.strings.specs.inner.Ahead.{SeenBefore}
-use Rattle.strings.proofs.Glances.{stands-spot, seen-none, seen-more, seen-upto}
+use Rattle.strings.proofs.Prefetched.{stands-spot, seen-none, seen-more, seen-upto}
 use Rattle.strings.proofs.Places.{few-entries}
 use Rattle.strings.proofs.ahead.load_ahead.Statement.{statement}
 use Rattle.strings.proofs.ahead.load_ahead.Tie as tie
@@ -46,5 +46,5 @@ pub load-ahead-spec : {M : Type 1} → statement M
 load-ahead-spec =
     tie.close
     (tie.spec Inv-loop μ-loop loop-holds add-entry-at entry-at-requires (λ c. search needs) (λ c. search needs) (λ c. search needs)
-    (λ c. search needs) (λ c. search needs) (λ c κs. search needs) touch-whole-requires (λ c. search needs) (λ c. search needs)
+    (λ c. search needs) (λ c κs. search needs) touch-whole-requires (λ c. search needs) (λ c. search needs)
     (λ c. search needs) (λ c. search needs) loop-again returns)

@@ -19,8 +19,8 @@ returns-2 c =
     refused-11 _ _ _ _ (c .before .before .before .entry-at .ensures .0) (p .3) (c .before .before .placed .ensures .so (not-false _ (c .before .if1 .left)))
     (p .4 .not (not-true _ (c .if2 .taken)))
 
-twin-requires : tie.Need-twin-requires
-twin-requires c κs =
+duplicate-requires : tie.Need-duplicate-requires
+duplicate-requires c κs =
     let p = c .before .before .before .before .before .before .pre in
     (p .0, p .1, sorted _ _ _ (p .2) (p .3) (c .before .before .placed .ensures .so (not-false _ (c .before .if1 .left))), p .5)
 
@@ -28,13 +28,13 @@ returns-3 : tie.Need-returns-3
 returns-3 c =
     let p = c .before .before .before .before .before .before .before .before .pre in
     refused-12 _ _ _ _ (c .before .before .before .before .before .entry-at .ensures .0) (p .3) (c .before .before .before .before .placed .ensures .so (not-false _ (c .before .before .before .if1 .left)))
-    (p .4 .so (not-false _ (c .before .before .if2 .left))) (c .before .twin .ensures .so (c .if3 .taken))
+    (p .4 .so (not-false _ (c .before .before .if2 .left))) (c .before .duplicate .ensures .so (c .if3 .taken))
 
 returns-4 : tie.Need-returns-4
 returns-4 c =
     let p = c .before .before .before .before .before .before .before .before .pre in
     entry-passes _ _ _ (p .3) (c .before .before .before .before .placed .ensures .so (not-false _ (c .before .before .before .if1 .left)))
-    (p .4 .so (not-false _ (c .before .before .if2 .left))) (c .before .twin .ensures .not (c .if3 .left))
+    (p .4 .so (not-false _ (c .before .before .if2 .left))) (c .before .duplicate .ensures .not (c .if3 .left))
 
 pub check-order-spec : {M : Type 1} → statement M
 check-order-spec =
@@ -44,6 +44,6 @@ check-order-spec =
     placed-requires
     returns
     returns-2
-    twin-requires
+    duplicate-requires
     returns-3
     returns-4)

@@ -15,7 +15,7 @@ use Rattle.strings.specs.inner.Apart.{Apart}
 use Rattle.strings.specs.inner.Begins.{Begun}
 use Rattle.strings.specs.Order.{entryChecks, allEntryChecks}
 use Rattle.strings.proofs.Left.{bucketsLeft, entriesLeft, left-start, left-open, left-more, left-stop, left-next, left-none}
-use Rattle.strings.proofs.Glances.{near-next, near-at, ahead-none}
+use Rattle.strings.proofs.Prefetched.{near-next, near-at, ahead-none}
 use Rattle.strings.proofs.Differing.{apart-none}
 use Rattle.strings.proofs.Begun.{BegunBefore, before-more, before-all}
 use Rattle.strings.proofs.Places.{here-in}

@@ -12,7 +12,7 @@ returns c = unsure
 returns-2 : tie.Need-returns-2
 returns-2 c =
     let p = c .before .before .before .before .before .before .pre in
-    λ z. (not-false _ (c .before .before .before .if1 .left), begun-first _ _ _ (p .2) (p .3) _ (element-at _ _ _ _ _ (c .before .before .entry-at .ensures .0) (c .before .u16-at .ensures .0)) (c .if2 .taken))
+    λ z. (not-false _ (c .before .before .before .if1 .left), begun-first _ _ _ (p .2) (p .3) _ (element-at _ _ _ _ _ (c .before .before .entry-at .ensures .0) (c .before .element .ensures .0)) (c .if2 .taken))
 
 returns-3 : tie.Need-returns-3
 returns-3 c =
@@ -22,4 +22,4 @@ returns-3 c =
 pub still-begun-spec : {M : Type 1} → statement M
 still-begun-spec =
     tie.close
-    (tie.spec returns (λ c κs. search needs) (λ c. search needs) (λ c κs. search needs) returns-2 returns-3)
+    (tie.spec returns (λ c κs. search needs) (λ c κs. search needs) returns-2 returns-3)

@@ -15,7 +15,7 @@ use borrow.Fn.PlainCycle.{Measures, is, falls, and}
 use Rattle.tree.proofs.depth.find_deep.Reads as find-deep
 use Rattle.tree.proofs.depth.find_deep.Kinds as find-deep-kinds
 use Rattle.tree.proofs.depth.+find_deep.Lts-find_deep as find-deep-lts
-use Rattle.le.proofs.u16_at.Reads as u16-at-reads
+use Rattle.nodes.proofs.fields.node_name.Reads as node-name-reads
 use Rattle.tree.proofs.ranges.children_of.Reads as children-of-reads
 use Rattle.tree.proofs.depth.+find_deep.{statement}
 use Rattle.tree.proofs.depth.+find_deep.Tie.{close}
@@ -31,7 +31,7 @@ find-deep-below t =
     and 2 find-deep-kinds.ps (falls 2 find-deep-kinds.ps _<_ μ-find-deep t) find-deep.Pre
 
 abbrev callees : ℕ → find-deep-lts.Claims
-callees t = (children-of-reads.Asked, children-of-reads.Learnt, u16-at-reads.Asked, u16-at-reads.Learnt, find-deep-below t, find-deep.Post)
+callees t = (children-of-reads.Asked, children-of-reads.Learnt, node-name-reads.Asked, node-name-reads.Learnt, find-deep-below t, find-deep.Post)
 
 abbrev find-deep-Inv-loop : find-deep-lts.InvT-loop
 find-deep-Inv-loop b nodes segments a p left k j₀ j =
@@ -46,9 +46,9 @@ child : (t : ℕ) (c : find-deep-lts.Then2 (callees t) (find-deep-at t) find-dee
 child t c = child-fits (c .before .before .before .before .before .before .pre .1 .0) (c .before .before .before .children-of .ensures) (c .before .before .loop .j) (omega arith)
 
 -- the name read is the child's
-named : (t : ℕ) (c : find-deep-lts.After-u16-at (callees t) (find-deep-at t) find-deep.Post find-deep-Inv-loop find-deep-μ-loop)
-    → c .u16-at .result ≡ treeOf (c .before .before .before .before .before .before .before .before .args .b .now) .name (c .before .before .before .before .before .children-of .result .first + c .before .before .before .before .loop .j)
-named t c = child-name (c .before .before .before .before .before .before .before .before .pre .1 .0) (c .before .before .before .before .before .children-of .ensures) (c .before .before .before .before .loop .j) (omega arith) (c .u16-at .ensures .0)
+named : (t : ℕ) (c : find-deep-lts.After-node-name (callees t) (find-deep-at t) find-deep.Post find-deep-Inv-loop find-deep-μ-loop)
+    → c .node-name .result ≡ treeOf (c .before .before .before .before .before .before .before .before .args .b .now) .name (c .before .before .before .before .before .children-of .result .first + c .before .before .before .before .loop .j)
+named t c = child-name (c .before .before .before .before .before .before .before .before .pre .1 .0) (c .before .before .before .before .before .children-of .ensures) (c .before .before .before .before .loop .j) (omega arith) (c .node-name .ensures .0)
 
 find-deep-returns : (t : ℕ) → find-deep-lts.Need-returns (callees t) (find-deep-at t) find-deep.Post find-deep-Inv-loop find-deep-μ-loop
 find-deep-returns t c = let s = c .before .before in ap At (s .pre .1 .2) ∙ sym (deep-here _ _ _ (c .if1 .taken))
@@ -70,8 +70,8 @@ find-deep-mul-c t c = search needs
 find-deep-add-c : (t : ℕ) → find-deep-lts.Need-add-c (callees t) (find-deep-at t) find-deep.Post find-deep-Inv-loop find-deep-μ-loop
 find-deep-add-c t c = record { fits = omega (arith, child t (c .before)) }
 
-find-deep-u16-at-requires : (t : ℕ) → find-deep-lts.Need-u16-at-requires (callees t) (find-deep-at t) find-deep.Post find-deep-Inv-loop find-deep-μ-loop
-find-deep-u16-at-requires t c κs = omega (arith, child t (c .before))
+find-deep-node-name-requires : (t : ℕ) → find-deep-lts.Need-node-name-requires (callees t) (find-deep-at t) find-deep.Post find-deep-Inv-loop find-deep-μ-loop
+find-deep-node-name-requires t c κs = omega (arith, child t (c .before))
 
 find-deep-add-find-deep : (t : ℕ) → find-deep-lts.Need-add-find-deep (callees t) (find-deep-at t) find-deep.Post find-deep-Inv-loop find-deep-μ-loop
 find-deep-add-find-deep t c = search needs
@@ -130,7 +130,7 @@ pub +find-deep-spec : {M : Type 1} → statement M
     (find-deep-loop-holds t)
     (find-deep-mul-c t)
     (find-deep-add-c t)
-    (find-deep-u16-at-requires t)
+    (find-deep-node-name-requires t)
     (find-deep-add-find-deep t)
     (find-deep-sub-find-deep t)
     (find-deep-find-deep-requires t)

@@ -4,21 +4,21 @@ use native.Mathlib.Omega.{arith}
 use borrow.Author.Needs.{needs}
 use Rattle.nodes.specs.Node.{childCount}
 use Rattle.tree.specs.inner.Marking.{firstNumber}
-use Rattle.tree.proofs.Children.{none-nameless, count-field}
+use Rattle.nodes.proofs.Ways.{nameless-children, child-count, live-node}
 use Rattle.tree.proofs.OneRange.{own-counts, marked-none, segment-there, first-number, range-there, marked-now, marked-not}
 use Rattle.tree.proofs.marks.mark_node.Statement.{statement}
 use Rattle.tree.proofs.marks.mark_node.Tie as tie
 
 returns : tie.Need-returns
-returns c = marked-none _ _ _ (none-nameless _ _ (sym (c .before .u16-at .ensures .0) ∙ c .if1 .taken))
+returns c = marked-none _ _ _ (nameless-children _ _ (sym (c .before .node-name .ensures .0) ∙ c .if1 .taken))
 
 -- what the code has read: the child count and the first child's number
-counted : (c : tie.After-u16-at2) → c .u16-at2 .result ≡ childCount (c .before .before .before .before .before .args .b .now) (c .before .before .before .before .before .args .p)
-counted c = c .u16-at2 .ensures .0 ∙ sym (count-field _ _ (λ z. c .before .if1 .left (c .before .before .u16-at .ensures .0 ∙ z)))
+counted : (c : tie.After-child-field) → c .child-field .result ≡ childCount (c .before .before .before .before .before .args .b .now) (c .before .before .before .before .before .args .p)
+counted c = child-count _ _ (live-node _ _ _ (c .before .before .node-name .ensures .0) (c .before .if1 .left)) _ (c .child-field .ensures .0)
 
 numbered : (c : tie.After-number) → c .number .result ≡ firstNumber (c .before .before .before .before .before .before .before .before .before .args .b .now) (c .before .before .before .before .before .before .before .before .before .args .p)
 numbered c =
-    first-number _ _ _ _ _ _ (c .before .before .before .before .before .before .before .before .before .pre .0 .0 .nodes .at-is) (c .before .before .u16-at3 .ensures .0) (c .before .u16-at4 .ensures .0) (c .number .ensures)
+    first-number _ _ _ _ _ _ (c .before .before .before .before .before .before .before .before .before .pre .0 .0 .nodes .at-is) (c .before .before .child-segment .ensures .0) (c .before .child-element .ensures .0) (c .number .ensures)
 
 returns-2 : tie.Need-returns-2
 returns-2 c = marked-none _ _ _ (sym (counted (c .before)) ∙ c .if2 .taken)
@@ -26,7 +26,7 @@ returns-2 c = marked-none _ _ _ (sym (counted (c .before)) ∙ c .if2 .taken)
 number-requires : tie.Need-number-requires
 number-requires c κs =
     let s = c .before .before .before .before .before .before .before .before in
-    let seg = segment-there (s .args .b .now) (s .args .p) _ _ (counted (c .before .before .before)) (c .before .u16-at3 .ensures .0) (c .before .before .if2 .left) (s .pre .1) in
+    let seg = segment-there (s .args .b .now) (s .args .p) _ _ (counted (c .before .before .before)) (c .before .child-segment .ensures .0) (c .before .before .if2 .left) (s .pre .1) in
     (own-counts (s .pre .0 .0) (s .pre .0 .1), (omega (arith, s .pre .0 .0 .nodes .count-is), search needs))
 
 range-free-requires : tie.Need-range-free-requires
@@ -49,6 +49,4 @@ returns-4 c =
 pub mark-node-spec : {M : Type 1} → statement M
 mark-node-spec =
     tie.close
-    (tie.spec (λ c κs. search needs) returns (λ c. search needs) (λ c κs. search needs) returns-2 (λ c. search needs)
-    (λ c κs. search needs) (λ c. search needs) (λ c κs. search needs) number-requires range-free-requires (λ c. search needs) returns-3
-    set-range-requires (λ c. search needs) returns-4)
+    (tie.spec (λ c κs. search needs) returns (λ c κs. search needs) returns-2 (λ c κs. search needs) (λ c κs. search needs) number-requires range-free-requires (λ c. search needs) returns-3 set-range-requires (λ c. search needs) returns-4)

@@ -1,6 +1,6 @@
 use mathlib.Core.Path.{_≡_, refl, sym, _∙_}
 use mathlib.Core.Logic.{⊎-elim}
-use Prim.Native.Nat.{_+_, _-_, _*_, _≤_, _<_}
+use Prim.Native.Nat.{_+_, _-_, _≤_, _<_}
 use native.Mathlib.Omega.{arith}
 use borrow.Author.Tests.{not-true, not-false}
 use borrow.Author.Needs.{needs}
@@ -9,17 +9,20 @@ use Rattle.verdict.specs.declared.Verdict.the-variants.{Accepted}
 use Rattle.region.specs.Region.{Resolves, countOf, usedOf}
 use Rattle.layout.specs.Layout.{nodeSize, nodesAt}
 use Rattle.nodes.specs.Node.{nodeAt}
+use Rattle.nodes.proofs.Left.{node-first, node-next}
+use Rattle.nodes.proofs.Ways.{node-fits}
 use Rattle.tree.specs.File.{usedNodes}
-use Rattle.tree.proofs.Passing.{AtSegment, AtNode, Passed, Inside, inside, node-place, node-fits, pass-start, pass-open, pass-next, pass-end, pass-node, pass-stop, left-refused, left-accepted}
+use Rattle.tree.proofs.Passing.{AtSegment, AtNode, Passed, Inside, inside, pass-start, pass-open, pass-next, pass-end, pass-node, pass-stop, left-refused, left-accepted}
 use Rattle.tree.proofs.Children.{rules-hold}
 use Rattle.tree.proofs.marks.mark_nodes.Statement.{statement}
 use Rattle.tree.proofs.marks.mark_nodes.Tie as tie
 
 abbrev Inv-loop : tie.InvT-loop
-Inv-loop b nodes segments counts used ws₀ fault₀ at seg n el₀ ws fault el = (n ≡ usedOf nodeSize b (nodesAt b) seg) × (fault ≡ Accepted) × AtNode b ws₀ seg el ws
+Inv-loop b nodes segments counts used ws₀ fault₀ at seg n p₀ el₀ ws fault p el =
+    (n ≡ usedOf nodeSize b (nodesAt b) seg) × (fault ≡ Accepted) × AtNode b ws₀ seg el ws × (p ≡ nodeAt b seg el)
 
 abbrev μ-loop : tie.MeasureT-loop
-μ-loop b nodes segments counts used ws₀ fault₀ at seg n el₀ ws fault el = n - el
+μ-loop b nodes segments counts used ws₀ fault₀ at seg n p₀ el₀ ws fault p el = n - el
 
 abbrev Inv-segments : tie.InvT-segments
 Inv-segments b nodes segments counts used ws₀ fault₀ at₀ seg₀ ws fault at seg = (fault ≡ Accepted) × AtSegment b ws₀ seg at ws
@@ -27,39 +30,30 @@ Inv-segments b nodes segments counts used ws₀ fault₀ at₀ seg₀ ws fault a
 abbrev μ-segments : tie.MeasureT-segments
 μ-segments b nodes segments counts used ws₀ fault₀ at₀ seg₀ ws fault at seg = countOf b (nodesAt b) - seg
 
-add-at : tie.Need-add-at Inv-loop μ-loop Inv-segments μ-segments
-add-at c = let s = c .before .before .before .before .before .before .before in omega (arith, s .pre .0 .nodes .at-is, s .pre .0 .laid .nodes .head)
+first-start-requires : tie.Need-first-start-requires Inv-loop μ-loop Inv-segments μ-segments
+first-start-requires c κs = let m = c .before .before .before .before .before .before .pre .0 .nodes in omega (arith, m .at-is, m .short, m .laid .head)
 
 segments-holds : tie.Need-segments-holds Inv-loop μ-loop Inv-segments μ-segments
 segments-holds c =
     let s = c .before .before .before .before .before .before .before in
-    (refl, pass-start (s .args .b .now) (s .args .ws .now) (s .pre .3) _ _ (s .pre .0 .nodes .at-is) (rw (sym (s .pre .2)) (c .before .before .before .set-range .ensures)))
+    (refl, pass-start (s .args .b .now) (s .args .ws .now) (s .pre .3) _ _ _ (c .first-start .ensures) (s .pre .0 .nodes .at-is) (rw (sym (s .pre .2)) (c .before .before .before .set-range .ensures)))
 
 -- the code is in a segment
 here : (c : tie.Then1 Inv-loop μ-loop Inv-segments μ-segments) → Inside (c .before .before .before .before .before .before .before .before .before .before .args .b .now) (c .before .before .segments .seg) (c .before .before .segments .at)
 here c =
     let s = c .before .before .before .before .before .before .before .before .before .before in
-    inside (s .args .b .now) (s .pre .0 .laid .nodes) _ _ (omega (arith, c .if1 .taken, s .pre .0 .nodes .count-is)) (c .before .before .segments .inv .1 .at-is)
+    inside (s .args .b .now) (s .pre .0 .nodes) _ _ (c .if1 .taken) (c .before .before .segments .inv .1 .at-is)
 
-add-u32-at : tie.Need-add-u32-at Inv-loop μ-loop Inv-segments μ-segments
-add-u32-at c = omega (arith, here c .fits)
-
-u32-at-requires : tie.Need-u32-at-requires Inv-loop μ-loop Inv-segments μ-segments
-u32-at-requires c κs = omega (arith, here c .fits)
+used-count-requires : tie.Need-used-count-requires Inv-loop μ-loop Inv-segments μ-segments
+used-count-requires c κs = omega (arith, here c .fits)
 
 loop-holds : tie.Need-loop-holds Inv-loop μ-loop Inv-segments μ-segments
 loop-holds c =
     let l = c .before .before .before .segments in
-    (c .u32-at .ensures .0 ∙ here (c .before) .used, l .inv .0, pass-open _ _ _ _ _ (here (c .before) .seg-in) (l .inv .1))
+    (c .used-count .ensures .0 ∙ here (c .before) .used, l .inv .0, pass-open _ _ _ _ _ (here (c .before) .seg-in) (l .inv .1), node-first _ _ _ (l .inv .1 .at-is))
 
 add-p : tie.Need-add-p Inv-loop μ-loop Inv-segments μ-segments
-add-p c = omega (arith, here (c .before .before .before) .fits)
-
-mul-p : tie.Need-mul-p Inv-loop μ-loop Inv-segments μ-segments
-mul-p c = omega (arith, here (c .before .before .before) .few, c .before .loop .inv .0)
-
-add-p-2 : tie.Need-add-p-2 Inv-loop μ-loop Inv-segments μ-segments
-add-p-2 c = omega (arith, here (c .before .before .before) .fits)
+add-p c = omega (arith, here (c .before) .fits)
 
 -- the workspace has room for the used nodes all the time
 room-from : (c : tie.At-segments Inv-loop μ-loop Inv-segments μ-segments) → usedNodes (c .before .before .before .before .before .before .before .before .args .b .now) ≤ length (c .before .before .before .before .set-range .last .0)
@@ -75,20 +69,23 @@ below c = omega (arith, c .loop-test .taken, c .before .loop .inv .0)
 there : (c : tie.In-loop Inv-loop μ-loop Inv-segments μ-segments) → Resolves nodeSize (c .before .before .before .before .before .before .before .before .before .before .before .before .before .args .b .now) (nodesAt (c .before .before .before .before .before .before .before .before .before .before .before .before .before .args .b .now)) (c .before .before .before .before .before .segments .seg) (c .before .loop .el)
 there c = record { seg-in = here (c .before .before .before) .seg-in; el-in = below c }
 
-standing : (c : tie.In-loop Inv-loop μ-loop Inv-segments μ-segments) → c .before .before .before .before .before .segments .at + 8 + c .before .loop .el * 24 ≡ nodeAt (c .before .before .before .before .before .before .before .before .before .before .before .before .before .args .b .now) (c .before .before .before .before .before .segments .seg) (c .before .loop .el)
-standing c = node-place _ (c .before .before .before .before .before .before .before .before .before .before .before .before .before .pre .0 .laid .nodes) _ _ (here (c .before .before .before) .seg-in) (c .before .before .before .before .before .segments .inv .1 .at-is) _ (below c)
+inside-file : (c : tie.In-loop Inv-loop μ-loop Inv-segments μ-segments) → c .before .loop .p + 24 ≤ length (c .before .before .before .before .before .before .before .before .before .before .before .before .before .args .b .now)
+inside-file c = node-fits _ _ _ _ (c .before .before .before .before .before .before .before .before .before .before .before .before .before .pre .0 .laid .nodes) (there c) (c .before .loop .inv .3)
+
+add-p-2 : tie.Need-add-p-2 Inv-loop μ-loop Inv-segments μ-segments
+add-p-2 c = omega (arith, inside-file (c .before .before .before .before .before))
 
 mark-node-requires : tie.Need-mark-node-requires Inv-loop μ-loop Inv-segments μ-segments
 mark-node-requires c κs =
     let s = c .before .before .before .before .before .before .before .before .before .before .before .before .before .before in
-    let l = c .before .before .before .before .before .before .segments in (
+    let l = c .before .before .loop in (
       (
         s .pre .0,
         s .pre .1,
-        node-fits _ (s .pre .0 .laid .nodes) _ _ (here (c .before .before .before .before) .seg-in) (l .inv .1 .at-is) _ (below (c .before)),
-        omega (arith, room-here (c .before .before .before .before .before .before), c .before .before .loop .inv .2 .marks .long),
+        inside-file (c .before),
+        omega (arith, room-here (c .before .before .before .before .before .before), l .inv .2 .marks .long),
       ),
-      rw (standing (c .before)) (rules-hold (s .pre .0) .each _ _ (there (c .before)) .children .reach),
+      rw (l .inv .3) (rules-hold (s .pre .0) .each _ _ (there (c .before)) .children .reach),
     )
 
 loop-again : tie.Need-loop-again Inv-loop μ-loop Inv-segments μ-segments
@@ -98,21 +95,13 @@ loop-again c =
     let n = c .before .before .before .before .before in (
       l .inv .0,
       l .inv .1,
-      pass-node (s .args .b .now) _ (room-here (c .before .before .before .before .before .before .before .before .before .before)) (s .pre .0 .laid .nodes) (rules-hold (s .pre .0)) _ _ _ (there n) (standing n)
+      pass-node (s .args .b .now) _ (room-here (c .before .before .before .before .before .before .before .before .before .before)) (s .pre .0 .laid .nodes) (rules-hold (s .pre .0)) _ _ _ (there n) (l .inv .3)
           _ _ _ (c .before .before .before .mark-node .ensures) (l .inv .2) (not-false _ (c .if2 .left)),
+      node-next _ _ _ _ (l .inv .3),
     )
 
-add-at-2 : tie.Need-add-at-2 Inv-loop μ-loop Inv-segments μ-segments
-add-at-2 c = omega (arith, here (c .before .before .before) .fits)
-
-u32-at-requires-2 : tie.Need-u32-at-requires-2 Inv-loop μ-loop Inv-segments μ-segments
-u32-at-requires-2 c κs = omega (arith, here (c .before .before .before) .fits)
-
-mul-at : tie.Need-mul-at Inv-loop μ-loop Inv-segments μ-segments
-mul-at c = omega (arith, here (c .before .before .before .before) .full, here (c .before .before .before .before) .fits)
-
-add-at-3 : tie.Need-add-at-3 Inv-loop μ-loop Inv-segments μ-segments
-add-at-3 c = omega (arith, here (c .before .before .before .before) .full, here (c .before .before .before .before) .fits)
+next-start-requires : tie.Need-next-start-requires Inv-loop μ-loop Inv-segments μ-segments
+next-start-requires c κs = here (c .before .before .before) .fits
 
 add-seg : tie.Need-add-seg Inv-loop μ-loop Inv-segments μ-segments
 add-seg c = omega (arith, here (c .before .before .before .before) .seg-in, c .before .before .before .before .before .before .before .before .before .before .before .before .before .before .pre .0 .laid .nodes .few)
@@ -126,9 +115,8 @@ segments-again c =
     let i = here (c .before .before .before .before) in
     let l = c .before .before .loop in (
       l .inv .1,
-      rw (c .u32-at2 .ensures .0 ∙ i .full)
-          (pass-next (s .args .b .now) _ (room-from (c .before .before .before .before .before .before)) (s .pre .0 .laid .nodes) _ _ _ _ _ (i .seg-in)
-          (omega (arith, c .before .loop-test .left, l .inv .0)) (c .before .before .before .before .before .before .segments .inv .1) (l .inv .2)),
+      pass-next (s .args .b .now) _ (room-from (c .before .before .before .before .before .before)) (s .pre .0 .laid .nodes) _ _ _ _ _ _ (c .next-start .ensures) (i .seg-in)
+          (omega (arith, c .before .loop-test .left, l .inv .0)) (c .before .before .before .before .before .before .segments .inv .1) (l .inv .2),
     )
 
 -- where the ways out of the segments meet
@@ -141,9 +129,9 @@ passed c =
     (λ w. rw (w .1, w .2 ∙ i .0)
     (pass-end (s .args .b .now) _ (room-from (c .before .before)) g _ _ _ (omega (arith, w .0 .left, s .pre .0 .nodes .count-is)) (i .1)))
     (λ w.
-    let n : tie.In-loop Inv-loop μ-loop Inv-segments μ-segments = record { before = record { before = record { before = record { before = c .before; if1 = w .0 }; u32-at = w .1 }; loop = w .2 }; loop-test = w .3 } in
+    let n : tie.In-loop Inv-loop μ-loop Inv-segments μ-segments = record { before = record { before = record { before = record { before = c .before; if1 = w .0 }; used-count = w .1 }; loop = w .2 }; loop-test = w .3 } in
     rw (w .9, w .10)
-    (pass-stop (s .args .b .now) _ (room-here (c .before .before)) g (rules-hold (s .pre .0)) _ _ _ (there n) (standing n)
+    (pass-stop (s .args .b .now) _ (room-here (c .before .before)) g (rules-hold (s .pre .0)) _ _ _ (there n) (w .2 .inv .3)
     _ _ _ (w .5 .ensures) _ _ (i .1) (w .2 .inv .2) (not-true _ (w .8 .taken))))
     (c .if1 .came)
 
@@ -174,7 +162,5 @@ returns-2 c =
 pub mark-nodes-spec : {M : Type 1} → statement M
 mark-nodes-spec =
     tie.close
-    (tie.spec Inv-loop μ-loop Inv-segments μ-segments (λ c κs. search needs) add-at segments-holds add-u32-at u32-at-requires loop-holds
-    add-p mul-p add-p-2 mark-node-requires (λ c. search needs) (λ c. search needs) loop-again add-at-2 u32-at-requires-2 mul-at add-at-3
-    add-seg segments-less segments-again (λ c. search needs) set-range-requires-2 (λ c. search needs) same-length returns same-length-2
-    returns-2)
+    (tie.spec Inv-loop μ-loop Inv-segments μ-segments (λ c κs. search needs) first-start-requires segments-holds used-count-requires add-p loop-holds
+    mark-node-requires add-p-2 (λ c. search needs) (λ c. search needs) loop-again next-start-requires add-seg segments-less segments-again (λ c. search needs) set-range-requires-2 (λ c. search needs) same-length returns same-length-2 returns-2)
