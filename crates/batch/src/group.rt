@@ -9,7 +9,7 @@ ghost use Rattle.hash.specs.inner.Tables.{Tables};
 ghost use Rattle.strings.specs.Order.{stringChecks};
 ghost use Rattle.strings.specs.inner.Held.{Held, heldTable};
 ghost use Rattle.path.specs.Names.{pathChecks};
-ghost use Rattle.search.specs.inner.Group.{Lengths};
+ghost use Rattle.search.specs.inner.Group.{LowerBounds, Lengths};
 ghost use Rattle.batch.specs.inner.Groups.{Group, AllNear, Texts, Picked, SameLow};
 use lookup::Kind;
 use lookup::first;
@@ -96,9 +96,9 @@ fn read_ends(b: &[u8], text: &[usize; 64], end: &[usize; 64], n: usize, low: &mu
     }
 }
 
-// The places of all hashes of a group, and an entry picked for each. The entries' texts are read ahead, unless the table is small: texts
-// take a few times as much memory as entries, so that is sooner than for the entries themselves.
-pub fn bring_near(
+// An entry picked for each text of a group. The entries' texts are read ahead, unless the table is small: texts take a few times as much
+// memory as entries, so that is sooner than for the entries themselves.
+pub fn prefetch_texts(
     b: &[u8],
     s: Strings,
     segments: &[u32; 1024],
@@ -112,11 +112,11 @@ pub fn bring_near(
     results: &mut [usize; 64],
 )
     requires { ⌜ Held (now b) s (now segments) (now buckets) × (firstFault (stringChecks (heldTable (now b) s (now buckets))) ≡ Accepted)
-        × (n ≤ 64) × Lengths (now lengths) (now hashes) (now low) × (length (now text) ≡ 64) × (length (now results) ≡ 64) ⌝ }
+        × (n ≤ 64) × Lengths (now lengths) (now hashes) (now low) × (length (now text) ≡ 64) × (length (now results) ≡ 64)
+        × LowerBounds (heldTable (now b) s (now buckets)) (now hashes) n (now low) ⌝ }
     ensures near { λ _. ⌜ AllNear (heldTable (now (b .entry)) s (now (buckets .entry))) (now (hashes .entry)) n (now (low .exit)) ⌝ }
     ensures picked { λ _. ⌜ Picked kind (heldTable (now (b .entry)) s (now (buckets .entry))) (now (lengths .entry)) n (now (text .exit)) (now (results .exit)) ⌝ }
 {
-    group::lower_bounds(b, s, segments, buckets, hashes, n, low);
     let mut end = [0usize; 64];
     pick_each(
         b,

@@ -94,11 +94,22 @@ fn put_places(
     let mut low = [0usize; 64];
     let mut text = [0usize; 64];
     let mut results = [0usize; 64];
+    let mut skipped = 0;
     let mut i = 0usize;
     let mut at = 0;
     while at < texts.len() {
         let n = group::measure_group(texts, t, at, &mut lengths, &mut hashes);
-        group::bring_near(
+        skipped = search::group::lower_bounds(
+            b,
+            s,
+            segments,
+            buckets,
+            &hashes,
+            n,
+            skipped,
+            &mut low,
+        );
+        group::prefetch_texts(
             b,
             s,
             segments,

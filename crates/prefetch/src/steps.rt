@@ -279,6 +279,6 @@ pub fn batch_right(
     let mut hashes = [0u32; 64];
     hash_texts(b, t, n, &at, &left, &mut hashes, memo);
     let mut low = [0usize; 64];
-    group::lower_bounds(b, s, segments, buckets, &hashes, n, &mut low);
+    group::lower_bounds(b, s, segments, buckets, &hashes, n, 0, &mut low);
     find_entries(b, s, segments, buckets, slots, n, &hashes, &low)
 }

@@ -135,6 +135,20 @@ searches-more t hashes low high j a l h lo hi e s = record {
 pub near-of : (t : Table) (h g r : ℕ) → h ≡ g → Near t (bucketOf (t .buckets) h) h r → Near t (bucketOf (t .buckets) g) g r
 near-of t h g r e w = rw (sym e) w
 
+pub near-none : (t : Table) (hashes low : List ℕ) → length low ≡ 64 → AllNear t hashes 0 low
+near-none t hashes low e = record { long = e; each = below-none _ }
+
+-- one more is found
+pub near-more : (t : Table) (hashes low : List ℕ) (j : ℕ) → AllNear t hashes j low → j < 64 → (h r : ℕ) → h ≡ getD hashes j 0
+    → Near t (bucketOf (t .buckets) h) h r → AllNear t hashes (j + 1) (set low j r)
+near-more t hashes low j a l h r e w = record {
+  long = length-set low j r ∙ a .long;
+  each = fill (NearAt t hashes) low j r (omega (arith, a .long)) (a .each) (near-of t h (getD hashes j 0) r e w);
+}
+
+pub near-upto : (t : Table) (hashes low : List ℕ) (m : ℕ) → AllNear t hashes m low → (n : ℕ) → n ≤ m → AllNear t hashes n low
+near-upto t hashes low m a n l = record { long = a .long; each = λ i h. a .each i (omega arith) }
+
 -- each of them is found
 pub near-all : (t : Table) (hashes low : List ℕ) → Clean (allEntryChecks t) → 0 < t .buckets → (n : ℕ) → AllNear t hashes n low → LowerBounds t hashes n low
 near-all t hashes low ok b n a = record { long = a .long; each = λ j l. near-place t (getD hashes j 0) (getD low j 0) b ok (a .each j l) }

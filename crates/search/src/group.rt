@@ -16,6 +16,9 @@ use crate::pending;
 use strings::Strings;
 use strings::entry;
 
+// After a group of which most estimates were of no use, as many groups go without.
+const SKIPPED: usize = 15;
+
 // Which entry of its bucket a hash is to be expected at, and where that entry stands.
 struct Estimate {
     entry: u32,
@@ -346,7 +349,8 @@ fn probe_each(
     m
 }
 
-// The places of the first n hashes, each in its bucket.
+// The places of the first n hashes, each in its bucket. The next `skipped` groups are halved without an estimate. Answers how many are left of
+// these, or how many are to be next: some where most estimates were of no use, so that these cost little where hashes are not spread evenly.
 pub fn lower_bounds(
     b: &[u8],
     s: Strings,
@@ -354,12 +358,17 @@ pub fn lower_bounds(
     buckets: &[u32],
     hashes: &[u32; 64],
     n: usize,
+    skipped: usize,
     low: &mut [usize; 64],
-)
+) -> usize
     requires { ⌜ Held (now b) s (now segments) (now buckets) × (firstFault (allEntryChecks (heldTable (now b) s (now buckets))) ≡ Accepted)
         × (n ≤ 64) × (length (now hashes) ≡ 64) × (length (now low) ≡ 64) ⌝ }
     ensures { λ _. ⌜ LowerBounds (heldTable (now (b .entry)) s (now (buckets .entry))) (now (hashes .entry)) n (now (low .exit)) ⌝ }
 {
+    if skipped > 0 {
+        pending::find_all(b, s, segments, buckets, hashes, n, low);
+        return skipped - 1;
+    }
     let mut estimate = [0u32; 64];
     estimate_windows(b, s, segments, buckets, hashes, n, &mut estimate);
     let mut which = [0usize; 64];
@@ -374,7 +383,9 @@ pub fn lower_bounds(
         low,
         &mut which,
     );
-    if m > 0 {
-        pending::find_rest(b, s, segments, buckets, hashes, n, &which, m, low);
+    if m == 0 {
+        return 0;
     }
+    pending::find_rest(b, s, segments, buckets, hashes, n, &which, m, low);
+    if n < 2 * m { SKIPPED } else { 0 }
 }

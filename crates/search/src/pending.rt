@@ -158,6 +158,30 @@ fn begin_each(
     }
 }
 
+// Finds n hashes by halving, side by side.
+pub fn find_all(
+    b: &[u8],
+    s: Strings,
+    segments: &[u32; 1024],
+    buckets: &[u32],
+    hashes: &[u32; 64],
+    n: usize,
+    low: &mut [usize; 64],
+)
+    requires { ⌜ Held (now b) s (now segments) (now buckets) × (length (now hashes) ≡ 64) × (n ≤ 64) × (length (now low) ≡ 64) ⌝ }
+    ensures { λ _. ⌜ AllNear (heldTable (now (b .entry)) s (now (buckets .entry))) (now (hashes .entry)) n (now (low .exit)) ⌝ }
+{
+    let mut lo = [0usize; 64];
+    let mut hi = [0usize; 64];
+    begin_each(b, s, segments, buckets, hashes, n, &mut lo, &mut hi);
+    halve_all(b, s, segments, buckets, hashes, n, &mut lo, &mut hi);
+    let mut j = 0;
+    while j < n {
+        low[j] = finish(b, s, segments, buckets, le::wide(hashes[j]), lo[j], hi[j]);
+        j += 1;
+    }
+}
+
 // Finds by halving those of n hashes that are not found yet: the first m of a list.
 pub fn find_rest(
     b: &[u8],
@@ -176,13 +200,11 @@ pub fn find_rest(
 {
     let mut rest = [0u32; 64];
     gather(hashes, which, m, &mut rest);
-    let mut lo = [0usize; 64];
-    let mut hi = [0usize; 64];
-    begin_each(b, s, segments, buckets, &rest, m, &mut lo, &mut hi);
-    halve_all(b, s, segments, buckets, &rest, m, &mut lo, &mut hi);
+    let mut found = [0usize; 64];
+    find_all(b, s, segments, buckets, &rest, m, &mut found);
     let mut i = 0;
     while i < m {
-        low[which[i]] = finish(b, s, segments, buckets, le::wide(rest[i]), lo[i], hi[i]);
+        low[which[i]] = found[i];
         i += 1;
     }
 }
