@@ -105,7 +105,8 @@ enum taplinen_refusal {
 /* The value of the field kind of an answered look-up. It is 0 for every other question, and on a refusal. */
 enum taplinen_kind {
     TAPLINEN_FOUND = 0,
-    TAPLINEN_ABSENT = 1
+    TAPLINEN_ABSENT = 1,
+    TAPLINEN_COLLIDED = 2 /* the text is not there, but other texts with its 32-bit hash are */
 };
 
 typedef struct {
@@ -183,13 +184,18 @@ taplinen_answer taplinen_accept(const uint8_t *file, size_t file_len, uint8_t *w
 taplinen_header_report taplinen_header(const uint8_t *file, size_t file_len, uint8_t *ws, size_t ws_len);
 
 /* Looks a text up in the names table. The parameter text has two bytes per character, low byte first, without a final 0. The field value is
- * the index of the name, or 0 if the text is absent. A text that contains a 0 character is absent. Two names with the same hash are two
- * names. */
+ * the index of the name. Two names with the same hash are two names.
+ *   TAPLINEN_ABSENT    No name has the text, and none has its 32-bit hash. The field value is 0. A text that contains a 0 character is
+ *                      always absent.
+ *   TAPLINEN_COLLIDED  No name has the text, but some have its hash. The field value is how many. A loader that compares hashes alone
+ *                      takes one of them for the text: a player who asks for one item gets another. Treat the text as not found, and
+ *                      log it: either the text is wrong, or its item is missing from the file. Before you add it to the file, make
+ *                      sure that no program that you ship compares hashes alone, or choose another text. */
 taplinen_answer taplinen_name(const uint8_t *file, size_t file_len, uint8_t *ws, size_t ws_len,
                               const uint8_t *text, size_t text_len);
 
-/* Looks a text up in the values table. The field value is its address as segment * 65536 + element, or 0 if the text is absent. Test kind:
- * 0:0 is an address, too. */
+/* Looks a text up in the values table. The field value is its address as segment * 65536 + element. Test kind: 0:0 is an address, too.
+ * Absent and collided are as with taplinen_name. */
 taplinen_answer taplinen_value(const uint8_t *file, size_t file_len, uint8_t *ws, size_t ws_len,
                                const uint8_t *text, size_t text_len);
 

@@ -7,7 +7,7 @@
 /* The exit status. Where two apply, the higher one is given. */
 enum status {
     STATUS_ANSWERED = 0, /* all files accepted, all texts found, a match */
-    STATUS_NEGATIVE = 1, /* a file refused, a text absent, no match */
+    STATUS_NEGATIVE = 1, /* a file refused, a text not found, no match */
     STATUS_ERROR = 2     /* wrong use, unreadable file, text that is not UTF-8, out of memory or write error */
 };
 

@@ -31,12 +31,17 @@ static void print_value_address(uint32_t address)
 static enum status print_answer(const struct table *table, const char *text, uint32_t kind, uint32_t value)
 {
     printf("%s: ", text);
-    if (kind == TAPLINEN_ABSENT) {
+    switch (kind) {
+    case TAPLINEN_FOUND:
+        table->print_found(value);
+        return STATUS_ANSWERED;
+    case TAPLINEN_COLLIDED:
+        printf(value == 1 ? "collided: %u other text has this hash\n" : "collided: %u other texts have this hash\n", value);
+        return STATUS_NEGATIVE;
+    default:
         puts("absent");
         return STATUS_NEGATIVE;
     }
-    table->print_found(value);
-    return STATUS_ANSWERED;
 }
 
 static enum status ask(const struct table *table, const struct input *input, const struct characters *texts, char **shown, size_t count)

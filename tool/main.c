@@ -47,7 +47,7 @@ static enum status print_help(void)
          "\n"
          "FILE may be -, which is standard input. -- ends the options.\n"
          "Exit status: 0 if all files are accepted, all texts are found, there is a match;\n"
-         "1 if a file is refused, a text is absent, there is no match; 2 for wrong use, an\n"
+         "1 if a file is refused, a text is not found, there is no match; 2 for wrong use, an\n"
          "unreadable file, a text that is not UTF-8, out of memory or a write error.");
     return STATUS_ANSWERED;
 }

@@ -10,11 +10,12 @@
 //! a held view. The hashes are measured on short texts, and on each file's bytes
 //! as one text, beside its acceptance.
 //!
-//! `bench traps` measures files that are made to be slow instead, and `bench buckets`
-//! look-ups in crowded buckets.
+//! `bench traps` measures files that are made to be slow instead, `bench buckets` look-ups
+//! in crowded buckets, and `bench collided` look-ups by their kind.
 
 mod buckets;
 mod clock;
+mod collided;
 mod growth;
 mod hashing;
 mod memory;
@@ -207,6 +208,7 @@ fn main() -> ExitCode {
             return traps::child(&words[1..]).map_or(ExitCode::from(2), |()| ExitCode::SUCCESS)
         }
         Some("buckets") => buckets::run(&[proved(), plain()]),
+        Some("collided") => collided::run(&[proved(), plain()]),
         first => ordinary(first.and_then(|word| word.parse().ok()).unwrap_or(256)),
     }
     ExitCode::SUCCESS

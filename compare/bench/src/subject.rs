@@ -4,7 +4,7 @@
 use std::hint::black_box;
 
 use compare::loader::Loader;
-use second::{Index, Right, View, Which};
+use second::{Answer, Index, Right, View, Which};
 
 use crate::clock::now;
 
@@ -13,6 +13,8 @@ pub trait Subject {
     fn accept(&self, file: &[u8], workspace: &mut [u8]) -> f64;
     /// All texts of a batch, on a held view or after an acceptance.
     fn lookups(&self, file: &[u8], workspace: &mut [u8], which: Which, batch: &Batch) -> f64;
+    /// A question for each text, on a held view or each after an acceptance.
+    fn singles(&self, file: &[u8], workspace: &mut [u8], which: Which, texts: &[Vec<u8>]) -> f64;
     /// Whether the lookups' time has an acceptance in it.
     fn accepts_again(&self) -> bool;
     /// One path question, acceptance included.
@@ -84,6 +86,11 @@ impl<I: Index> Subject for Held<I> {
         timed(|| view.batch(which, &batch.texts, &mut answers).refusal)
     }
 
+    fn singles(&self, file: &[u8], workspace: &mut [u8], which: Which, texts: &[Vec<u8>]) -> f64 {
+        let view = self.view(file, workspace);
+        each(texts, |text| view.single(which, text))
+    }
+
     fn accepts_again(&self) -> bool {
         false
     }
@@ -143,6 +150,10 @@ impl<L: Loader> Subject for Exported<L> {
         timed(|| self.loader.batch(which, file, workspace, &batch.texts, &mut answers).refusal)
     }
 
+    fn singles(&self, file: &[u8], workspace: &mut [u8], which: Which, texts: &[Vec<u8>]) -> f64 {
+        each(texts, |text| self.loader.single(which, file, workspace, text))
+    }
+
     fn accepts_again(&self) -> bool {
         true
     }
@@ -162,6 +173,11 @@ impl<L: Loader> Subject for Exported<L> {
     fn value_hashes(&self, texts: Texts) -> f64 {
         texts.timed(|text| self.loader.value_hash(text))
     }
+}
+
+/// Seconds of a look-up of each text.
+fn each(texts: &[Vec<u8>], mut ask: impl FnMut(&[u8]) -> Answer) -> f64 {
+    timed(|| texts.iter().map(|text| black_box(ask(text)).refusal).max().unwrap_or(0))
 }
 
 /// Seconds of a question, which has to be answered without a refusal.

@@ -1,11 +1,12 @@
 //! The questions asked about a file.
 
-use maker::collide::twin;
+use maker::collide::{closed, hash, stranger, twin};
 use maker::rng::Rng;
 use maker::text::{random, to_bytes, Text};
 use second::{Loader, Plain, Right, Which};
 
 use crate::case::Case;
+use crate::due::list;
 use crate::guard::Edge;
 use crate::question::{Ask, Question};
 
@@ -59,11 +60,11 @@ pub fn every(rng: &mut Rng, case: &Case) -> Vec<Question> {
             let nearly = single_text(rng, case, which);
             all.extend([to_bytes(text), nearly].map(|text| (Ask::Single(which, text), 0)));
         }
-        let texts = whole_list(table(case, which));
+        let texts = list(table(case, which));
         let count = table(case, which).len();
         all.extend([8 * count, 8 * count - 1].map(|out| (Ask::Batch(which, texts.clone()), out)));
     }
-    for path in case.paths.iter().map(|names| whole_list(names)) {
+    for path in case.paths.iter().map(|names| list(names)) {
         let matches = match_count(case, &known, &path);
         all.push((Ask::Path(path), 4 * matches));
     }
@@ -153,8 +154,15 @@ fn asked_text(rng: &mut Rng, texts: &[Text]) -> Text {
         return random(rng, 6);
     }
     let mut text = rng.pick(texts).clone();
-    match rng.below(12) {
+    match rng.below(14) {
+        // Texts with the same hash.
         0 => return twin(rng, &text).unwrap_or(text),
+        12 => return stranger(rng, &text),
+        13 if rng.one_in(30) => {
+            let length = rng.between(65_530, 70_000);
+            return closed(&vec![0x61; length], hash(&text)).unwrap_or(text);
+        }
+        13 => return stranger(rng, &text),
         1 => text.truncate(rng.between(0, text.len())),
         2 => {
             text.drain(..rng.between(0, text.len()));
@@ -197,14 +205,9 @@ fn single_text(rng: &mut Rng, case: &Case, which: Which) -> Vec<u8> {
     bytes
 }
 
-/// Texts each followed by a 0.
-fn whole_list(texts: &[Text]) -> Vec<u8> {
-    texts.iter().flat_map(|text| to_bytes(text).into_iter().chain([0, 0])).collect()
-}
-
-/// The same, sometimes ill formed.
+/// Texts each followed by a 0, sometimes ill formed.
 fn ended(rng: &mut Rng, texts: &[Text]) -> Vec<u8> {
-    let mut bytes = whole_list(texts);
+    let mut bytes = list(texts);
     match rng.below(16) {
         0 => bytes.push(0),
         1 => bytes.truncate(bytes.len().saturating_sub(1)),

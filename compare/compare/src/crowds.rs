@@ -7,7 +7,7 @@ use maker::rng::Rng;
 use maker::text::{to_bytes, Text};
 use second::{Answer, Which};
 
-use crate::due::Due;
+use crate::due::{list, places, told, Due};
 use crate::question::Ask;
 
 /// Collects questions.
@@ -73,16 +73,6 @@ impl Asker<'_> {
         }
     }
 
-    /// What a look-up answers.
-    fn found(&self, which: Which, text: &[u16]) -> Answer {
-        let found = match which {
-            Which::Names => self.file.name(text),
-            Which::Values => self.file.value(text),
-        };
-        let kind = found.is_none() as u32;
-        Answer { refusal: 0, kind, value: found.unwrap_or(0) as u64 }
-    }
-
     fn singles(&mut self, which: Which) {
         let (crowd, absent) = (self.strings(which).crowd.len(), self.strings(which).absent.len());
         let (present, missing) = (sample(self.rng, crowd), sample(self.rng, absent));
@@ -90,7 +80,7 @@ impl Asker<'_> {
         let present = present.into_iter().map(|i| strings.in_crowd(i).clone());
         let missing = missing.into_iter().map(|i| strings.absent[i].clone());
         for text in present.chain(missing).collect::<Vec<_>>() {
-            let answer = self.found(which, &text);
+            let answer = told(self.file.look_up(which, &text));
             self.ask(Ask::Single(which, to_bytes(&text)), answer, Vec::new());
         }
     }
@@ -115,12 +105,7 @@ impl Asker<'_> {
     }
 
     fn batch(&mut self, which: Which, texts: &[Text]) {
-        let mut out = Vec::new();
-        for text in texts {
-            let Answer { kind, value, .. } = self.found(which, text);
-            out.extend(kind.to_le_bytes());
-            out.extend((value as u32).to_le_bytes());
-        }
+        let out = places(texts.iter().map(|text| self.file.look_up(which, text)));
         let answer = Answer { refusal: 0, kind: 0, value: texts.len() as u64 };
         self.ask(Ask::Batch(which, list(texts)), answer, out);
     }
@@ -156,9 +141,4 @@ impl Asker<'_> {
         let out = matches.iter().flat_map(|place| place.to_le_bytes()).collect();
         self.ask(Ask::Path(list(names)), answer, out);
     }
-}
-
-/// Texts each followed by a 0.
-fn list(texts: &[Text]) -> Vec<u8> {
-    texts.iter().flat_map(|text| to_bytes(text).into_iter().chain([0, 0])).collect()
 }

@@ -1,6 +1,8 @@
 //! Questions whose answers are known beforehand.
 
+use maker::known::Lookup;
 use maker::rng::Rng;
+use maker::text::{to_bytes, Text};
 use second::Answer;
 
 use crate::guard::Edge;
@@ -31,4 +33,20 @@ impl Due {
     pub fn fits(&self, outcome: &Outcome) -> bool {
         outcome.reply == Reply::Answer(self.answer) && outcome.out.starts_with(&self.out)
     }
+}
+
+/// The answer to a single text.
+pub fn told(lookup: Lookup) -> Answer {
+    Answer { refusal: 0, kind: lookup.kind(), value: lookup.value() as u64 }
+}
+
+/// What a list's buffer then begins with.
+pub fn places(lookups: impl Iterator<Item = Lookup>) -> Vec<u8> {
+    let words = lookups.flat_map(|lookup| [lookup.kind(), lookup.value()]);
+    words.flat_map(u32::to_le_bytes).collect()
+}
+
+/// Texts each followed by a 0.
+pub fn list(texts: &[Text]) -> Vec<u8> {
+    texts.iter().flat_map(|text| to_bytes(text).into_iter().chain([0, 0])).collect()
 }

@@ -1,12 +1,14 @@
 //! Every length of a lent buffer: listings, answers and outlines, from none to
 //! a few bytes more than are needed.
 
+use maker::collide::stranger;
 use maker::rng::Rng;
 use maker::samples;
-use maker::text::{text, to_bytes};
+use maker::text::text;
 use second::{Loader, Plain, Right, Which};
 
 use crate::case::Case;
+use crate::due::list;
 use crate::guard::Edge;
 use crate::question::{Ask, Question};
 
@@ -27,7 +29,16 @@ pub fn shop() -> Case {
 
 /// Texts or names, each followed by a 0.
 fn joined(words: &[&str]) -> Vec<u8> {
-    words.iter().flat_map(|word| [to_bytes(&text(word)), vec![0, 0]].concat()).collect()
+    list(&words.iter().map(|word| text(word)).collect::<Vec<_>>())
+}
+
+/// So many texts, of which some have the hash of a text that is there.
+const MIXED: usize = 5;
+
+fn mixed(rng: &mut Rng) -> Vec<u8> {
+    let [item, sword] = ["Item", "Iron sword"].map(text);
+    let texts = [stranger(rng, &item), item, text("Nothing"), stranger(rng, &sword), sword];
+    list(&texts)
 }
 
 /// The questions, with the number of bytes that each needs and how many more
@@ -46,6 +57,7 @@ pub fn questions(rng: &mut Rng, case: &Case) -> Vec<Question> {
         for texts in [&[][..], &["Item"], &["Iron sword", "Nothing", "Item"]] {
             asked.push((Ask::Batch(which, joined(texts)), 8 * texts.len() + 9));
         }
+        asked.push((Ask::Batch(which, mixed(rng)), 8 * MIXED + 9));
     }
     let outline = ORACLE.outline(file, &mut workspace, &mut []).value as usize;
     asked.push((Ask::Outline, outline + 5));

@@ -3,6 +3,7 @@
 pub mod asks;
 pub mod buckets;
 pub mod case;
+pub mod collisions;
 pub mod crowds;
 pub mod directed;
 pub mod due;
@@ -31,7 +32,7 @@ pub fn others() -> Vec<Box<dyn Loader>> {
     let indexed: Second<Right, Marked> = Second::new("second, indexed", Right);
     let careful: Second<Right, Careful> = Second::new("second, careful from the start", Right);
     let literal: Second<Literal, Marked> =
-        Second::new("second, with texts and hashes by definition", Literal);
+        Second::new("second, with texts, hashes and look-ups by definition", Literal);
     vec![
         #[cfg(feature = "rattle")]
         Box::new(rattle::Rattle::default()),

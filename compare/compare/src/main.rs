@@ -10,6 +10,9 @@ use compare::tally::Tally;
 /// Every refusal from 2 on is asked for at least so often in a full run.
 const LEAST: u64 = 50;
 
+/// Texts collide at least so often in a full run, alone and in lists.
+const LEAST_COLLIDED: u64 = 10_000;
+
 /// The comparison has to get by with a small stack.
 const STACK: usize = 256 * 1024;
 
@@ -87,10 +90,14 @@ fn main() -> ExitCode {
     if !rare.is_empty() {
         println!("refusals asked for fewer than {LEAST} times: {rare:?}");
     }
+    let few_collided = plan.full && tally.few_collided(LEAST_COLLIDED);
+    if few_collided {
+        println!("texts collided fewer than {LEAST_COLLIDED} times, alone or in lists");
+    }
     if tally.parted == 0 {
         println!("no two texts of one value hash parted");
     }
-    match tally.differences == 0 && rare.is_empty() && tally.parted > 0 {
+    match tally.differences == 0 && rare.is_empty() && !few_collided && tally.parted > 0 {
         true => ExitCode::SUCCESS,
         false => ExitCode::FAILURE,
     }

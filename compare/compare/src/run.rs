@@ -70,21 +70,7 @@ impl Run {
         self.texts(&mut rng.clone());
         self.smallest();
         if self.plan.full {
-            self.largest();
-            self.every_length(&mut rng);
-            self.directed(&mut rng);
-            self.letters(&mut rng);
-            self.buckets();
-            for make in limits() {
-                let case = make(&mut rng);
-                self.case(&mut rng, &case);
-            }
-            for case in cut_counts(&mut rng).chain(cuts(&mut rng.clone())) {
-                self.case(&mut rng, &case);
-            }
-            for case in changed_bytes(&mut rng).chain(changed_words(&mut rng.clone())) {
-                self.case(&mut rng, &case);
-            }
+            self.systematic(&mut rng);
         }
         for number in 0..self.plan.files {
             let due = self.plan.full && number < LEAST;
@@ -102,6 +88,26 @@ impl Run {
                     self.text(&mut rng, &text);
                 });
             }
+        }
+    }
+
+    /// What only a full run has: directed files, limits and sweeps.
+    fn systematic(&mut self, rng: &mut Rng) {
+        self.largest();
+        self.every_length(rng);
+        self.directed(rng);
+        self.letters(rng);
+        self.buckets();
+        self.collisions();
+        for make in limits() {
+            let case = make(rng);
+            self.case(rng, &case);
+        }
+        for case in cut_counts(rng).chain(cuts(&mut rng.clone())) {
+            self.case(rng, &case);
+        }
+        for case in changed_bytes(rng).chain(changed_words(&mut rng.clone())) {
+            self.case(rng, &case);
         }
     }
 
@@ -123,7 +129,7 @@ impl Run {
     pub(crate) fn question(&mut self, case: &Case, question: &Question) -> Option<Outcome> {
         let right = self.pages.ask_put(&self.right, &case.bytes, question);
         if let Some(outcome) = &right {
-            self.tally.count(outcome);
+            self.tally.count(question, outcome);
         }
         for other in &self.others {
             let outcome = self.pages.ask_put(other.as_ref(), &case.bytes, question);
@@ -217,7 +223,7 @@ impl Run {
             let question = Question { workspace, ..PLAIN };
             let file = largest.bytes(more);
             let right = self.pages.ask(&self.right, file, &question);
-            self.tally.count(&right);
+            self.tally.count(&question, &right);
             for other in &self.others {
                 let outcome = self.pages.ask(other.as_ref(), file, &question);
                 if outcome != right {

@@ -2,9 +2,11 @@
 
 use std::fmt;
 
+use second::Answer;
+
 use crate::case::Case;
 use crate::hashes::HashQuestion;
-use crate::question::{Outcome, Question};
+use crate::question::{Ask, Outcome, Question, Reply};
 
 /// What was asked and what came of it.
 #[derive(Default)]
@@ -20,6 +22,12 @@ pub struct Tally {
     /// Files with crowded buckets, and questions about them.
     pub buckets: u64,
     pub of_buckets: u64,
+    /// Files in which texts have the hash of others, and questions about them.
+    pub collisions: u64,
+    pub of_collisions: u64,
+    /// Texts that were found, absent and collided: asked for alone, and in lists.
+    pub singles: [u64; 3],
+    pub listed: [u64; 3],
     /// How often each refusal was answered; 0 is answered without one.
     pub refusals: [u64; 27],
     /// Questions for the hashes of a text by itself.
@@ -32,17 +40,38 @@ pub struct Tally {
 }
 
 impl Tally {
-    pub fn count(&mut self, outcome: &Outcome) {
+    pub fn count(&mut self, question: &Question, outcome: &Outcome) {
         self.questions += 1;
         let number = outcome.reply.refusal() as usize;
         if let Some(count) = self.refusals.get_mut(number) {
             *count += 1;
         }
+        if let Reply::Answer(Answer { refusal: 0, kind, value }) = outcome.reply {
+            match question.ask {
+                Ask::Single(..) => count_kind(&mut self.singles, kind),
+                Ask::Batch(..) => {
+                    let places = outcome.out.chunks_exact(8).take(value as usize);
+                    places.for_each(|place| count_kind(&mut self.listed, place[0] as u32));
+                }
+                _ => {}
+            }
+        }
+    }
+
+    /// Whether texts collided fewer than `least` times, alone or in lists.
+    pub fn few_collided(&self, least: u64) -> bool {
+        self.singles[2].min(self.listed[2]) < least
     }
 
     /// Refusals from 2 on that were answered fewer than `least` times.
     pub fn rare(&self, least: u64) -> Vec<usize> {
         (2..self.refusals.len()).filter(|&number| self.refusals[number] < least).collect()
+    }
+}
+
+fn count_kind(kinds: &mut [u64; 3], kind: u32) {
+    if let Some(count) = kinds.get_mut(kind as usize) {
+        *count += 1;
     }
 }
 
@@ -53,6 +82,12 @@ impl fmt::Display for Tally {
         writeln!(out, "directed:    {}, questions {}", self.directed, self.of_directed)?;
         writeln!(out, "letter 0151: {}, questions {}", self.letters, self.of_letters)?;
         writeln!(out, "buckets:     {}, questions {}", self.buckets, self.of_buckets)?;
+        writeln!(out, "collisions:  {}, questions {}", self.collisions, self.of_collisions)?;
+        for (title, [found, absent, collided]) in
+            [("look-ups:   ", self.singles), ("in lists:   ", self.listed)]
+        {
+            writeln!(out, "{title} found {found}, absent {absent}, collided {collided}")?;
+        }
         writeln!(out, "answered:    {}", self.refusals[0])?;
         for (number, count) in self.refusals.iter().enumerate().skip(1) {
             writeln!(out, "refusal {number:2}:  {count}")?;

@@ -9,6 +9,7 @@ use second::Answer;
 use crate::asks::every;
 use crate::buckets;
 use crate::case::Case;
+use crate::collisions;
 use crate::directed;
 use crate::due::Due;
 use crate::guard::Edge;
@@ -71,16 +72,29 @@ impl Run {
     /// Files with crowded buckets, of which the maker knows every answer.
     pub(crate) fn buckets(&mut self) {
         for (case, all) in buckets::cases(self.plan.seed) {
-            self.tally.files += 1;
             self.tally.buckets += 1;
             self.tally.of_buckets += all.len() as u64;
-            for edge in [Edge::End, Edge::Start] {
-                let own = all.iter().filter(|due| due.question.edge == edge);
-                if own.clone().count() > 0 {
-                    self.pages.put_file(&case.bytes, edge);
-                }
-                own.for_each(|due| self.due(&case, due));
+            self.all_due(&case, &all);
+        }
+    }
+
+    /// Files in which texts have the hash of others. The maker knows every answer here too.
+    pub(crate) fn collisions(&mut self) {
+        for (case, all) in collisions::cases(self.plan.seed) {
+            self.tally.collisions += 1;
+            self.tally.of_collisions += all.len() as u64;
+            self.all_due(&case, &all);
+        }
+    }
+
+    fn all_due(&mut self, case: &Case, all: &[Due]) {
+        self.tally.files += 1;
+        for edge in [Edge::End, Edge::Start] {
+            let own = all.iter().filter(|due| due.question.edge == edge);
+            if own.clone().count() > 0 {
+                self.pages.put_file(&case.bytes, edge);
             }
+            own.for_each(|due| self.due(case, due));
         }
     }
 

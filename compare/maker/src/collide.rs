@@ -9,7 +9,7 @@ use std::sync::LazyLock;
 use second::hashes::{by_definition, string_hash};
 
 use crate::rng::Rng;
-use crate::text::{to_bytes, Text};
+use crate::text::{letters, to_bytes, Text};
 
 pub fn hash(text: &[u16]) -> u32 {
     string_hash(&to_bytes(text))
@@ -101,22 +101,48 @@ pub fn closed(beginning: &[u16], wished: u32) -> Option<Text> {
     (!text.contains(&0)).then_some(text)
 }
 
+/// Another text with the same hash, of any length. It begins with a few letters.
+pub fn stranger(rng: &mut Rng, base: &[u16]) -> Text {
+    let wished = hash(base);
+    loop {
+        let beginning = letters(rng, 1, 12);
+        let made = closed(&beginning, wished).filter(|text| text != base);
+        if let Some(text) = made {
+            return text;
+        }
+    }
+}
+
+/// A text that begins so, ends in a 0 character and has the wished hash. No other
+/// character behind the beginning is 0.
+pub fn closed_before_zero(beginning: &[u16], wished: u32) -> Option<Text> {
+    let mut text = closed(beginning, before_zeros(wished, 2))?;
+    text.push(0);
+    Some(text)
+}
+
 /// Beginnings of two characters, all different.
 pub fn beginnings() -> impl Iterator<Item = [u16; 2]> {
     (1..u16::MAX).flat_map(|high| (1..=250).map(move |low| [low, high]))
 }
 
-/// The four bytes that lead from 0 to a hash, found by going back four steps. A
-/// step's high byte is that of the table's entry alone, and all entries differ
-/// there.
+/// The four bytes that lead from 0 to a hash. A step takes the hash xor the byte, so they
+/// are the hash from which four bytes 0 lead there.
 fn four_bytes_to(hash: u32) -> u32 {
+    before_zeros(hash, 4)
+}
+
+/// The hash from which so many bytes 0 lead to this one, found by going back a step for
+/// each. A step's high byte is that of the table's entry alone, and all entries differ
+/// there.
+fn before_zeros(hash: u32, bytes: usize) -> u32 {
     static BY_HIGH_BYTE: LazyLock<[(u8, u32); 256]> = LazyLock::new(|| {
         let mut entries: [(u8, u32); 256] =
             std::array::from_fn(|byte| (byte as u8, by_definition::hash(0, &[byte as u8])));
         entries.sort_by_key(|&(_, entry)| entry >> 24);
         entries
     });
-    (0..4).fold(hash, |hash, _| {
+    (0..bytes).fold(hash, |hash, _| {
         let (byte, entry) = BY_HIGH_BYTE[(hash >> 24) as usize];
         (hash ^ entry) << 8 | byte as u32
     })
@@ -125,7 +151,6 @@ fn four_bytes_to(hash: u32) -> u32 {
 #[cfg(test)]
 mod tests {
     use super::*;
-    use crate::text::letters;
 
     #[test]
     fn closings_give_the_hash() {
@@ -134,6 +159,19 @@ mod tests {
             let mut made = letters(&mut rng, 0, 9);
             made.extend(closing(&made, wished));
             assert_eq!(hash(&made), wished);
+        }
+    }
+
+    #[test]
+    fn strangers_and_texts_with_a_last_0_share_the_hash() {
+        let mut rng = Rng::new(4);
+        for length in 0..20 {
+            let base = letters(&mut rng, length, length);
+            let other = stranger(&mut rng, &base);
+            assert!(other != base && !other.contains(&0));
+            assert_eq!(hash(&other), hash(&base));
+            let ended = closed_before_zero(&letters(&mut rng, 3, 3), hash(&base));
+            assert!(ended.is_none_or(|text| text.ends_with(&[0]) && hash(&text) == hash(&base)));
         }
     }
 

@@ -4,11 +4,14 @@
 pub mod attributes;
 pub mod buckets;
 pub mod collide;
+pub mod collided;
 pub mod damage;
 pub mod dropped;
 pub mod ends;
+pub mod known;
 pub mod large;
 pub mod letter;
+pub mod matches;
 pub mod model;
 pub mod rich;
 pub mod rng;

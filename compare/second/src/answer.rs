@@ -13,8 +13,9 @@ pub fn refuse<T, E: From<Refusal>>(number: u32, place: usize) -> Result<T, E> {
 }
 
 /// The answer of every question but the header report, laid out as the C
-/// interface lays it out. `refusal` 0 means answered; `kind` is 1 for a lookup
-/// that found nothing and 0 otherwise.
+/// interface lays it out. `refusal` 0 means answered. `kind` is 0 save for lookups:
+/// 1 for an absent text, and 2 for a collided one, with the number of entries that
+/// have its hash.
 #[repr(C)]
 #[derive(Clone, Copy, Debug, PartialEq, Eq)]
 pub struct Answer {
@@ -28,6 +29,11 @@ pub const ABSENT: Answer = Answer { refusal: 0, kind: 1, value: 0 };
 impl Answer {
     pub fn of(value: u64) -> Answer {
         Answer { refusal: 0, kind: 0, value }
+    }
+
+    /// So many entries have the text's hash, and none has the text.
+    pub fn collided(entries: u32) -> Answer {
+        Answer { refusal: 0, kind: 2, value: entries as u64 }
     }
 }
 

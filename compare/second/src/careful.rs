@@ -136,7 +136,7 @@ impl Index for CarefulIndex {
             return self.put_off(texts, attribute, sought.hash());
         }
         let same = |entry: Entry| entry.address == attribute.address;
-        let found = sought.entry(reading, file, number, same).filter(|&entry| same(entry));
+        let found = sought.entry(reading, file, number, same).ok().filter(|&entry| same(entry));
         attribute.check(reading, found.map(|_| hash))?;
         self.known.add(attribute);
         Ok(())
@@ -146,8 +146,8 @@ impl Index for CarefulIndex {
         let Texts { reading, file, values } = *texts;
         let mut first: Option<Delayed> = None;
         let key = |entry: Entry| Some(entry.address.number());
-        self.waiting.settle(reading, file, values, key, |delayed, entry| {
-            if entry.is_none() {
+        self.waiting.settle(reading, file, values, key, |delayed, found| {
+            if found.is_err() {
                 first = Some(first.map_or(delayed, |first| first.min(delayed)));
             }
             true

@@ -111,18 +111,26 @@ impl Sought {
         ((high + 1).saturating_sub(step), high)
     }
 
-    /// The entry with this hash for which `same` holds, from `number` on.
-    /// Entries with one hash stand together, and every one of them is asked.
+    /// The entry with this hash for which `same` holds, or how many have the hash where
+    /// it holds for none. Entries with one hash stand together, from `first` on, and
+    /// every one of them is asked.
     #[inline]
     pub fn entry<R: Reading>(
         &self,
         reading: R,
         file: &[u8],
-        number: u32,
+        first: u32,
         mut same: impl FnMut(Entry) -> bool,
-    ) -> Option<Entry> {
+    ) -> Result<Entry, u32> {
         let first_only = reading.wrong(Mutant::FirstHashOnly);
-        self.entries(file, number).find(|&entry| same(entry) || first_only)
+        let mut others = 0;
+        for entry in self.entries(file, first) {
+            if same(entry) || first_only {
+                return Ok(entry);
+            }
+            others += 1;
+        }
+        Err(others)
     }
 
     /// The entries with this hash, from the first of them on.
@@ -183,7 +191,8 @@ pub fn lookup_hash<R: Reading, const BUCKETS: usize>(reading: R, text: &[u8]) ->
     string_hash(reading, text)
 }
 
-/// The entry that bears a text given as bytes. A text holding a 0 has none.
+/// The entry that bears a text given as bytes, or how many have its hash where none
+/// does. None bears a text holding a 0.
 #[inline]
 pub fn find<R: Reading, const BUCKETS: usize>(
     reading: R,
@@ -191,16 +200,33 @@ pub fn find<R: Reading, const BUCKETS: usize>(
     file: &[u8],
     table: &Table<BUCKETS>,
     text: &[u8],
-) -> Option<Entry> {
+) -> Result<Entry, u32> {
+    if reading.literal() {
+        return find_literally(reading, reader, file, table, text);
+    }
     let mut sought = seek(reading, file, table, lookup_hash::<R, BUCKETS>(reading, text));
     sought.refine(file);
     let same = |entry| bears(reading, reader, file, table, entry, text);
     if let Some(fault) = fault(reading, reader.searcher(Table::<BUCKETS>::NAMES)) {
-        return sought.entry_wrongly(file, fault, same);
+        return sought.found_wrongly(file, fault, same);
     }
-    let number = sought.first_entry(file);
-    let found = sought.entry(reading, file, number, same);
-    found.or_else(|| find_either(reading, reader, file, table, text))
+    let first = sought.first_entry(file);
+    let found = sought.entry(reading, file, first, same);
+    found.or_else(|others| find_either(reading, reader, file, table, text).ok_or(others))
+}
+
+/// The same by the words of document 01 and request T-05: over all entries of the table.
+pub fn find_literally<R: Reading, const BUCKETS: usize>(
+    reading: R,
+    reader: Reader,
+    file: &[u8],
+    table: &Table<BUCKETS>,
+    text: &[u8],
+) -> Result<Entry, u32> {
+    let bears = |entry: &Entry| table.text_at(reading, reader, file, entry.address) == Some(text);
+    let hash = string_hash(reading, text);
+    let with_hash = || table.entries(file).filter(|entry| entry.hash == hash).count();
+    table.entries(file).find(bears).ok_or_else(|| with_hash() as u32)
 }
 
 /// What a wrong reading finds that takes 0150 and 0151 for the same character, in any

@@ -228,7 +228,7 @@ impl<const TIMES: usize> Index for Plain<TIMES> {
             effort.spend(if same(entry) { 0 } else { ENTRY });
             same(entry)
         });
-        attribute.check(reading, found.filter(|&entry| same(entry)).map(|_| hash))
+        attribute.check(reading, found.ok().filter(|&entry| same(entry)).map(|_| hash))
     }
 }
 

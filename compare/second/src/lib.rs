@@ -1,5 +1,6 @@
 //! A loader of plain data center files, written from document 01 and requests T-01,
-//! T-07 and T-10 alone: the second program the proved library is compared with.
+//! T-03, T-05, T-07 and T-10 alone: the second program the proved library is compared
+//! with.
 //!
 //! A file is lent as a byte slice with a workspace; it is checked whole and
 //! then answers questions. See `questions::Loader` for the exported questions
@@ -8,10 +9,12 @@
 #![deny(unsafe_code)]
 
 mod answer;
+mod batch;
 mod bytes;
 mod careful;
 mod carry;
 mod codes;
+mod collisions;
 mod crc_table;
 mod crowd;
 mod cursor;
@@ -51,6 +54,7 @@ mod tally;
 mod tree;
 mod view;
 mod waiting;
+mod wrong_collisions;
 mod wrong_search;
 mod wrong_tree;
 

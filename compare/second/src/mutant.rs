@@ -1,5 +1,6 @@
 //! The wrong readings, each in words.
 
+use crate::collisions::with_collisions;
 use crate::searches::with_searches;
 
 macro_rules! mutants {
@@ -18,8 +19,14 @@ macro_rules! mutants {
     };
 }
 
-// Those of the search of a bucket come behind these.
-with_searches! { mutants {
+macro_rules! mutants_and_searches {
+    ($($list:tt)*) => {
+        with_searches! { mutants { $($list)* } }
+    };
+}
+
+// Those of collided texts and of the search of a bucket come behind these.
+with_collisions! { mutants_and_searches {
     // Layout, 1 to 6.
     FileLimitExclusive: "a file of exactly 1,073,741,824 bytes is refused",
     HeaderAsOne: "a header cut anywhere is 2 at 0",
@@ -229,4 +236,14 @@ with_searches! { mutants {
     OddByteIsCharacter: "an odd last byte is a character of the value hash",
     ZeroEndsHash: "a 0 character ends the text of the hash",
     ZeroEndsValueHash: "a 0 character ends the text of the value hash",
+    // Collided texts (T-05) of a list, and of a path.
+    BatchCollidedKeepsPlace: "a collided text of a list leaves its place",
+    BatchCollidedSticks: "an absent text of a list takes the answer of a collided one before it",
+    BatchNumbersAdd: "the numbers of a list's collided texts add up",
+    BatchCollidedUncounted: "a list does not count its collided texts",
+    BatchCollidedKind: "a list with a collided text answers kind 2",
+    PathCollidedFirst: "a path takes a collided name for the first one with its hash",
+    PathCollidedLast: "a path takes a collided name for the last one with its hash",
+    PathCollidedSkipped: "a path leaves a collided name out",
+    PathCollidedKind: "a path with a collided name answers kind 2 and the number",
 } }

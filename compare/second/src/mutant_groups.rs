@@ -84,6 +84,19 @@ impl Mutant {
         Mutant::Outline0151,
     ];
 
+    /// Those of request T-05 about a whole list or path.
+    pub const COLLISION_LISTS: &'static [Mutant] = &[
+        Mutant::BatchCollidedKeepsPlace,
+        Mutant::BatchCollidedSticks,
+        Mutant::BatchNumbersAdd,
+        Mutant::BatchCollidedUncounted,
+        Mutant::BatchCollidedKind,
+        Mutant::PathCollidedFirst,
+        Mutant::PathCollidedLast,
+        Mutant::PathCollidedSkipped,
+        Mutant::PathCollidedKind,
+    ];
+
     /// Whether it changes the hashes of texts.
     pub fn changes_hashes(self) -> bool {
         CHANGES_HASHES[self as usize]

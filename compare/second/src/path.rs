@@ -28,6 +28,12 @@ impl<R: Reading, I: Index> View<'_, R, I> {
         if self.reading.wrong(Mutant::LongPathIs24) && texts(path).count() > LONGEST {
             return Answer::from(Refusal { number: 24, place: path.len() as u64 });
         }
+        if self.reading.wrong(Mutant::PathCollidedKind) {
+            let mut collisions = texts(path).map(|text| self.name_collisions(text));
+            if let Some(entries) = collisions.find(|&entries| entries > 0) {
+                return Answer::collided(entries);
+            }
+        }
         let Some(path) = self.known_names(path) else {
             return Answer::of(0);
         };
@@ -52,13 +58,18 @@ impl<R: Reading, I: Index> View<'_, R, I> {
         Answer::of(matches)
     }
 
-    /// The path's names as indices; none where one is unknown or there are too
-    /// many, and then nothing matches.
+    /// The path's names as indices; none where one is unknown, collided or not, or there
+    /// are too many, and then nothing matches.
     fn known_names(&self, path: &[u8]) -> Option<Path> {
         let mut known = Path { names: [0; LONGEST], length: 0 };
         for text in texts(path) {
             let nameless = text.is_empty() && self.reading.wrong(Mutant::EmptyNameIsNameless);
-            let index = if nameless { 0 } else { self.path_name(text)? };
+            let skips = self.reading.wrong(Mutant::PathCollidedSkipped);
+            if skips && self.name_collisions(text) > 0 {
+                continue;
+            }
+            let index = || self.path_name(text).or_else(|| self.collided_name(text));
+            let index = if nameless { 0 } else { index()? };
             *known.names.get_mut(known.length)? = index as u16;
             known.length += 1;
         }

@@ -1,17 +1,17 @@
-//! The right reading of document 01 and requests T-01 and T-10, and the wrong ones the
-//! sensitivity run tells apart from it.
+//! The right reading of document 01 and requests T-01, T-05 and T-10, and the wrong ones
+//! the sensitivity run tells apart from it.
 //!
 //! Checks ask `reading.wrong(Mutant::…)` where a wrong reading would differ.
 //! For `Right` that is the constant `false`, so the shipped loader carries no
 //! trace of the mutants; `Wrong` decides at run time. `Literal` is the right reading
-//! without the fast forms: texts and hashes go by their definition.
+//! without the fast forms: texts, hashes and lookups go by their definition.
 
 pub use crate::mutant::Mutant;
 
 pub trait Reading: Copy {
     fn wrong(self, mutant: Mutant) -> bool;
 
-    /// Whether texts and hashes go by their definition.
+    /// Whether texts, hashes and lookups go by their definition.
     #[inline(always)]
     fn literal(self) -> bool {
         false

@@ -41,45 +41,56 @@ impl<T: Copy> Waiting<T> {
     }
 
     /// Settles all of them. An entry is offered to the lookups that have its key,
-    /// and the answer is whether it is the one. No entry is offered to those that
-    /// none was for. An entry without a key is nobody's.
+    /// and the answer is whether it is the one. Those that none was for are offered the
+    /// number of entries with their hash. An entry without a key is nobody's.
     pub fn settle<R: Reading, const BUCKETS: usize>(
         &mut self,
         reading: R,
         file: &[u8],
         table: &Table<BUCKETS>,
         key: impl Fn(Entry) -> Option<u32>,
-        mut offer: impl FnMut(T, Option<Entry>) -> bool,
+        mut offer: impl FnMut(T, Result<Entry, u32>) -> bool,
     ) {
         let lookups = &mut self.lookups[..self.count];
         lookups.sort_unstable_by_key(|lookup| (lookup.hash, lookup.key));
         for group in lookups.chunk_by_mut(|a, b| a.hash == b.hash) {
-            let mut keys = Filter::new();
-            group.iter().for_each(|lookup| keys.add(lookup.key));
             let mut sought = seek(reading, file, table, group[0].hash);
             sought.refine(file);
-            let mut left = group.len();
             let first = sought.first_entry(file);
-            for entry in sought.entries(file, first) {
-                let Some(key) = key(entry).filter(|&key| keys.may_hold(key)) else {
-                    continue;
-                };
-                let from = group.partition_point(|lookup| lookup.key < key);
-                for lookup in group[from..].iter_mut().take_while(|lookup| lookup.key == key) {
-                    if !lookup.found && offer(lookup.what, Some(entry)) {
-                        lookup.found = true;
-                        left -= 1;
-                    }
-                }
-                if left == 0 {
-                    break;
-                }
-            }
-        }
-        for lookup in lookups.iter().filter(|lookup| !lookup.found) {
-            offer(lookup.what, None);
+            settle_group(group, sought.entries(file, first), &key, &mut offer);
         }
         self.count = 0;
+    }
+}
+
+/// Settles lookups of one hash, among all entries that have it.
+fn settle_group<T: Copy>(
+    group: &mut [Lookup<T>],
+    entries: impl Iterator<Item = Entry>,
+    key: &impl Fn(Entry) -> Option<u32>,
+    offer: &mut impl FnMut(T, Result<Entry, u32>) -> bool,
+) {
+    let mut keys = Filter::new();
+    group.iter().for_each(|lookup| keys.add(lookup.key));
+    let (mut left, mut count) = (group.len(), 0);
+    for entry in entries {
+        count += 1;
+        let Some(key) = key(entry).filter(|&key| keys.may_hold(key)) else {
+            continue;
+        };
+        let from = group.partition_point(|lookup| lookup.key < key);
+        for lookup in group[from..].iter_mut().take_while(|lookup| lookup.key == key) {
+            if !lookup.found && offer(lookup.what, Ok(entry)) {
+                lookup.found = true;
+                left -= 1;
+            }
+        }
+        if left == 0 {
+            return;
+        }
+    }
+    for lookup in group.iter().filter(|lookup| !lookup.found) {
+        offer(lookup.what, Err(count));
     }
 }
 

@@ -29,6 +29,18 @@ impl Sought {
         entries.find(|&entry| same(entry) || fault == Fault::AnyEqual)
     }
 
+    /// The same for a lookup, whose number of entries with the hash stays right: only what
+    /// is found differs.
+    pub fn found_wrongly(
+        &self,
+        file: &[u8],
+        fault: Fault,
+        same: impl Fn(Entry) -> bool,
+    ) -> Result<Entry, u32> {
+        let with_hash = || self.entries(file, self.first_entry(file)).count() as u32;
+        self.entry_wrongly(file, fault, same).ok_or_else(with_hash)
+    }
+
     fn numbers_wrongly(&self, file: &[u8], fault: Fault) -> Range<u32> {
         let count = self.count();
         let first = self.halved(0..count, u32::MAX, |number| self.is_below(file, number));

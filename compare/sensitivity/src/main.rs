@@ -11,6 +11,7 @@ use std::time::{Duration, Instant};
 use compare::asks::{asks, every};
 use compare::buckets;
 use compare::case::{random, Case};
+use compare::collisions;
 use compare::directed;
 use compare::guard::Edge;
 use compare::hashes;
@@ -94,6 +95,17 @@ fn crowds(suspects: &mut Suspects, seed: u64) {
     }
 }
 
+/// The files in which texts have the hash of others, for the wrong readings of request T-05.
+fn collided(suspects: &mut Suspects, seed: u64) {
+    for (made, all) in collisions::cases(seed) {
+        if suspects.all_caught() {
+            return;
+        }
+        let questions: Vec<Question> = all.into_iter().map(|due| due.question).collect();
+        ask(suspects, &made, &questions);
+    }
+}
+
 /// The texts that every comparison hashes, and long ones with the letter.
 fn texts_alone(suspects: &mut Suspects, seed: u64) {
     let mut rng = Rng::new(seed);
@@ -118,7 +130,10 @@ fn main() -> ExitCode {
     letters(&mut by_letter, seed);
     let mut by_crowds = Suspects::new(Mutant::SEARCHES.iter().copied());
     crowds(&mut by_crowds, seed);
-    let elsewhere = [Mutant::HASHES_ALONE, Mutant::SEARCHES, &of_letter].concat();
+    let of_collisions = [Mutant::COLLISIONS, Mutant::COLLISION_LISTS].concat();
+    let mut by_collisions = Suspects::new(of_collisions.iter().copied());
+    collided(&mut by_collisions, seed);
+    let elsewhere = [Mutant::HASHES_ALONE, Mutant::SEARCHES, &of_letter, &of_collisions].concat();
     let shown = Mutant::ALL.iter().copied().filter(|mutant| !elsewhere.contains(mutant));
     let mut by_files = Suspects::new(shown);
     files(&mut by_files, seed);
@@ -126,8 +141,10 @@ fn main() -> ExitCode {
     let mut by_texts = Suspects::new(hashes.into_iter());
     texts_alone(&mut by_texts, seed);
     print!("files:\n{by_files}files with 0151:\n{by_letter}");
-    print!("files with crowded buckets:\n{by_crowds}texts by themselves:\n{by_texts}");
-    if [by_files, by_letter, by_crowds, by_texts].iter().all(Suspects::all_caught) {
+    print!("files with crowded buckets:\n{by_crowds}");
+    print!("files with collided texts:\n{by_collisions}texts by themselves:\n{by_texts}");
+    let all = [by_files, by_letter, by_crowds, by_collisions, by_texts];
+    if all.iter().all(Suspects::all_caught) {
         ExitCode::SUCCESS
     } else {
         ExitCode::FAILURE

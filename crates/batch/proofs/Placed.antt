@@ -18,9 +18,8 @@ use Rattle.hash.specs.Hash.{hashText}
 use Rattle.text.specs.Text.{chars, textIn}
 use Rattle.text.specs.inner.Zeros.{zerosIn}
 use Rattle.text.proofs.Laws.{chars-more, text-chars, text-live, text-end}
-use Rattle.lookup.specs.Kinds.{kindOf, foundNumber}
+use Rattle.lookup.specs.Kinds.{kindOf, toldNumber}
 use Rattle.lookup.specs.declared.Lookup.{Lookup}
-use Rattle.lookup.specs.declared.Lookup.the-variants.{Found, Absent}
 use Rattle.path.specs.Names.{addChar, split, namesOf, pathChecks}
 use Rattle.path.specs.inner.Indices.{NameEnd}
 use Rattle.path.proofs.Split.{length-add, namesFrom, names-start, names-end, names-more}
@@ -45,14 +44,11 @@ put-two : (d : List ℕ) (at k n : ℕ) {d₁ d₂ : List ℕ} → at + 8 ≤ le
 unfolding le4
 put-two d at k n h p q = q ∙ ap (λ (x : List ℕ). splice x (at + 4) (le4 n)) p ∙ sym (splice-append d at (le4 k) (le4 n) (omega arith))
 
-module _ (d : List ℕ) (at : ℕ) {l : Lookup} {d₁ d₂ : List ℕ} (h : at + 8 ≤ length d) where
-  pub put-found : (n : ℕ) → l ≡ Found n → d₁ ≡ splice d at (le4 0) → d₂ ≡ splice d₁ (at + 4) (le4 n) → d₂ ≡ splice d at (place l)
-  unfolding place kindOf foundNumber
-  put-found n e p q = rw e (put-two d at 0 n h p q)
-
-  pub put-absent : l ≡ Absent → d₁ ≡ splice d at (le4 1) → d₂ ≡ splice d₁ (at + 4) (le4 0) → d₂ ≡ splice d at (place l)
-  unfolding place kindOf foundNumber
-  put-absent e p q = rw e (put-two d at 1 0 h p q)
+pub put-told : (d : List ℕ) (at : ℕ) (l : Lookup) {k n : ℕ} {d₁ d₂ : List ℕ} → at + 8 ≤ length d → k ≡ kindOf l → n ≡ toldNumber l → d₁ ≡ splice d at (le4 k)
+    → d₂ ≡ splice d₁ (at + 4) (le4 n) → d₂ ≡ splice d at (place l)
+unfolding place
+put-told d at l {d₁ = d₁} h e f p q =
+    put-two d at (kindOf l) (toldNumber l) h (p ∙ ap (λ (x : ℕ). splice d at (le4 x)) e) (q ∙ ap (λ (x : ℕ). splice d₁ (at + 4) (le4 x)) f)
 
 -- ---- the loop that counts
 

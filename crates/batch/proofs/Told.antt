@@ -12,7 +12,7 @@ use Rattle.le.proofs.Four.{le4-front, shifted}
 use Rattle.verdict.specs.Checks.{firstFault}
 use Rattle.verdict.specs.declared.Verdict.the-variants.{Accepted, Refused}
 use Rattle.verdict.proofs.Laws.{Clean, never, pass, stop, fault-none, fault-append, fault-keep}
-use Rattle.lookup.specs.Kinds.{kindOf, foundNumber}
+use Rattle.lookup.specs.Kinds.{kindOf, toldNumber}
 use Rattle.lookup.specs.declared.Lookup.{Lookup}
 use Rattle.lookup.proofs.ByKind.{kind-low}
 use Rattle.path.specs.Names.{namesOf, nameAt, pathChecks}
@@ -87,17 +87,17 @@ word-at s r i h m low =
     byte j l = sym (getD-drop i s j 0) ∙ sym (getD-take 8 (drop i s) j 0 l) ∙ ap (λ (x : List ℕ). getD x j 0) h
 
 -- both numbers of a lookup
-place-words : (l : Lookup) → foundNumber l < 2 ^ 32 → (u32At (place l) 0 ≡ kindOf l) × (u32At (place l) 4 ≡ foundNumber l)
+place-words : (l : Lookup) → toldNumber l < 2 ^ 32 → (u32At (place l) 0 ≡ kindOf l) × (u32At (place l) 4 ≡ toldNumber l)
 unfolding place le4
 place-words l low = (
-  le4-front (kindOf l) (le4 (foundNumber l)) (kind-low l),
-  shifted (le4 (kindOf l)) (le4 (foundNumber l)) 0 ∙ ap (λ (x : List ℕ). u32At x 0) (sym (append-nil (le4 (foundNumber l)))) ∙ le4-front (foundNumber l) [] low,
+  le4-front (kindOf l) (le4 (toldNumber l)) (kind-low l),
+  shifted (le4 (kindOf l)) (le4 (toldNumber l)) 0 ∙ ap (λ (x : List ℕ). u32At x 0) (sym (append-nil (le4 (toldNumber l)))) ∙ le4-front (toldNumber l) [] low,
 )
 
 pub place-holds : (f : List ℕ → Lookup) (texts d : List ℕ) (i : ℕ) → i < length (namesOf texts)
     → let l = f (nameAt (namesOf texts) i) in
-    foundNumber l < 2 ^ 32
-    → (u32At (answersAfter f texts d Accepted) (8 * i) ≡ kindOf l) × (u32At (answersAfter f texts d Accepted) (8 * i + 4) ≡ foundNumber l)
+    toldNumber l < 2 ^ 32
+    → (u32At (answersAfter f texts d Accepted) (8 * i) ≡ kindOf l) × (u32At (answersAfter f texts d Accepted) (8 * i + 4) ≡ toldNumber l)
 place-holds f texts d i h low =
     let w = word-at _ _ (8 * i) (place-is f texts d i h) in
     let z : 8 * i + 0 ≡ 8 * i = omega arith in

@@ -6,13 +6,13 @@ use Rattle.le.specs.Le.{le4}
 use Rattle.verdict.specs.Checks.{Check, atMost}
 use Rattle.verdict.specs.declared.Verdict.{Verdict}
 use Rattle.verdict.specs.declared.Verdict.the-variants.{Accepted, Refused}
-use Rattle.lookup.specs.Kinds.{kindOf, foundNumber}
+use Rattle.lookup.specs.Kinds.{kindOf, toldNumber}
 use Rattle.lookup.specs.declared.Lookup.{Lookup}
 use Rattle.path.specs.Names.{namesOf}
 
 -- A place of the answers is eight bytes: the kind and the value that one lookup answers, four bytes each, low byte first.
 unfoldable pub place : Lookup → List ℕ
-place l = le4 (kindOf l) ++ le4 (foundNumber l)
+place l = le4 (kindOf l) ++ le4 (toldNumber l)
 
 -- The places of some texts, in order. f is what the question for one text answers.
 unfoldable pub places : (List ℕ → Lookup) → List (List ℕ) → List ℕ

@@ -55,21 +55,14 @@ fn count_texts(texts: &[u8]) -> usize
     n
 }
 
-// Writes what a lookup answers: its kind, 0 found or 1 absent, and its value.
+// Writes what a lookup answers: its kind, 0 found, 1 absent or 2 collided, and its value.
 fn put_place(answers: &mut [u8], at: usize, l: Lookup)
     requires { ⌜ at + 8 ≤ length (now answers) ⌝ }
     ensures { λ _. ⌜ now (answers .exit) ≡ splice (now (answers .entry)) at (place l) ⌝ }
 {
-    match l {
-        Lookup::Found(n) => {
-            le::put_u32(answers, at, 0);
-            le::put_u32(answers, at + VALUE_AT, n);
-        }
-        Lookup::Absent => {
-            le::put_u32(answers, at, 1);
-            le::put_u32(answers, at + VALUE_AT, 0);
-        }
-    }
+    let x = lookup::as_numbers(l);
+    le::put_u32(answers, at, le::wide(x.kind));
+    le::put_u32(answers, at + VALUE_AT, x.value);
 }
 
 // Writes what each text's lookup answers, a group of texts at a time.

@@ -4,4 +4,5 @@ pub mod Computed
 pub mod Splice
 pub mod Pigeon
 pub mod Zeros
+pub mod Counting
 pub mod Halving

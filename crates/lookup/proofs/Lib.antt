@@ -1,3 +1,4 @@
+pub mod Counts
 pub mod Found
 pub mod Bucket
 pub mod Told

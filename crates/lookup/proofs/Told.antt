@@ -18,8 +18,8 @@ use Rattle.lookup.specs.inner.PickedEntry.{PickedEntry}
 use Rattle.lookup.specs.declared.Kind.{Kind}
 use Rattle.lookup.specs.declared.Kind.the-variants.{Name, Value}
 use Rattle.lookup.specs.declared.Lookup.{Lookup}
-use Rattle.lookup.specs.declared.Lookup.the-variants.{Found, Absent}
-use Rattle.lookup.proofs.Found.{told-some, entry-found-iff, entry-absent-iff, index-absent-iff, address-absent-iff}
+use Rattle.lookup.specs.declared.Lookup.the-variants.{Found, Collided, Absent}
+use Rattle.lookup.proofs.Found.{told-some, entry-found-iff, entry-collided-iff, entry-absent-iff, index-collided-iff, index-absent-iff, address-collided-iff, address-absent-iff}
 
 -- what is read of an entry, by kind
 module _ (b : List ℕ) (e w : ℕ) {k : Kind} where
@@ -58,6 +58,14 @@ module _ (t : Table) (x : List ℕ) (ok : Clean (stringChecks t)) {r : Lookup} (
     entry-told k w p =
         let g = entry-found-iff t x ok e .0 (sym q ∙ f) in
         told-borne k t x ok (g .0) (g .2 .0) w (record { bucket = g .1; entry = g .2 .1 }) (g .2 .2 .0) (p ∙ ap (tellsAt k (t .bytes)) (sym (g .2 .2 .1)))
+
+  -- not found: what is told of it does not depend on the kind
+  module _ (n : ℕ) (f : r ≡ Collided n) where
+    pub index-collided : Collided n ≡ indexOfText t x
+    index-collided = sym (index-collided-iff t x ok n .1 (entry-collided-iff t x ok n .0 (sym q ∙ f)))
+
+    pub address-collided : Collided n ≡ addressOfText t x
+    address-collided = sym (address-collided-iff t x ok n .1 (entry-collided-iff t x ok n .0 (sym q ∙ f)))
 
   module _ (f : r ≡ Absent) where
     pub index-absent : Absent ≡ indexOfText t x

@@ -7,7 +7,7 @@ use Rattle.lookup.specs.Lookup.{indexOfText, addressOfText}
 use Rattle.lookup.specs.declared.Kind.{Kind}
 use Rattle.lookup.specs.declared.Kind.the-variants.{Name, Value}
 use Rattle.lookup.specs.declared.Lookup.{Lookup}
-use Rattle.lookup.specs.declared.Lookup.the-variants.{Found, Absent}
+use Rattle.lookup.specs.declared.Lookup.the-variants.{Found, Collided, Absent}
 
 -- What is told of a text in a table: a name's index, or a value's address.
 unfoldable pub toldIn : Kind → Table → List ℕ → Lookup
@@ -24,12 +24,14 @@ unfoldable pub tableOf : Kind → List ℕ → Table
 tableOf Name b = names b
 tableOf Value b = values b
 
--- The kind of an answer: 0 found, 1 absent.
+-- The kind of an answer: 0 found, 1 absent, 2 collided.
 unfoldable pub kindOf : Lookup → ℕ
 kindOf (Found n) = 0
 kindOf Absent = 1
+kindOf (Collided n) = 2
 
--- Its value: what was found, or 0.
-unfoldable pub foundNumber : Lookup → ℕ
-foundNumber (Found n) = n
-foundNumber Absent = 0
+-- Its value: what was found; 0 where the text is absent; how many entries have its hash where it collides.
+unfoldable pub toldNumber : Lookup → ℕ
+toldNumber (Found n) = n
+toldNumber Absent = 0
+toldNumber (Collided n) = n

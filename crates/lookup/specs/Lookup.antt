@@ -1,15 +1,18 @@
--- Lookup of a text in a string table (FORMAT, "Questions"; demand 2): found exactly when an entry bears that very text.
-use Prim.Native.Nat.{ℕ, _+_, _*_, _/_}
+-- Lookup of a text in a string table (FORMAT, "Questions"; demand 2): found exactly when an entry bears that very text; otherwise collided or
+-- absent.
+use Prim.Native.Nat.{ℕ, zero, suc, _+_, _*_, _/_}
 use mathlib.Core.Path.{_≡_}
 use mathlib.Core.List.{List}
 use lib.ListN.{length}
 use Rattle.verdict.specs.Checks.{SomeBelow}
 use Rattle.verdict.specs.Decide.{someBelow?, texts?}
-use Rattle.text.specs.Text.{chars}
+use Rattle.hash.specs.Hash.{hashText}
+use Rattle.text.specs.Text.{chars, HoldsZero, holdsZero?}
 use Rattle.layout.specs.Table.{Table, entries, entryAt, indexOf, segmentOf, elementOf}
 use Rattle.strings.specs.Texts.{textOf}
+use Rattle.lookup.specs.Collisions.{hashCount}
 use Rattle.lookup.specs.declared.Lookup.{Lookup}
-use Rattle.lookup.specs.declared.Lookup.the-variants.{Found, Absent}
+use Rattle.lookup.specs.declared.Lookup.the-variants.{Found, Collided, Absent}
 
 -- The text that comes as bytes, two a character, low byte first.
 unfoldable pub textFrom : List ℕ → List ℕ
@@ -26,19 +29,25 @@ borne? t x = someBelow? (t .buckets) (λ k. someBelow? (entries t k) (λ j. text
 abbrev pub BorneWith : (ℕ → ℕ → ℕ) → Table → List ℕ → ℕ → Type 0
 BorneWith f t x i = SomeBelow (t .buckets) (λ k. SomeBelow (entries t k) (λ j. (textOf t k j ≡ x) × (f k j ≡ i)))
 
--- What is told of the entry that bears it, or that none does.
+-- What is told of a text that no entry bears, and n have its hash: where it holds no 0 and n is not 0, that it collides with n.
+unfoldable pub toldUnborne : (x : List ℕ) → Dec (HoldsZero x) → ℕ → Lookup
+toldUnborne x (yes z) n = Absent
+toldUnborne x (no f) zero = Absent
+toldUnborne x (no f) (suc n) = Collided (suc n)
+
+-- What is told of the entry that bears a text, or of one that none bears.
 unfoldable pub toldBy : (f : ℕ → ℕ → ℕ) (t : Table) (x : List ℕ) → Dec (Borne t x) → Lookup
 toldBy f t x (yes w) = Found (f (w .0) (w .2 .0))
-toldBy f t x (no n) = Absent
+toldBy f t x (no n) = toldUnborne x (holdsZero? x) (hashCount t (hashText x))
 
 -- Where it stands.
 unfoldable pub entryOfText : Table → List ℕ → Lookup
 entryOfText t x = toldBy (entryAt t) t x (borne? t x)
 
--- Name by text: its index, or absent.
+-- Name by text: its index, collided or absent.
 unfoldable pub indexOfText : Table → List ℕ → Lookup
 indexOfText t x = toldBy (indexOf t) t x (borne? t x)
 
--- Value by text: its address as segment times 65,536 plus element, or absent.
+-- Value by text: its address as segment times 65,536 plus element, collided or absent.
 unfoldable pub addressOfText : Table → List ℕ → Lookup
 addressOfText t x = toldBy (λ k j. segmentOf t k j * 65536 + elementOf t k j) t x (borne? t x)

@@ -7,13 +7,13 @@ ghost use Rattle.verdict.specs.inner.Tells.{Tells};
 ghost use Rattle.verdict.specs.declared.Verdict.the-variants.{Accepted};
 ghost use Rattle.hash.specs.inner.Tables.{Tables};
 ghost use Rattle.hash.specs.Hash.{hashText, bucketOf};
-ghost use Rattle.text.specs.Text.{chars};
+ghost use Rattle.text.specs.Text.{chars, holdsZero?};
 ghost use Rattle.strings.specs.Texts.{textOf};
 ghost use Rattle.strings.specs.Order.{stringChecks};
 ghost use Rattle.strings.specs.inner.Held.{Held, heldTable, Here};
 ghost use Rattle.search.specs.inner.LowerBound.{LowerBound};
-ghost use Rattle.lookup.specs.Lookup.{entryOfText};
-ghost use Rattle.lookup.specs.Kinds.{toldIn, tellsAt};
+ghost use Rattle.lookup.specs.Lookup.{entryOfText, toldUnborne};
+ghost use Rattle.lookup.specs.Kinds.{toldIn, tellsAt, kindOf, toldNumber};
 
 pub mod first;
 
@@ -23,10 +23,28 @@ use strings::fields;
 use strings::spot;
 use strings::spot::Spot;
 
-// What is found: a number, or nothing.
+// What is found: a number; nothing, while so many entries have the text's hash; or nothing.
 pub enum Lookup {
     Found(usize),
+    Collided(usize),
     Absent,
+}
+
+// What is found as two numbers, for C.
+pub struct Numbers {
+    pub kind: u32,
+    pub value: usize,
+}
+
+// The numbers of what is found.
+pub fn as_numbers(l: Lookup) -> Numbers
+    ensures { λ r. ⌜ (r .kind ≡ kindOf l) × (r .value ≡ toldNumber l) ⌝ }
+{
+    match l {
+        Lookup::Found(n) => Numbers { kind: 0, value: n },
+        Lookup::Absent => Numbers { kind: 1, value: 0 },
+        Lookup::Collided(n) => Numbers { kind: 2, value: n },
+    }
 }
 
 // What is asked for: a name's index, or a value's address.
@@ -62,6 +80,21 @@ fn entry_bears(
     text::alike(b, x, q, p, n)
 }
 
+// What is told of the n characters at p of what is asked, which no entry bears, when `count` entries have their hash. A 0 is looked for only
+// where it matters.
+fn unborne(q: &[u8], p: usize, n: usize, count: usize) -> Lookup
+    requires { ⌜ p + 2 * n ≤ length (now q) ⌝ }
+    ensures { λ r. ⌜ r ≡ toldUnborne (chars (now (q .entry)) p n) (holdsZero? (chars (now (q .entry)) p n)) count ⌝ }
+{
+    if count == 0 {
+        return Lookup::Absent;
+    }
+    if text::holds_zero(q, p, n) {
+        return Lookup::Absent;
+    }
+    Lookup::Collided(count)
+}
+
 // The entry that bears the n characters at p of what is asked, whose hash is h: from `low` on, the first entry of its bucket whose hash
 // is not below h. Among equal hashes all are read.
 fn find_entry(
@@ -86,14 +119,14 @@ fn find_entry(
     while j < m {
         let e = entry::entry_at(b, s, segments, buckets, k, j);
         if fields::hash(b, e) != h {
-            return Lookup::Absent;
+            return unborne(q, p, n, j - low);
         }
         if entry_bears(b, s, segments, buckets, k, j, q, p, n) {
             return Lookup::Found(e);
         }
         j += 1;
     }
-    Lookup::Absent
+    unborne(q, p, n, j - low)
 }
 
 // What is told of the entry at e.
@@ -125,10 +158,11 @@ pub(crate) fn find_from(
         × LowerBound (heldTable (now b) s (now buckets)) (bucketOf (length (now buckets)) h) h low ⌝ }
     ensures { λ r. ⌜ r ≡ toldIn kind (heldTable (now (b .entry)) s (now (buckets .entry))) (chars (now (q .entry)) p n) ⌝ }
 {
-    let Lookup::Found(e) = find_entry(b, s, segments, buckets, h, low, q, p, n) else {
-        return Lookup::Absent;
-    };
-    Lookup::Found(result_at(b, kind, e))
+    match find_entry(b, s, segments, buckets, h, low, q, p, n) {
+        Lookup::Found(e) => Lookup::Found(result_at(b, kind, e)),
+        Lookup::Collided(others) => Lookup::Collided(others),
+        Lookup::Absent => Lookup::Absent,
+    }
 }
 
 // The same for a caller that has the text only.

@@ -12,7 +12,7 @@ use Rattle.lookup.specs.Kinds.{toldIn}
 use Rattle.lookup.specs.declared.Kind.the-variants.{Name}
 use Rattle.lookup.specs.Lookup.{indexOfText}
 use Rattle.lookup.specs.declared.Lookup.{Lookup}
-use Rattle.lookup.specs.declared.Lookup.the-variants.{Found, Absent}
+use Rattle.lookup.specs.declared.Lookup.the-variants.{Found, Collided, Absent}
 use Rattle.lookup.proofs.Found.{index-listed}
 
 module _ (b x : List ℕ) (ok : Clean (stringChecks (names b))) where
@@ -37,6 +37,13 @@ module _ (b x : List ℕ) (ok : Clean (stringChecks (names b))) where
     found-bears {i} e =
         let w = index-listed (names b) x ok i .0 (sym told-names ∙ e) in
         record { low = w .0; high = omega (arith, w .1); text = w .2 }
+
+    pub collided-bears : {n : ℕ} → r ≡ Collided n → (i : ℕ) → Bears b i x → ⊥
+    collided-bears e i h =
+        let p = bears-found i h in
+        let q = told-names in
+        let z : _≡_ {A = ℕ} 0 1 = cc in
+        omega arith
 
     pub absent-bears : r ≡ Absent → (i : ℕ) → Bears b i x → ⊥
     absent-bears e i h =

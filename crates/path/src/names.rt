@@ -89,6 +89,10 @@ pub(crate) fn find_names(
             Lookup::Found(i) => {
                 indices[n] = i as u32;
             }
+            Lookup::Collided(_) => {
+                known = false;
+                break;
+            }
             Lookup::Absent => {
                 known = false;
                 break;

@@ -9,17 +9,20 @@ use Rattle.verdict.specs.Checks.{FirstBroken}
 use Rattle.verdict.specs.declared.Verdict.the-variants.{Accepted, Refused}
 use Rattle.verdict.proofs.Broken.{broken-iff}
 use Rattle.le.specs.Floats.{doubleAt}
+use Rattle.hash.specs.Hash.{hashText}
 use Rattle.layout.specs.Header.{headerOf}
 use Rattle.layout.specs.Table.{Table, indexOf, segmentOf, elementOf}
 use Rattle.layout.specs.Layout.{values, names}
 use Rattle.strings.proofs.Accepted.{strings-iff}
 use Rattle.tree.specs.File.{address, usedNodes}
-use Rattle.lookup.specs.Lookup.{textFrom, Borne, BorneWith, indexOfText, addressOfText}
-use Rattle.lookup.specs.Kinds.{toldIn, tableOf, kindOf, foundNumber}
+use Rattle.lookup.specs.Collisions.{hashCount}
+use Rattle.lookup.specs.Cases.{Collides, Missing}
+use Rattle.lookup.specs.Lookup.{textFrom, BorneWith, indexOfText, addressOfText}
+use Rattle.lookup.specs.Kinds.{toldIn, tableOf, kindOf, toldNumber}
 use Rattle.lookup.specs.declared.Kind.the-variants.{Name, Value}
 use Rattle.lookup.specs.declared.Lookup.{Lookup}
-use Rattle.lookup.specs.declared.Lookup.the-variants.{Found, Absent}
-use Rattle.lookup.proofs.Found.{zero-unborne, index-found-iff, index-absent-iff, address-found-iff, address-absent-iff}
+use Rattle.lookup.specs.declared.Lookup.the-variants.{Found, Collided, Absent}
+use Rattle.lookup.proofs.Found.{one-of-three, zero-missing, index-found-iff, index-collided-iff, index-absent-iff, address-found-iff, address-collided-iff, address-absent-iff}
 use Rattle.accept.specs.Verdict.{acceptChecks, verdictOf}
 use Rattle.accept.specs.Rules.{FileRules}
 use Rattle.accept.proofs.Accepted.{accepted-iff}
@@ -75,62 +78,77 @@ module _ (b : List ℕ) (room : ℕ) where
 -- ---- the second sentence
 
 -- the numbers of a lookup
-found-numbers : (l : Lookup) (i : ℕ) → ((kindOf l ≡ 0) × (foundNumber l ≡ i)) ↔ (l ≡ Found i)
-unfolding kindOf foundNumber
+found-numbers : (l : Lookup) (i : ℕ) → ((kindOf l ≡ 0) × (toldNumber l ≡ i)) ↔ (l ≡ Found i)
+unfolding kindOf toldNumber
 found-numbers (Found n) i = (λ w. ap Found (w .1), λ e. (refl, (cc)))
 found-numbers Absent i = (λ w. absurd (omega (arith, w .0)), λ e. let z : _≡_ {A = ℕ} 0 1 = cc in absurd (omega arith))
+found-numbers (Collided n) i = (λ w. absurd (omega (arith, w .0)), λ e. let z : _≡_ {A = ℕ} 0 1 = cc in absurd (omega arith))
 
-absent-numbers : (l : Lookup) → ((kindOf l ≡ 1) × (foundNumber l ≡ 0)) ↔ (l ≡ Absent)
-unfolding kindOf foundNumber
+absent-numbers : (l : Lookup) → ((kindOf l ≡ 1) × (toldNumber l ≡ 0)) ↔ (l ≡ Absent)
+unfolding kindOf toldNumber
 absent-numbers (Found n) = (λ w. absurd (omega (arith, w .0)), λ e. let z : _≡_ {A = ℕ} 0 1 = cc in absurd (omega arith))
 absent-numbers Absent = (λ e. refl, λ e. (refl, refl))
+absent-numbers (Collided n) = (λ w. absurd (omega (arith, w .0)), λ e. let z : _≡_ {A = ℕ} 0 1 = cc in absurd (omega arith))
 
-finds : (t : Table) (f : ℕ → ℕ → ℕ) (x : List ℕ) (l : Lookup) (r : Answer) → r ≡ answered Accepted (kindOf l) (foundNumber l)
-    → ((i : ℕ) → (l ≡ Found i) ↔ BorneWith f t x i) → ((l ≡ Absent) ↔ (Borne t x → ⊥)) → Finds t f x r
+collided-numbers : (l : Lookup) (m : ℕ) → ((kindOf l ≡ 2) × (toldNumber l ≡ m)) ↔ (l ≡ Collided m)
+unfolding kindOf toldNumber
+collided-numbers (Found n) m = (λ w. absurd (omega (arith, w .0)), λ e. let z : _≡_ {A = ℕ} 0 1 = cc in absurd (omega arith))
+collided-numbers Absent m = (λ w. absurd (omega (arith, w .0)), λ e. let z : _≡_ {A = ℕ} 0 1 = cc in absurd (omega arith))
+collided-numbers (Collided n) m = (λ w. ap Collided (w .1), λ e. (refl, (cc)))
+
+-- what an answer says by its two numbers, where these are a lookup's
+by-numbers : {A : Type 0} (l c : Lookup) (r : Answer) {k v : ℕ} → r .kind ≡ kindOf l → r .value ≡ toldNumber l
+    → ((kindOf l ≡ k) × (toldNumber l ≡ v)) ↔ (l ≡ c) → (l ≡ c) ↔ A → ((r .kind ≡ k) × (r .value ≡ v)) ↔ A
+by-numbers l c r e f n a = (
+  λ w. a .0 (n .0 (sym e ∙ w .0, sym f ∙ w .1)),
+  λ w. let u = n .1 (a .1 w) in (e ∙ u .0, f ∙ u .1),
+)
+
+finds : (t : Table) (f : ℕ → ℕ → ℕ) (x : List ℕ) (l : Lookup) (r : Answer) → r ≡ answered Accepted (kindOf l) (toldNumber l)
+    → ((i : ℕ) → (l ≡ Found i) ↔ BorneWith f t x i) → ((n : ℕ) → (l ≡ Collided n) ↔ (Collides t x × (n ≡ hashCount t (hashText x))))
+    → (l ≡ Absent) ↔ Missing t x → Finds t f x r
 unfolding answered
-finds t f x l r e g h =
+finds t f x l r e g c h =
     let k : r .kind ≡ kindOf l = ap (λ (a : Answer). a .kind) e in
-    let v : r .value ≡ foundNumber l = ap (λ (a : Answer). a .value) e in
+    let v : r .value ≡ toldNumber l = ap (λ (a : Answer). a .value) e in
     record {
       answered = ap (λ (a : Answer). a .refusal) e;
-      found = λ i. (
-        λ w. g i .0 (found-numbers l i .0 (sym k ∙ w .0, sym v ∙ w .1)),
-        λ w. let u = found-numbers l i .1 (g i .1 w) in (k ∙ u .0, v ∙ u .1),
-      );
-      absent = (
-        λ w. h .0 (absent-numbers l .0 (sym k ∙ w .0, sym v ∙ w .1)),
-        λ w. let u = absent-numbers l .1 (h .1 w) in (k ∙ u .0, v ∙ u .1),
-      );
+      found = λ i. by-numbers l (Found i) r k v (found-numbers l i) (g i);
+      collided = λ n. by-numbers l (Collided n) r k v (collided-numbers l n) (c n);
+      absent = by-numbers l Absent r k v (absent-numbers l) h;
+      one-of-three = one-of-three t x;
     }
 
 module _ (b : List ℕ) (room : ℕ) (q : List ℕ) (z : acceptAnswer b room .refusal ≡ 0) (even : length q % 2 ≡ 0) where
   rules : FileRules b
   rules = accepted-iff b room .0 (accept-zero b room z) .0
 
-  name-told : nameAnswer b room q ≡ answered Accepted (kindOf (indexOfText (names b) (textFrom q))) (foundNumber (indexOfText (names b) (textFrom q)))
+  name-told : nameAnswer b room q ≡ answered Accepted (kindOf (indexOfText (names b) (textFrom q))) (toldNumber (indexOfText (names b) (textFrom q)))
   unfolding nameAnswer textAnswer toldIn tableOf
   name-told = text-told Name b room q (accept-zero b room z) even
 
-  value-told : valueAnswer b room q ≡ answered Accepted (kindOf (addressOfText (values b) (textFrom q))) (foundNumber (addressOfText (values b) (textFrom q)))
+  value-told : valueAnswer b room q ≡ answered Accepted (kindOf (addressOfText (values b) (textFrom q))) (toldNumber (addressOfText (values b) (textFrom q)))
   unfolding valueAnswer textAnswer toldIn tableOf
   value-told = text-told Value b room q (accept-zero b room z) even
 
   name-found : Finds (names b) (indexOf (names b)) (textFrom q) (nameAnswer b room q)
   name-found =
       let ok = strings-iff (names b) .1 (rules .name-table) in
-      finds (names b) (indexOf (names b)) (textFrom q) _ _ name-told (index-found-iff (names b) (textFrom q) ok) (index-absent-iff (names b) (textFrom q) ok)
+      finds (names b) (indexOf (names b)) (textFrom q) _ _ name-told (index-found-iff (names b) (textFrom q) ok)
+      (index-collided-iff (names b) (textFrom q) ok) (index-absent-iff (names b) (textFrom q) ok)
 
   value-found : Finds (values b) (λ k j. address (segmentOf (values b) k j) (elementOf (values b) k j)) (textFrom q) (valueAnswer b room q)
   value-found =
       let ok = strings-iff (values b) .1 (rules .value-table) in
-      finds (values b) _ (textFrom q) _ _ value-told (address-found-iff (values b) (textFrom q) ok) (address-absent-iff (values b) (textFrom q) ok)
+      finds (values b) _ (textFrom q) _ _ value-told (address-found-iff (values b) (textFrom q) ok) (address-collided-iff (values b) (textFrom q) ok)
+      (address-absent-iff (values b) (textFrom q) ok)
 
   pub lookups : Lookups b room q
   lookups = record {
     name = name-found;
     value = value-found;
     zero = λ i h e. (
-      name-found .absent .1 (zero-unborne (names b) (textFrom q) i h e) .0,
-      value-found .absent .1 (zero-unborne (values b) (textFrom q) i h e) .0,
+      name-found .absent .1 (zero-missing (names b) (textFrom q) i h e) .0,
+      value-found .absent .1 (zero-missing (values b) (textFrom q) i h e) .0,
     );
   }

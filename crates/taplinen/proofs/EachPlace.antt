@@ -11,7 +11,7 @@ use Rattle.le.specs.Le.{u32At}
 use Rattle.layout.specs.Layout.{valuesMost, namesMost, values, names}
 use Rattle.strings.proofs.Accepted.{strings-iff}
 use Rattle.lookup.specs.Lookup.{textFrom}
-use Rattle.lookup.specs.Kinds.{toldIn, tableOf, kindOf, foundNumber}
+use Rattle.lookup.specs.Kinds.{toldIn, tableOf, kindOf, toldNumber}
 use Rattle.lookup.specs.declared.Kind.{Kind}
 use Rattle.lookup.specs.declared.Kind.the-variants.{Name, Value}
 use Rattle.lookup.specs.declared.Lookup.{Lookup}
@@ -27,14 +27,23 @@ use Rattle.taplinen.specs.Batches.{batchVerdict, batchPlaces, namePlaces
 use Rattle.taplinen.specs.declared.answer.Answer.{Answer}
 use Rattle.taplinen.proofs.Held.{text-told}
 
+-- an accepted file is shorter than 2 to the 32
+names-small : (b : List ℕ) → FileRules b → length (names b .bytes) < 2 ^ 32
+unfolding names
+names-small b r = omega (arith, r .laid .small)
+
+values-small : (b : List ℕ) → FileRules b → length (values b .bytes) < 2 ^ 32
+unfolding values
+values-small b r = omega (arith, r .laid .small)
+
 -- what is told in an accepted file has 32 bits
-told-low : (k : Kind) (b x : List ℕ) → FileRules b → foundNumber (toldIn k (tableOf k b) x) < 2 ^ 32
+told-low : (k : Kind) (b x : List ℕ) → FileRules b → toldNumber (toldIn k (tableOf k b) x) < 2 ^ 32
 unfolding tableOf valuesMost namesMost
-told-low Name b x r = number-low Name (names b) x (strings-iff (names b) .1 (r .name-table)) (r .laid .names) (omega arith)
-told-low Value b x r = number-low Value (values b) x (strings-iff (values b) .1 (r .value-table)) (r .laid .values) (omega arith)
+told-low Name b x r = number-low Name (names b) x (strings-iff (names b) .1 (r .name-table)) (r .laid .names) (omega arith) (names-small b r)
+told-low Value b x r = number-low Value (values b) x (strings-iff (values b) .1 (r .value-table)) (r .laid .values) (omega arith) (values-small b r)
 
 -- an answer holds a lookup's numbers
-holds-told : (l : Lookup) (d : List ℕ) (i : ℕ) {r : Answer} → r ≡ answered Accepted (kindOf l) (foundNumber l) → (u32At d (8 * i) ≡ kindOf l) × (u32At d (8 * i + 4) ≡ foundNumber l)
+holds-told : (l : Lookup) (d : List ℕ) (i : ℕ) {r : Answer} → r ≡ answered Accepted (kindOf l) (toldNumber l) → (u32At d (8 * i) ≡ kindOf l) × (u32At d (8 * i + 4) ≡ toldNumber l)
     → PlaceHolds d i r
 unfolding answered
 holds-told l d i e w = record {
@@ -57,7 +66,7 @@ module _ (b : List ℕ) (room : ℕ) (texts d : List ℕ) (ok : batchVerdict b r
         let w = place-holds (toldIn k (tableOf k b)) texts d i h (told-low k b x (accepted-iff b room .0 file-accepted .0)) in
         rw ok
         (holds-told (toldIn k (tableOf k b) x) _ i
-        (text-told k b room q file-accepted even ∙ ap (λ (y : List ℕ). answered Accepted (kindOf (toldIn k (tableOf k b) y)) (foundNumber (toldIn k (tableOf k b) y))) same)
+        (text-told k b room q file-accepted even ∙ ap (λ (y : List ℕ). answered Accepted (kindOf (toldIn k (tableOf k b) y)) (toldNumber (toldIn k (tableOf k b) y))) same)
         w)
 
     pub name-place : PlaceHolds (namePlaces b room texts d) i (nameAnswer b room q)

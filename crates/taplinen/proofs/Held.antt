@@ -12,7 +12,7 @@ use Rattle.strings.specs.inner.Held.{heldTable}
 use Rattle.nodes.specs.inner.Held.{valueStrings}
 use Rattle.lookup.specs.Lookup.{textFrom}
 use Rattle.lookup.specs.Asked.{textChecks}
-use Rattle.lookup.specs.Kinds.{toldIn, tableOf, kindOf, foundNumber}
+use Rattle.lookup.specs.Kinds.{toldIn, tableOf, kindOf, toldNumber}
 use Rattle.lookup.specs.declared.Kind.{Kind}
 use Rattle.lookup.specs.declared.Kind.the-variants.{Name, Value}
 use Rattle.lookup.specs.declared.Lookup.{Lookup}
@@ -36,25 +36,25 @@ use Rattle.taplinen.proofs.Filled.{own-answer, own-told}
 
 -- an accepted file asked for a text of an even number of bytes
 pub text-told : (k : Kind) (b : List ℕ) (room : ℕ) (q : List ℕ) → verdictOf b room ≡ Accepted → length q % 2 ≡ 0
-    → let l = toldIn k (tableOf k b) (textFrom q) in textAnswer k b room q ≡ answered Accepted (kindOf l) (foundNumber l)
+    → let l = toldIn k (tableOf k b) (textFrom q) in textAnswer k b room q ≡ answered Accepted (kindOf l) (toldNumber l)
 unfolding textAnswer textVerdict
 text-told k b room q e even = sym (own-answer b room (textChecks q) refl _ _ e (text-even q even) (λ z. (refl, refl)) refl)
 
 module _ (b : List ℕ) (room : ℕ) (v : View) (f : Fits b v) (e : verdictOf b room ≡ Accepted) where
   -- lookup::find_text
   module _ (q : List ℕ) (even : length q % 2 ≡ 0) where
-    told-by : (k : Kind) {t : Table} {l : Lookup} → t ≡ tableOf k b → l ≡ toldIn k t (textFrom q) → textAnswer k b room q ≡ answered Accepted (kindOf l) (foundNumber l)
+    told-by : (k : Kind) {t : Table} {l : Lookup} → t ≡ tableOf k b → l ≡ toldIn k t (textFrom q) → textAnswer k b room q ≡ answered Accepted (kindOf l) (toldNumber l)
     told-by k s h =
         text-told k b room q e even
-        ∙ sym (ap (λ (x : Lookup). answered Accepted (kindOf x) (foundNumber x)) (h ∙ ap (λ (y : Table). toldIn k y (textFrom q)) s))
+        ∙ sym (ap (λ (x : Lookup). answered Accepted (kindOf x) (toldNumber x)) (h ∙ ap (λ (y : Table). toldIn k y (textFrom q)) s))
 
     pub held-name : {l : Lookup} → l ≡ toldIn Name (heldTable b (nameStrings (v .places)) (v .«name_buckets»)) (textFrom q)
-        → nameAnswer b room q ≡ answered Accepted (kindOf l) (foundNumber l)
+        → nameAnswer b room q ≡ answered Accepted (kindOf l) (toldNumber l)
     unfolding nameAnswer textAnswer toldIn tableOf
     held-name h = told-by Name (name-table b v f refl) h
 
     pub held-value : {l : Lookup} → l ≡ toldIn Value (heldTable b (valueStrings (v .places)) (v .«value_buckets»)) (textFrom q)
-        → valueAnswer b room q ≡ answered Accepted (kindOf l) (foundNumber l)
+        → valueAnswer b room q ≡ answered Accepted (kindOf l) (toldNumber l)
     unfolding valueAnswer textAnswer toldIn tableOf
     held-value h = told-by Value (value-table b v f refl) h
 

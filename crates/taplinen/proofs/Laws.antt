@@ -10,9 +10,9 @@ use Rattle.verdict.proofs.Laws.{pass, stop, fault-none}
 use Rattle.layout.specs.Header.{headerOf}
 use Rattle.layout.specs.declared.Header.{Header}
 use Rattle.lookup.specs.declared.Lookup.{Lookup}
-use Rattle.lookup.specs.declared.Lookup.the-variants.{Found, Absent}
+use Rattle.lookup.specs.declared.Lookup.the-variants.{Found, Collided, Absent}
 use Rattle.lookup.specs.Asked.{textChecks}
-use Rattle.lookup.specs.Kinds.{kindOf, foundNumber}
+use Rattle.lookup.specs.Kinds.{kindOf, toldNumber}
 use Rattle.accept.specs.Verdict.{verdictOf}
 use Rattle.taplinen.specs.Answers.{answered, reported}
 use Rattle.taplinen.specs.Questions.{headerAnswer}
@@ -20,13 +20,8 @@ use Rattle.taplinen.specs.declared.answer.Answer.{Answer}
 use Rattle.taplinen.specs.declared.header.HeaderReport.{HeaderReport}
 
 -- what a lookup tells
-pub told-found : (l : Lookup) (n : ℕ) → l ≡ Found n → answered Accepted 0 n ≡ answered Accepted (kindOf l) (foundNumber l)
-unfolding kindOf foundNumber
-told-found l n e = rw e
-
-pub told-absent : (l : Lookup) → l ≡ Absent → answered Accepted 1 0 ≡ answered Accepted (kindOf l) (foundNumber l)
-unfolding kindOf foundNumber
-told-absent l e = rw e
+pub told-numbers : {k v j n : ℕ} → k ≡ j → v ≡ n → answered Accepted k v ≡ answered Accepted j n
+told-numbers e f = cc
 
 -- a refusal leaves out the kind and the value
 answer-same : (w : Verdict) {k m j n : ℕ} → (w ≡ Accepted → (k ≡ j) × (m ≡ n)) → answered w k m ≡ answered w j n

@@ -12,6 +12,7 @@ use lib.Ieee.{ofBits, binary64}
 use lib.ListN.{length, getD, take, drop}
 use Rattle.verdict.specs.Checks.{FirstBroken}
 use Rattle.le.specs.Le.{u32At, u64At}
+use Rattle.hash.specs.Hash.{hashText}
 use Rattle.region.specs.Region.{Resolves, numberOf}
 use Rattle.layout.specs.Table.{Table, indexOf, segmentOf, elementOf}
 use Rattle.layout.specs.Layout.{nodeSize, nodesAt, values, names}
@@ -22,7 +23,9 @@ use Rattle.tree.specs.Marks.{IsChild}
 use Rattle.accept.specs.Verdict.{acceptChecks}
 use Rattle.accept.specs.Rules.{FileRules}
 use Rattle.accept.specs.Refusals.{Broken}
+use Rattle.lookup.specs.Collisions.{hashCount}
 use Rattle.lookup.specs.Lookup.{textFrom, Borne, BorneWith}
+use Rattle.lookup.specs.Cases.{Collides, Missing, OneOfThree}
 use Rattle.path.specs.Names.{namesOf, nameAt, Closed}
 use Rattle.path.specs.Matches.{Listed}
 use Rattle.outline.specs.Outline.{outlineOf}
@@ -145,17 +148,20 @@ pub record Reports (b : List ℕ) (r : HeaderReport) : Type 0 where
 -- ---- Demand 2, second sentence
 
 -- r answers a lookup of the text x. f k j is the number answered for entry j of bucket k. Found (kind 0), with that number, exactly when
--- an entry bears that same text; otherwise absent (kind 1), with 0.
+-- an entry bears that same text. Collided (kind 2), with the number of entries of the table that have its hash, exactly when no entry bears
+-- it, it holds no 0, and some entry has its hash. Absent (kind 1), with 0, exactly when it is missing. Of these three, one is so.
 pub record Finds (t : Table) (f : ℕ → ℕ → ℕ) (x : List ℕ) (r : Answer) : Type 0 where
   pub answered : r .refusal ≡ 0
   pub found : (i : ℕ) → ((r .kind ≡ 0) × (r .value ≡ i)) ↔ BorneWith f t x i
-  pub absent : ((r .kind ≡ 1) × (r .value ≡ 0)) ↔ (Borne t x → ⊥)
+  pub collided : (n : ℕ) → ((r .kind ≡ 2) × (r .value ≡ n)) ↔ (Collides t x × (n ≡ hashCount t (hashText x)))
+  pub absent : ((r .kind ≡ 1) × (r .value ≡ 0)) ↔ Missing t x
+  pub one-of-three : OneOfThree (Borne t x) (Collides t x) (Missing t x)
 
 -- On an accepted file, for a text of an even number of bytes: its index among the names, its address among the values.
 pub record Lookups (b : List ℕ) (room : ℕ) (q : List ℕ) : Type 0 where
   pub name : Finds (names b) (indexOf (names b)) (textFrom q) (nameAnswer b room q)
   pub value : Finds (values b) (λ k j. address (segmentOf (values b) k j) (elementOf (values b) k j)) (textFrom q) (valueAnswer b room q)
-  -- A text holding a 0 is absent.
+  -- A text holding a 0 is absent, also where an entry has its hash.
   pub zero : (i : ℕ) → i < length (textFrom q) → getD (textFrom q) i 0 ≡ 0 → (nameAnswer b room q .kind ≡ 1) × (valueAnswer b room q .kind ≡ 1)
 
 -- ---- Beyond the demands: many lookups in one acceptance

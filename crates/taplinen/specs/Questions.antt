@@ -8,7 +8,7 @@ use Rattle.layout.specs.Header.{headerOf}
 use Rattle.layout.specs.Layout.{values, names}
 use Rattle.lookup.specs.Lookup.{textFrom, indexOfText, addressOfText}
 use Rattle.lookup.specs.Asked.{textChecks}
-use Rattle.lookup.specs.Kinds.{toldIn, tableOf, kindOf, foundNumber}
+use Rattle.lookup.specs.Kinds.{toldIn, tableOf, kindOf, toldNumber}
 use Rattle.lookup.specs.declared.Kind.{Kind}
 use Rattle.path.specs.Names.{pathChecks}
 use Rattle.path.specs.Listing.{pathMatches, listingChecks, listingAfter}
@@ -40,16 +40,16 @@ textVerdict b room q = firstFault (acceptChecks b room ++ textChecks q)
 -- What a text is told, by the kind of the question. The two exported questions follow; each is this one's (proofs).
 unfoldable pub textAnswer : Kind → List ℕ → ℕ → List ℕ → Answer
 textAnswer k b room q =
-    answered (textVerdict b room q) (kindOf (toldIn k (tableOf k b) (textFrom q))) (foundNumber (toldIn k (tableOf k b) (textFrom q)))
+    answered (textVerdict b room q) (kindOf (toldIn k (tableOf k b) (textFrom q))) (toldNumber (toldIn k (tableOf k b) (textFrom q)))
 
 -- Name by text: its index, or absent.
 unfoldable pub nameAnswer : List ℕ → ℕ → List ℕ → Answer
-nameAnswer b room q = answered (textVerdict b room q) (kindOf (indexOfText (names b) (textFrom q))) (foundNumber (indexOfText (names b) (textFrom q)))
+nameAnswer b room q = answered (textVerdict b room q) (kindOf (indexOfText (names b) (textFrom q))) (toldNumber (indexOfText (names b) (textFrom q)))
 
 -- Value by text: its address, or absent.
 unfoldable pub valueAnswer : List ℕ → ℕ → List ℕ → Answer
 valueAnswer b room q =
-    answered (textVerdict b room q) (kindOf (addressOfText (values b) (textFrom q))) (foundNumber (addressOfText (values b) (textFrom q)))
+    answered (textVerdict b room q) (kindOf (addressOfText (values b) (textFrom q))) (toldNumber (addressOfText (values b) (textFrom q)))
 
 -- Acceptance's refusals, then 24 of a path, then 25.
 unfoldable pub pathVerdict : List ℕ → ℕ → List ℕ → ℕ → Verdict

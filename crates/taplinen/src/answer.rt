@@ -1,12 +1,13 @@
 // The answer that crosses to C.
 ghost use mathlib.Core.Path.{_≡_};
 ghost use Rattle.verdict.specs.declared.Verdict.the-variants.{Accepted};
-ghost use Rattle.lookup.specs.Kinds.{kindOf, foundNumber};
+ghost use Rattle.lookup.specs.Kinds.{kindOf, toldNumber};
 ghost use Rattle.taplinen.specs.Answers.{answered};
 use lookup::Lookup;
 use verdict::Verdict;
 
-// refusal 0: answered, value is the answer; otherwise the number of the refusal, value its place. kind, for lookups: 0 found, 1 absent.
+// refusal 0: answered, value is the answer; otherwise the number of the refusal, value its place. kind, for lookups: 0 found, 1 absent,
+// 2 collided.
 #[repr(C)]
 pub struct Answer {
     pub refusal: u32,
@@ -34,10 +35,8 @@ pub fn answered(v: Verdict, kind: u32, value: usize) -> Answer
 
 // What a lookup tells.
 pub fn told(l: Lookup) -> Answer
-    ensures { λ r. ⌜ r ≡ answered Accepted (kindOf l) (foundNumber l) ⌝ }
+    ensures { λ r. ⌜ r ≡ answered Accepted (kindOf l) (toldNumber l) ⌝ }
 {
-    match l {
-        Lookup::Found(n) => answered(Verdict::Accepted, 0, n),
-        Lookup::Absent => answered(Verdict::Accepted, 1, 0),
-    }
+    let x = lookup::as_numbers(l);
+    answered(Verdict::Accepted, x.kind, x.value)
 }

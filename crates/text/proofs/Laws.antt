@@ -13,7 +13,7 @@ use lib.ListN.{length, getD}
 use Rattle.le.specs.Le.{u16At}
 use Rattle.region.specs.Region.{Laid, Resolves, placeOf, endOf}
 use Rattle.region.proofs.Laws.{segment-end}
-use Rattle.text.specs.Text.{chars, upToZero, textIn, roomAt}
+use Rattle.text.specs.Text.{chars, upToZero, textIn, roomAt, HoldsZero}
 
 -- ---- characters
 
@@ -119,3 +119,14 @@ module _ (b : List ℕ) (r seg el : ℕ) where
   pub room-fits : Laid 2 b r → Resolves 2 b r seg el → placeOf 2 b r seg el + 2 * roomAt b r seg el ≤ length b
   unfolding placeOf roomAt
   room-fits l h = omega (arith, l .used seg (h .seg-in), l .fits seg (h .seg-in))
+
+-- ---- a text that is asked for
+
+module _ (b : List ℕ) (p n : ℕ) where
+  -- a 0 at i
+  pub zero-held : (i w : ℕ) → i < n → w ≡ u16At b (p + 2 * i) → w ≡ 0 → HoldsZero (chars b p n)
+  zero-held i w l e z = (i, omega (arith, l, length-chars b p n), chars-at b p n i l ∙ sym e ∙ z)
+
+  -- none anywhere
+  pub zero-nowhere : ((i : ℕ) → i < n → u16At b (p + 2 * i) ≡ 0 → ⊥) → HoldsZero (chars b p n) → ⊥
+  zero-nowhere f w = let l : w .0 < n = omega (arith, w .1, length-chars b p n) in f (w .0) l (sym (chars-at b p n (w .0) l) ∙ w .2)

@@ -4,7 +4,11 @@ use mathlib.Core.Path.{_≡_}
 use mathlib.Core.Logic.{_⊎_}
 use mathlib.Core.Bool.{cond}
 use mathlib.Core.List.{List, [], _∷_}
+use native.Mathlib.Decide.{ℕ-discrete}
 use lib.Dec.{eqb}
+use lib.ListN.{length, getD}
+use Rattle.verdict.specs.Checks.{SomeBelow}
+use Rattle.verdict.specs.Decide.{someBelow?}
 use Rattle.le.specs.Le.{u16At}
 use Rattle.region.specs.Region.{placeOf, usedOf}
 
@@ -36,3 +40,10 @@ roomAt b r seg el = usedOf 2 b r seg - el
 -- The text at an address of the character region r.
 unfoldable pub textAt : List ℕ → ℕ → ℕ → ℕ → List ℕ
 textAt b r seg el = textIn b (placeOf 2 b r seg el) (roomAt b r seg el)
+
+-- A text holds a 0. No text of a file does; one that is asked for may.
+abbrev pub HoldsZero : List ℕ → Type 0
+HoldsZero x = SomeBelow (length x) (λ i. getD x i 0 ≡ 0)
+
+unfoldable pub holdsZero? : (x : List ℕ) → Dec (HoldsZero x)
+holdsZero? x = someBelow? (length x) (λ i. ℕ-discrete (getD x i 0) 0)

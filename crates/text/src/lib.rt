@@ -6,7 +6,7 @@ ghost use Rattle.verdict.specs.inner.Tells.{Tells};
 ghost use Rattle.hash.specs.inner.Tables.{Tables};
 ghost use Rattle.hash.specs.Hash.{hashOn};
 ghost use Rattle.hash.specs.Fold.{foldText, valueHashOf};
-ghost use Rattle.text.specs.Text.{chars, textIn};
+ghost use Rattle.text.specs.Text.{chars, textIn, HoldsZero};
 ghost use Rattle.text.specs.inner.Zeros.{zerosIn};
 ghost use Rattle.text.specs.inner.Measure.{MeasuredOn, Measured, ValueRun, CharOrEnd};
 
@@ -149,6 +149,21 @@ pub fn zeros(b: &[u8], p: usize, n: usize) -> usize
         at += 2;
     }
     found as usize
+}
+
+// Whether one of the n characters at p is 0.
+pub fn holds_zero(b: &[u8], p: usize, n: usize) -> bool
+    requires { ⌜ p + 2 * n ≤ length (now b) ⌝ }
+    ensures { λ r. ⌜ Tells (HoldsZero (chars (now (b .entry)) p n)) r ⌝ }
+{
+    let mut i = 0;
+    while i < n {
+        if le::u16_at(b, p + 2 * i) == 0 {
+            return true;
+        }
+        i += 1;
+    }
+    false
 }
 
 // The hash, on from h, of k characters that a caller asks with: four in a step, while four are left.

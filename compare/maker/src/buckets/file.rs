@@ -4,8 +4,12 @@
 //! The crowd's names are those of chains from the root, so that one path asks for many of
 //! them. Each node of a chain has an attribute with a text of the crowd's values.
 
+use second::Which;
+
 use super::strings::{strings, Crowd, Strings};
 use crate::attributes::text_attribute;
+use crate::known::{Known, Lookup};
+use crate::matches::number;
 use crate::model::{Addr, Model, Node, Region, Segment, Table};
 use crate::rich::index_of;
 use crate::rng::Rng;
@@ -21,6 +25,8 @@ pub struct Crowded {
     pub model: Model,
     pub names: Strings,
     pub values: Strings,
+    known_names: Known,
+    known_values: Known,
     /// Bytes of the file.
     length: usize,
 }
@@ -44,7 +50,10 @@ impl Crowded {
             ..smallest().model
         };
         let length = model.bytes().len();
-        Crowded { model, names, values, length }
+        let known_names = Known::new(names.texts.iter().zip(1..));
+        let addresses = values.addresses.iter().map(|&address| number(address));
+        let known_values = Known::new(values.texts.iter().zip(addresses));
+        Crowded { model, names, values, known_names, known_values, length }
     }
 
     /// The crowd's names from one chain after the other.
@@ -53,39 +62,19 @@ impl Crowded {
         self.names.crowd.chunks(CHAIN).map(move |chain| chain.iter().map(text).collect())
     }
 
-    /// A name's index.
-    pub fn name(&self, text: &[u16]) -> Option<u32> {
-        self.names.place(text).map(|place| place as u32 + 1)
-    }
-
-    /// A value's address as a number.
-    pub fn value(&self, text: &[u16]) -> Option<u32> {
-        self.values.place(text).map(|place| number(self.values.addresses[place]))
+    /// What a look-up has to answer.
+    pub fn look_up(&self, which: Which, text: &[u16]) -> Lookup {
+        match which {
+            Which::Names => self.known_names.look_up(text),
+            Which::Values => self.known_values.look_up(text),
+        }
     }
 
     /// The nodes that a path leads to, in document order.
     pub fn matches(&self, path: &[Text]) -> Vec<u32> {
-        let names: Option<Vec<u32>> = path.iter().map(|name| self.name(name)).collect();
-        let mut found = Vec::new();
-        if let Some(names) = names {
-            self.below((0, 0), &names, &mut found);
-        }
-        found
-    }
-
-    fn below(&self, address: Addr, names: &[u32], found: &mut Vec<u32>) {
-        let (Some((&name, left)), Some(node)) =
-            (names.split_first(), self.model.nodes.get(address))
-        else {
-            found.push(number(address));
-            return;
-        };
-        let (segment, first) = node.child_addr;
-        for child in (first..first + node.children).map(|element| (segment, element)) {
-            if self.model.nodes.get(child).is_some_and(|node| node.name as u32 == name) {
-                self.below(child, left, found);
-            }
-        }
+        let names: Option<Vec<u32>> =
+            path.iter().map(|name| self.known_names.number(name)).collect();
+        names.map_or(Vec::new(), |names| self.model.matches(&names))
     }
 
     /// The file with an address more in a list, at a position from 0 on, and where 13 is
@@ -117,10 +106,6 @@ impl Crowded {
     pub fn attributes(&self) -> usize {
         self.model.attributes.segments[0].used.len()
     }
-}
-
-fn number((segment, element): Addr) -> u32 {
-    (segment as u32) << 16 | element as u32
 }
 
 /// Bytes of a table.

@@ -69,9 +69,9 @@ mod tests {
             assert_eq!(file.names.crowd.len(), plan.names.count);
             assert_eq!(file.values.crowd.len(), plan.values.count);
             for (which, strings) in [(Which::Names, &file.names), (Which::Values, &file.values)] {
-                let absent = |text: &Text| view.single(which, &to_bytes(text)).kind == 1;
-                assert!(strings.absent.iter().all(absent), "{plan:?}");
-                assert!(!strings.texts.iter().any(absent), "{plan:?}");
+                let missing = |text: &Text| view.single(which, &to_bytes(text)).kind != 0;
+                assert!(strings.absent.iter().all(missing), "{plan:?}");
+                assert!(!strings.texts.iter().any(missing), "{plan:?}");
             }
             for chain in file.chains() {
                 assert_eq!(file.matches(&chain).len(), 1);

@@ -1,6 +1,6 @@
 //! A table with one crowded bucket, texts that it does not have, and where each stands.
 
-use std::collections::{HashMap, HashSet};
+use std::collections::HashSet;
 
 use super::hashes::Hashes;
 use super::shape::{Ends, Shape};
@@ -33,15 +33,9 @@ pub struct Strings {
     pub absent: Vec<Text>,
     /// Texts that stand among the characters and have no entry.
     pub strays: Vec<Stray>,
-    places: HashMap<Text, usize>,
 }
 
 impl Strings {
-    /// The place of a text.
-    pub fn place(&self, text: &[u16]) -> Option<usize> {
-        self.places.get(text).copied()
-    }
-
     pub fn in_crowd(&self, i: usize) -> &Text {
         &self.texts[self.crowd[i]]
     }
@@ -177,6 +171,5 @@ pub fn strings(rng: &mut Rng, crowd: Crowd, buckets: u32, special: &[&str]) -> (
     drop_some(wished.rng, &mut table);
     let entries = &table.buckets[crowd.bucket as usize].entries;
     let crowd = entries.iter().map(|entry| entry.index as usize - 1).collect();
-    let places = texts.iter().cloned().enumerate().map(|(i, text)| (text, i)).collect();
-    (table, Strings { texts, addresses, crowd, absent, strays, places })
+    (table, Strings { texts, addresses, crowd, absent, strays })
 }

@@ -95,14 +95,14 @@ mod tests {
                 let mut answers = vec![1; 4 * texts.len()];
                 let answer = loader.batch(Which::Values, file, &mut ws, texts, &mut answers);
                 let mut answered = answers.chunks_exact(8).take(answer.value as usize);
-                assert!(answered.all(|place| place[..4] == [0; 4]), "a text is absent");
+                assert!(answered.all(|place| place[..4] != [1, 0, 0, 0]), "a text is absent");
                 answer
             }
             Ask::Singles(texts) => {
                 let length = texts.chunks_exact(2).position(|pair| pair == [0, 0]);
                 let first = &texts[..2 * length.expect("texts end in a 0")];
                 let answer = loader.single(Which::Values, file, &mut ws, first);
-                assert_eq!(answer.kind, 0, "a text is absent");
+                assert_ne!(answer.kind, 1, "a text is absent");
                 answer
             }
             Ask::Path(path) => {
@@ -130,6 +130,24 @@ mod tests {
             let trap = class.make(class.smallest.min(100 * KB));
             let answer = ask_all(&trap, &class.name);
             assert_eq!(answer.refusal, trap.refusal, "{}: {answer:?}", class.name);
+        }
+    }
+
+    /// Each text of these classes collides with all values.
+    #[test]
+    fn collided_texts_tell_all_values() {
+        let loader: Loader<Right, Plain> = Loader::new(Right);
+        for class in of_any_size().iter().filter(|class| class.name.starts_with("collided")) {
+            let trap = class.make(100 * KB);
+            let (Ask::Batch(texts) | Ask::Singles(texts)) = &trap.ask else {
+                panic!("{} asks for no texts", class.name);
+            };
+            let (file, mut answers) = (trap.model.bytes(), vec![1; 4 * texts.len()]);
+            let ws = &mut vec![0; trap.model.used_nodes()];
+            let answer = loader.batch(Which::Values, &file, ws, texts, &mut answers);
+            let all = [2, trap.model.values.list.len() as u32].map(u32::to_le_bytes).concat();
+            let mut answered = answers.chunks_exact(8).take(answer.value as usize);
+            assert!(answer.value > 0 && answered.all(|place| place == all), "{}", class.name);
         }
     }
 

@@ -1,4 +1,4 @@
-//! Values with one hash, ends of one another, and crowded buckets.
+//! Values with one hash, ends of one another, crowded buckets, and collided texts.
 
 use second::hashes::{by_definition, folded};
 
@@ -37,6 +37,9 @@ pub fn classes() -> Vec<Class> {
         Class::new("bucket-one-hash-batch", MB, batch(all_but_one_equal)),
         Class::new("bucket-one-hash-single", MB, singles(all_but_one_equal)),
         Class::new("empty-texts-batch", MB, empty_texts),
+        Class::new("collided-batch", MB, collided),
+        Class::new("collided-single", MB, collided_one_by_one),
+        Class::new("collided-empty-batch", MB, collided_empty_texts),
     ]
 }
 
@@ -255,6 +258,36 @@ fn empty_texts(bytes: usize) -> Trap {
     let count = left(bytes) / (ENTRY + 10);
     let mut texts: Vec<Text> = beginnings().filter_map(|two| closed(&two, 0)).take(count).collect();
     texts.push(Text::new());
+    let parts = Parts { values: table_of(&texts), ..Parts::new(names(1)) };
+    parts.trap(Ask::Batch(vec![0; 2 * count]), 0)
+}
+
+/// Values of one hash and one length, and as many texts with that hash and length that are
+/// not there.
+fn strangers(bytes: usize) -> (Parts, Vec<Text>) {
+    let count = left(bytes) / (ENTRY + 10);
+    let mut all = beginnings().filter_map(|two| closed(&two, COMMON));
+    let texts: Vec<Text> = all.by_ref().take(count).collect();
+    let parts = Parts { values: table_of(&texts), ..Parts::new(names(1)) };
+    (parts, all.take(count).collect())
+}
+
+/// All of them are asked for. Each collides with every value.
+fn collided(bytes: usize) -> Trap {
+    let (parts, others) = strangers(bytes);
+    parts.trap(Ask::Batch(list(&others)), 0)
+}
+
+/// A few of them, one at a time.
+fn collided_one_by_one(bytes: usize) -> Trap {
+    let (parts, others) = strangers(bytes);
+    parts.trap(Ask::Singles(list(&others[..others.len().min(8)])), 0)
+}
+
+/// The empty text is asked for over and over, and is not there. All values have its hash.
+fn collided_empty_texts(bytes: usize) -> Trap {
+    let count = left(bytes) / (ENTRY + 10);
+    let texts: Vec<Text> = beginnings().filter_map(|two| closed(&two, 0)).take(count).collect();
     let parts = Parts { values: table_of(&texts), ..Parts::new(names(1)) };
     parts.trap(Ask::Batch(vec![0; 2 * count]), 0)
 }

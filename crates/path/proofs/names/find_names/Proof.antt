@@ -9,7 +9,7 @@ use Rattle.text.specs.Text.{chars}
 use Rattle.layout.specs.Table.{Table}
 use Rattle.strings.specs.Order.{stringChecks}
 use Rattle.keys.specs.Names.{Bears}
-use Rattle.path.proofs.Bearers.{found-bears, absent-bears, index-low}
+use Rattle.path.proofs.Bearers.{found-bears, collided-bears, absent-bears, index-low}
 use Rattle.path.proofs.Lookups.{Sofar, sofar-start, sofar-more, sofar-absent, sofar-long, sofar-all}
 use Rattle.path.proofs.names.find_names.Statement.{statement}
 use Rattle.path.proofs.names.find_names.Tie as tie
@@ -73,10 +73,16 @@ returns-3 : tie.Need-returns-3 Inv-loop μ-loop
 returns-3 c =
     let s = c .before .before .before .before .before .before .before .before .before .before in
     sofar-absent (s .pre .4) (c .before .before .before .before .before .before .loop .inv .1) (c .before .before .before .name-end .ensures)
-    (absent-bears _ _ (s .pre .3) (s .pre .2) (c .before .before .find-text .ensures) (c .enum-told .given .1))
+    (collided-bears _ _ (s .pre .3) (s .pre .2) (c .before .before .find-text .ensures) (c .enum-told .given .1))
+
+returns-4 : tie.Need-returns-4 Inv-loop μ-loop
+returns-4 c =
+    let s = c .before .before .before .before .before .before .before .before .before .before in
+    sofar-absent (s .pre .4) (c .before .before .before .before .before .before .loop .inv .1) (c .before .before .before .name-end .ensures)
+    (absent-bears _ _ (s .pre .3) (s .pre .2) (c .before .before .find-text .ensures) (c .enum-told2 .given .1))
 
 pub find-names-spec : {M : Type 1} → statement M
 find-names-spec =
     tie.close
     (tie.spec Inv-loop μ-loop loop-holds name-end-requires sub-find-text find-text-requires (λ c. search needs) cast-indices
-    (λ c. search needs) array-write-indices (λ c. search needs) add-n add-at loop-less loop-again returns returns-2 returns-3)
+    (λ c. search needs) array-write-indices (λ c. search needs) (λ c. search needs) add-n add-at loop-less loop-again returns returns-2 returns-3 returns-4)

@@ -1,6 +1,6 @@
 use mathlib.Core.Path.{refl, ap}
 use Rattle.verdict.proofs.Laws.{never}
-use Rattle.lookup.specs.Kinds.{kindOf, foundNumber}
+use Rattle.lookup.specs.Kinds.{kindOf, toldNumber}
 use Rattle.taplinen.specs.Questions.{textVerdict, textAnswer, workspaceLeft}
 use Rattle.taplinen.proofs.Laws.{text-odd, text-even}
 use Rattle.taplinen.proofs.Asked.{to-find}
@@ -29,7 +29,7 @@ unfolding textAnswer textVerdict workspaceLeft
 returns-3 c =
     let k = c .before .before .before .before .before .before .before .before .accept .ensures in
     let f = c .before .find .ensures in
-    (own-answer _ _ _ (k .0 .answer) _ _ (c .before .before .before .before .enum-told2 .given .1) (text-even _ (c .before .before .before .if1 .left)) (λ z. (ap kindOf f, ap foundNumber f)) (c .told .ensures), k .1)
+    (own-answer _ _ _ (k .0 .answer) _ _ (c .before .before .before .before .enum-told2 .given .1) (text-even _ (c .before .before .before .if1 .left)) (λ z. (ap kindOf f, ap toldNumber f)) (c .told .ensures), k .1)
 
 pub ask-spec : {M : Type 1} → statement M
 ask-spec =
