@@ -1,10 +1,10 @@
 -- How many entries have a hash. Assumes nothing.
-use Prim.Native.Nat.{ℕ, _-_, _^_, _≤_, _<_}
+use Prim.Native.Nat.{ℕ, _-_, _≤_, _<_}
 use native.Mathlib.Decide.{ℕ-discrete}
 use native.Mathlib.Omega.{arith}
 use mathlib.Core.Path.{_≡_, sym, ap, _∙_}
 use mathlib.Core.Logic.{_↔_}
-use Rattle.laws.specs.Counting.{howMany, sumBelow}
+use Rattle.laws.specs.Counting.{howMany}
 use Rattle.laws.proofs.Counting.{count-none, count-most, count-span, count-some, some-counted, sum-one, sum-some, some-summed}
 use Rattle.verdict.proofs.Laws.{Clean}
 use Rattle.hash.specs.Hash.{bucketOf}

@@ -9,10 +9,7 @@ use Rattle.verdict.specs.declared.Verdict.the-variants.{Accepted, Refused}
 use Rattle.verdict.proofs.Laws.{pass, stop, fault-none}
 use Rattle.layout.specs.Header.{headerOf}
 use Rattle.layout.specs.declared.Header.{Header}
-use Rattle.lookup.specs.declared.Lookup.{Lookup}
-use Rattle.lookup.specs.declared.Lookup.the-variants.{Found, Collided, Absent}
 use Rattle.lookup.specs.Asked.{textChecks}
-use Rattle.lookup.specs.Kinds.{kindOf, toldNumber}
 use Rattle.accept.specs.Verdict.{verdictOf}
 use Rattle.taplinen.specs.Answers.{answered, reported}
 use Rattle.taplinen.specs.Questions.{headerAnswer}

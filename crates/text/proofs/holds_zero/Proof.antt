@@ -1,5 +1,5 @@
 use Prim.Native.Nat.{ℕ, _+_, _-_, _*_, _≤_, _<_}
-use mathlib.Core.Path.{_≡_, refl, sym, _∙_}
+use mathlib.Core.Path.{_≡_, _∙_}
 use borrow.Author.Count.{below-none, below-more}
 use Rattle.le.specs.Le.{u16At}
 use Rattle.verdict.proofs.Laws.{tells-yes, tells-no}
