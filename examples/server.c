@@ -13,7 +13,7 @@
 
 #include <taplinen.h>
 
-/* A call needs about 170 KB of stack. With glibc, thread-local data is taken from the stack, too: sanitizers have a lot of it. */
+/* A call needs about 200 KB of stack. With glibc, thread-local data is taken from the stack, too: sanitizers have a lot of it. */
 enum { THREADS = 4, STACK_LEN = 1024 * 1024, TEXT_LEN = 64, ANSWER_LEN = 256 };
 
 enum request_kind { NAMES, PATH, PRICE };
@@ -25,8 +25,9 @@ struct request {
 };
 
 static struct request requests[] = {
-    {NAMES, "Item/Quest/Monster/Price", ""}, {NAMES, "LegendarySword/@b`naiosyRyopk", ""}, {PATH, "Item/Price", ""}, {PATH, "Monster", ""},
-    {PRICE, "Iron\\0020sword", ""},          {PRICE, "Oak\\0020shield", ""},               {PRICE, "Gold\\0020crown", ""},
+    {NAMES, "Item/Quest/Monster/Price", ""}, {NAMES, "LegendarySword/@b`naiosyRyopk", ""}, {NAMES, "Gimehoteru/Item", ""},
+    {PATH, "Item/Price", ""},                {PATH, "Monster", ""},                        {PRICE, "Iron\\0020sword", ""},
+    {PRICE, "Oak\\0020shield", ""},          {PRICE, "Gold\\0020crown", ""},
 };
 
 /* What the threads share: the file and its outline, which nobody writes to, and the number of the next request, under a lock. */
@@ -66,7 +67,7 @@ static void ask(uint8_t *ws, struct request *r)
         else if (taplinen_u32(item) == TAPLINEN_FOUND)
             at += (size_t)snprintf(r->answer + at, ANSWER_LEN - at, " %u", taplinen_u32(item + 4));
         else
-            at += (size_t)snprintf(r->answer + at, ANSWER_LEN - at, " absent");
+            at += (size_t)snprintf(r->answer + at, ANSWER_LEN - at, "%s", taplinen_u32(item) == TAPLINEN_COLLIDED ? " collided" : " absent");
     }
 }
 

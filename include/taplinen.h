@@ -106,7 +106,7 @@ enum taplinen_refusal {
 enum taplinen_kind {
     TAPLINEN_FOUND = 0,
     TAPLINEN_ABSENT = 1,
-    TAPLINEN_COLLIDED = 2 /* the text is not there, but other texts with its 32-bit hash are */
+    TAPLINEN_COLLIDED = 2 /* no entry has the text, but at least one has its 32-bit hash */
 };
 
 typedef struct {
@@ -183,19 +183,19 @@ taplinen_answer taplinen_accept(const uint8_t *file, size_t file_len, uint8_t *w
 /* The header of an accepted file. On a refusal every field but refusal and place is 0. */
 taplinen_header_report taplinen_header(const uint8_t *file, size_t file_len, uint8_t *ws, size_t ws_len);
 
-/* Looks a text up in the names table. The parameter text has two bytes per character, low byte first, without a final 0. The field value is
- * the index of the name. Two names with the same hash are two names.
- *   TAPLINEN_ABSENT    No name has the text, and none has its 32-bit hash. The field value is 0. A text that contains a 0 character is
- *                      always absent.
- *   TAPLINEN_COLLIDED  No name has the text, but some have its hash. The field value is how many. A loader that compares hashes alone
- *                      takes one of them for the text: a player who asks for one item gets another. Treat the text as not found, and
- *                      log it: either the text is wrong, or its item is missing from the file. Before you add it to the file, make
- *                      sure that no program that you ship compares hashes alone, or choose another text. */
+/* Looks a text up in the names table. The parameter text has two bytes per character, low byte first, without a final 0. Two names with the
+ * same hash are two names. The field kind says what the field value is:
+ *   TAPLINEN_FOUND     A name has the text. The value is its index.
+ *   TAPLINEN_ABSENT    No name has the text, and none has its 32-bit hash; or the text contains a 0 character. The value is 0.
+ *   TAPLINEN_COLLIDED  No name has the text, but at least one has its 32-bit hash. The value is the number of names with this hash.
+ *                      Treat the text as not found, and log it: the text is wrong, or it is missing from the file. A program that
+ *                      compares hashes alone would take one of those names for it, and a player would get another item. Before you add
+ *                      the text to the file, make sure that no program you ship does so. */
 taplinen_answer taplinen_name(const uint8_t *file, size_t file_len, uint8_t *ws, size_t ws_len,
                               const uint8_t *text, size_t text_len);
 
-/* Looks a text up in the values table. The field value is its address as segment * 65536 + element. Test kind: 0:0 is an address, too.
- * Absent and collided are as with taplinen_name. */
+/* Looks a text up in the values table. If it is found, the field value is its address as segment * 65536 + element. Test kind: 0:0 is an
+ * address, too. Absent and collided are as with taplinen_name. */
 taplinen_answer taplinen_value(const uint8_t *file, size_t file_len, uint8_t *ws, size_t ws_len,
                                const uint8_t *text, size_t text_len);
 

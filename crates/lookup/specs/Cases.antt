@@ -14,7 +14,7 @@ pub record Collides (t : Table) (x : List ℕ) : Type 0 where
   pub without-zero : HoldsZero x → ⊥
   pub hashed : HasHash t (hashText x)
 
--- Absent: no entry bears the text, and it holds a 0, or no entry has its hash.
+-- Absent: no entry bears the text; and either it holds a 0, or no entry has its hash.
 pub record Missing (t : Table) (x : List ℕ) : Type 0 where
   pub unborne : Borne t x → ⊥
   pub unhashed : HoldsZero x ⊎ (HasHash t (hashText x) → ⊥)

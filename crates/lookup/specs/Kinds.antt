@@ -9,7 +9,7 @@ use Rattle.lookup.specs.declared.Kind.the-variants.{Name, Value}
 use Rattle.lookup.specs.declared.Lookup.{Lookup}
 use Rattle.lookup.specs.declared.Lookup.the-variants.{Found, Collided, Absent}
 
--- What is told of a text in a table: a name's index, or a value's address.
+-- What is told of a text in a table; where it is found, a name's index or a value's address.
 unfoldable pub toldIn : Kind → Table → List ℕ → Lookup
 toldIn Name t x = indexOfText t x
 toldIn Value t x = addressOfText t x

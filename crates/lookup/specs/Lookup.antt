@@ -29,18 +29,18 @@ borne? t x = someBelow? (t .buckets) (λ k. someBelow? (entries t k) (λ j. text
 abbrev pub BorneWith : (ℕ → ℕ → ℕ) → Table → List ℕ → ℕ → Type 0
 BorneWith f t x i = SomeBelow (t .buckets) (λ k. SomeBelow (entries t k) (λ j. (textOf t k j ≡ x) × (f k j ≡ i)))
 
--- What is told of a text that no entry bears, and n have its hash: where it holds no 0 and n is not 0, that it collides with n.
+-- What is told of a text that no entry bears, where n entries have its hash: absent if it holds a 0 or n is 0, otherwise collided, with n.
 unfoldable pub toldUnborne : (x : List ℕ) → Dec (HoldsZero x) → ℕ → Lookup
 toldUnborne x (yes z) n = Absent
 toldUnborne x (no f) zero = Absent
 toldUnborne x (no f) (suc n) = Collided (suc n)
 
--- What is told of the entry that bears a text, or of one that none bears.
+-- What is told of a text: f of the entry that bears it; where none does, absent or collided.
 unfoldable pub toldBy : (f : ℕ → ℕ → ℕ) (t : Table) (x : List ℕ) → Dec (Borne t x) → Lookup
 toldBy f t x (yes w) = Found (f (w .0) (w .2 .0))
 toldBy f t x (no n) = toldUnborne x (holdsZero? x) (hashCount t (hashText x))
 
--- Where it stands.
+-- Where its entry stands.
 unfoldable pub entryOfText : Table → List ℕ → Lookup
 entryOfText t x = toldBy (entryAt t) t x (borne? t x)
 

@@ -23,7 +23,7 @@ use strings::fields;
 use strings::spot;
 use strings::spot::Spot;
 
-// What is found: a number; nothing, while so many entries have the text's hash; or nothing.
+// What a look-up answers: found, with a number; collided, with how many entries have the text's hash; absent.
 pub enum Lookup {
     Found(usize),
     Collided(usize),
@@ -96,7 +96,7 @@ fn unborne(q: &[u8], p: usize, n: usize, count: usize) -> Lookup
 }
 
 // The entry that bears the n characters at p of what is asked, whose hash is h: from `low` on, the first entry of its bucket whose hash
-// is not below h. Among equal hashes all are read.
+// is not below h. Among equal hashes all are read. Where none bears the text, these are all entries of the table with the hash.
 fn find_entry(
     b: &[u8],
     s: Strings,

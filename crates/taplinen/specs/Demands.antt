@@ -149,7 +149,8 @@ pub record Reports (b : List ℕ) (r : HeaderReport) : Type 0 where
 
 -- r answers a lookup of the text x. f k j is the number answered for entry j of bucket k. Found (kind 0), with that number, exactly when
 -- an entry bears that same text. Collided (kind 2), with the number of entries of the table that have its hash, exactly when no entry bears
--- it, it holds no 0, and some entry has its hash. Absent (kind 1), with 0, exactly when it is missing. Of these three, one is so.
+-- it, it holds no 0, and some entry has its hash. Absent (kind 1), with 0, exactly when no entry
+-- bears it, and either it holds a 0 or no entry has its hash. Of the three exactly one holds.
 pub record Finds (t : Table) (f : ℕ → ℕ → ℕ) (x : List ℕ) (r : Answer) : Type 0 where
   pub answered : r .refusal ≡ 0
   pub found : (i : ℕ) → ((r .kind ≡ 0) × (r .value ≡ i)) ↔ BorneWith f t x i

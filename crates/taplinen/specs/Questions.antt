@@ -42,11 +42,11 @@ unfoldable pub textAnswer : Kind → List ℕ → ℕ → List ℕ → Answer
 textAnswer k b room q =
     answered (textVerdict b room q) (kindOf (toldIn k (tableOf k b) (textFrom q))) (toldNumber (toldIn k (tableOf k b) (textFrom q)))
 
--- Name by text: its index, or absent.
+-- Name by text: its index; absent; or collided, with the number of entries that have its hash.
 unfoldable pub nameAnswer : List ℕ → ℕ → List ℕ → Answer
 nameAnswer b room q = answered (textVerdict b room q) (kindOf (indexOfText (names b) (textFrom q))) (toldNumber (indexOfText (names b) (textFrom q)))
 
--- Value by text: its address, or absent.
+-- Value by text: its address; absent; or collided, with that number.
 unfoldable pub valueAnswer : List ℕ → ℕ → List ℕ → Answer
 valueAnswer b room q =
     answered (textVerdict b room q) (kindOf (addressOfText (values b) (textFrom q))) (toldNumber (addressOfText (values b) (textFrom q)))
