@@ -6,6 +6,7 @@ use mathlib.Core.List.{List}
 use Rattle.verdict.specs.declared.Verdict.the-variants.{Accepted}
 use Rattle.verdict.proofs.Laws.{append-inv, fault-append}
 use Rattle.layout.specs.Layout.{layoutChecks, values, names}
+use Rattle.layout.specs.declared.Edition.{Edition}
 use Rattle.layout.proofs.Accepted.{layout-iff}
 use Rattle.strings.specs.Order.{stringChecks}
 use Rattle.strings.proofs.Accepted.{strings-iff}
@@ -18,42 +19,42 @@ use Rattle.tree.proofs.Accepted.{tree-iff}
 use Rattle.accept.specs.Verdict.{acceptChecks, verdictOf}
 use Rattle.accept.specs.Rules.{FileRules}
 
-module _ (b : List ℕ) (room : ℕ) where
-  accepted-file : verdictOf b room ≡ Accepted → FileRules b × (usedNodes b ≤ room)
+module _ (ed : Edition) (b : List ℕ) (room : ℕ) where
+  accepted-file : verdictOf ed b room ≡ Accepted → FileRules ed b × (usedNodes ed b ≤ room)
   unfolding verdictOf acceptChecks
   accepted-file e =
-      let l = append-inv (layoutChecks b) _ e in
-      let v = append-inv (stringChecks (values b)) _ (l .1) in
-      let n = append-inv (stringChecks (names b)) _ (v .1) in
-      let s = append-inv (specialChecks b) _ (n .1) in
-      let k = append-inv (allKeyChecks b) _ (s .1) in
-      let d = append-inv (allNodeChecks b) _ (k .1) in
-      let laid = layout-iff b .0 (l .0) in
-      let t = tree-iff b (laid .nodes) room .0 (d .1) in (
+      let l = append-inv (layoutChecks ed b) _ e in
+      let v = append-inv (stringChecks (values ed b)) _ (l .1) in
+      let n = append-inv (stringChecks (names ed b)) _ (v .1) in
+      let s = append-inv (specialChecks ed b) _ (n .1) in
+      let k = append-inv (allKeyChecks ed b) _ (s .1) in
+      let d = append-inv (allNodeChecks ed b) _ (k .1) in
+      let laid = layout-iff ed b .0 (l .0) in
+      let t = tree-iff ed b (laid .nodes) room .0 (d .1) in (
         record {
           laid = laid;
-          value-table = strings-iff (values b) .0 (v .0);
-          name-table = strings-iff (names b) .0 (n .0);
-          special = special-iff b .0 (s .0);
-          key = keys-iff b .0 (k .0);
-          nodes = nodes-iff b .0 (d .0);
+          value-table = strings-iff (values ed b) .0 (v .0);
+          name-table = strings-iff (names ed b) .0 (n .0);
+          special = special-iff ed b .0 (s .0);
+          key = keys-iff ed b .0 (k .0);
+          nodes = nodes-iff ed b .0 (d .0);
           range = t .ranges;
           depth = t .depth;
         },
         t .room,
       )
 
-  file-accepted : FileRules b × (usedNodes b ≤ room) → verdictOf b room ≡ Accepted
+  file-accepted : FileRules ed b × (usedNodes ed b ≤ room) → verdictOf ed b room ≡ Accepted
   unfolding verdictOf acceptChecks
   file-accepted p =
       let r = p .0 in
-      fault-append (layoutChecks b) _ (layout-iff b .1 (r .laid))
-      ∙ fault-append (stringChecks (values b)) _ (strings-iff (values b) .1 (r .value-table))
-      ∙ fault-append (stringChecks (names b)) _ (strings-iff (names b) .1 (r .name-table))
-      ∙ fault-append (specialChecks b) _ (special-iff b .1 (r .special))
-      ∙ fault-append (allKeyChecks b) _ (keys-iff b .1 (r .key))
-      ∙ fault-append (allNodeChecks b) _ (nodes-iff b .1 (r .nodes))
-      ∙ tree-iff b (r .laid .nodes) room .1 (record { room = p .1; ranges = r .range; depth = r .depth })
+      fault-append (layoutChecks ed b) _ (layout-iff ed b .1 (r .laid))
+      ∙ fault-append (stringChecks (values ed b)) _ (strings-iff (values ed b) .1 (r .value-table))
+      ∙ fault-append (stringChecks (names ed b)) _ (strings-iff (names ed b) .1 (r .name-table))
+      ∙ fault-append (specialChecks ed b) _ (special-iff ed b .1 (r .special))
+      ∙ fault-append (allKeyChecks ed b) _ (keys-iff ed b .1 (r .key))
+      ∙ fault-append (allNodeChecks ed b) _ (nodes-iff ed b .1 (r .nodes))
+      ∙ tree-iff ed b (r .laid .nodes) room .1 (record { room = p .1; ranges = r .range; depth = r .depth })
 
-  pub accepted-iff : verdictOf b room ≡ Accepted ↔ (FileRules b × (usedNodes b ≤ room))
+  pub accepted-iff : verdictOf ed b room ≡ Accepted ↔ (FileRules ed b × (usedNodes ed b ≤ room))
   accepted-iff = (accepted-file, file-accepted)

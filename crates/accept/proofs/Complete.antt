@@ -8,6 +8,7 @@ use Rattle.region.specs.Region.{Laid}
 use Rattle.layout.specs.Header.{keysAt, keyAt}
 use Rattle.layout.specs.Table.{Table, tableEnd, TableLaid}
 use Rattle.layout.specs.Layout.{attributesAt, values, names, LaidOut}
+use Rattle.layout.specs.declared.Edition.{Edition}
 use Rattle.strings.specs.Rules.{TableRules}
 use Rattle.strings.proofs.Accepted.{Good, all-good, strings-parts, strings-iff}
 use Rattle.tree.specs.File.{usedNodes}
@@ -17,23 +18,23 @@ use Rattle.accept.specs.Refusals.{RegionOf, TableOf, Field, Limited, Ent
 
 -- ---- 2 and 5: what is laid out
 
-module _ (b : List ℕ) (g : LaidOut b) where
-  laid-region : {size r : ℕ} → RegionOf b size r → Laid size b r
+module _ (ed : Edition) (b : List ℕ) (g : LaidOut ed b) where
+  laid-region : {size r : ℕ} → RegionOf ed b size r → Laid size b r
   unfolding values names
   laid-region RegionOf.attributes = g .attributes
   laid-region RegionOf.nodes = g .nodes
   laid-region RegionOf.value-characters = g .values .characters
   laid-region RegionOf.name-characters = g .names .characters
 
-  laid-table : {t : Table} {most : ℕ} → TableOf b t most → TableLaid t most × (t .bytes ≡ b)
+  laid-table : {t : Table} {most : ℕ} → TableOf ed b t most → TableLaid t most × (t .bytes ≡ b)
   unfolding values names
   laid-table TableOf.of-values = (g .values, refl)
   laid-table TableOf.of-names = (g .names, refl)
 
-  in-file : {t : Table} {most n : ℕ} → TableOf b t most → n ≤ length (t .bytes) → n ≤ length b
+  in-file : {t : Table} {most n : ℕ} → TableOf ed b t most → n ≤ length (t .bytes) → n ≤ length b
   in-file {n = n} o l = subst (λ (s : List ℕ). n ≤ length s) (laid-table o .1) l
 
-  field-in : {at width : ℕ} → Field b at width → at + width ≤ length b
+  field-in : {at width : ℕ} → Field ed b at width → at + width ≤ length b
   unfolding keysAt keyAt attributesAt tableEnd
   field-in Field.version = omega (arith, g .header)
   field-in Field.timestamp = omega (arith, g .header)
@@ -51,37 +52,37 @@ module _ (b : List ℕ) (g : LaidOut b) where
   field-in (Field.addresses o) = in-file o (laid-table o .0 .positions)
   field-in Field.footer = omega (arith, g .ends)
 
-  least-kept : {at least n most : ℕ} → Limited b at least n most → least ≤ n
+  least-kept : {at least n most : ℕ} → Limited ed b at least n most → least ≤ n
   least-kept Limited.of-keys = g .some-key
   least-kept (Limited.of-segments r) = omega arith
   least-kept (Limited.of-full r s l) = omega arith
   least-kept (Limited.of-used r s l) = omega arith
   least-kept (Limited.of-addresses o) = laid-table o .0 .some
 
-  most-kept : {at least n most : ℕ} → Limited b at least n most → n ≤ most
+  most-kept : {at least n most : ℕ} → Limited ed b at least n most → n ≤ most
   most-kept Limited.of-keys = g .few-keys
   most-kept (Limited.of-segments r) = laid-region r .few
   most-kept (Limited.of-full r s l) = laid-region r .full s l
   most-kept (Limited.of-used r s l) = laid-region r .used s l
   most-kept (Limited.of-addresses o) = laid-table o .0 .few
 
-module _ (b : List ℕ) (f : FileRules b) where
-  table-rules : {t : Table} {most : ℕ} → TableOf b t most → TableRules t
+module _ (ed : Edition) (b : List ℕ) (f : FileRules ed b) where
+  table-rules : {t : Table} {most : ℕ} → TableOf ed b t most → TableRules t
   table-rules TableOf.of-values = f .value-table
   table-rules TableOf.of-names = f .name-table
 
-  good : {t : Table} {k j : ℕ} → EntryOf b t k j → Good t k j
+  good : {t : Table} {k j : ℕ} → EntryOf ed b t k j → Good t k j
   good {t} e = all-good t (strings-parts t (strings-iff t .1 (table-rules (e .of))) .0) _ _ (e .bucket) (e .entry)
 
   -- ---- row by row
 
-  pub none-broken : {room n p : ℕ} → usedNodes b ≤ room → Broken b room n p → ⊥
+  pub none-broken : {room n p : ℕ} → usedNodes ed b ≤ room → Broken ed b room n p → ⊥
   none-broken h (Broken.over-limit x) = x (f .laid .small)
-  none-broken h (Broken.runs-past w x) = x (field-in b (f .laid) w)
+  none-broken h (Broken.runs-past w x) = x (field-in ed b (f .laid) w)
   none-broken h (Broken.version-wrong x) = x (f .laid .version)
   none-broken h (Broken.word-not-0 i l x) = x (f .laid .zero-words i l)
-  none-broken h (Broken.too-few w x) = x (least-kept b (f .laid) w)
-  none-broken h (Broken.too-many w x) = x (most-kept b (f .laid) w)
+  none-broken h (Broken.too-few w x) = x (least-kept ed b (f .laid) w)
+  none-broken h (Broken.too-many w x) = x (most-kept ed b (f .laid) w)
   none-broken h (Broken.footer-not-0 x) = x (f .laid .footer)
   none-broken h (Broken.bytes-after x) = x (omega (arith, f .laid .ends))
   none-broken h (Broken.unresolved e x) = x (good e .resolved)
@@ -100,5 +101,5 @@ module _ (b : List ℕ) (f : FileRules b) where
   none-broken h (Broken.text-wrong a x) = x (f .nodes .each _ _ (a .node) .text _ (a .attribute))
   none-broken h (Broken.children-wrong u x) = x (f .nodes .each _ _ u .children)
   none-broken h (Broken.room-short x) = x h
-  none-broken h (Broken.range-taken u x) = x (f .range _ (used-of b (f .laid .nodes) _ _ u))
+  none-broken h (Broken.range-taken u x) = x (f .range _ (used-of ed b (f .laid .nodes) _ _ u))
   none-broken h (Broken.too-deep e d) = f .depth (d .places, e, d .long, d .chain)

@@ -14,6 +14,7 @@ use Rattle.layout.specs.Table.{Table, table, listAt, TableLaid, BucketStarts}
 use Rattle.layout.specs.Layout.{values, names, valuesMost, namesMost}
 use Rattle.layout.specs.inner.View.{Fits}
 use Rattle.layout.specs.declared.View.{View}
+use Rattle.layout.specs.declared.Edition.{Edition}
 use Rattle.layout.proofs.Seen.{own-mapped}
 use Rattle.strings.specs.inner.Held.{Held, heldTable}
 use Rattle.strings.specs.Order.{stringChecks}
@@ -51,8 +52,8 @@ module _ (b : List ℕ) (at n most : ℕ) (s : Strings) (segments buckets : List
     list = l ∙ ap listAt (sym held-table);
   }
 
-module _ (b : List ℕ) (v : View) (f : Fits b v) where
-  pub values-table : heldTable b (valueStrings (v .places)) (v .«value_buckets») ≡ values b
+module _ (ed : Edition) (b : List ℕ) (v : View) (f : Fits ed b v) where
+  pub values-table : heldTable b (valueStrings (v .places)) (v .«value_buckets») ≡ values ed b
   unfolding values valueStrings
   values-table = held-table b _ _ 0 (valueStrings (v .places)) (v .«value_segments») (v .«value_buckets») (f .places .«value_chars») (f .«value_buckets»)
 
@@ -62,7 +63,7 @@ module _ (b : List ℕ) (v : View) (f : Fits b v) where
       held b _ _ valuesMost (valueStrings (v .places)) (v .«value_segments») (v .«value_buckets») (f .places .«value_chars») (f .«value_buckets»)
       (f .laid .small) (f .laid .values) (omega arith) (omega arith) (f .«value_segments») (f .places .«value_list»)
 
-  pub names-table : heldTable b (nameStrings (v .places)) (v .«name_buckets») ≡ names b
+  pub names-table : heldTable b (nameStrings (v .places)) (v .«name_buckets») ≡ names ed b
   unfolding names nameStrings
   names-table = held-table b _ _ 0 (nameStrings (v .places)) (v .«name_segments») (v .«name_buckets») (f .places .«name_chars») (f .«name_buckets»)
 
@@ -74,14 +75,14 @@ module _ (b : List ℕ) (v : View) (f : Fits b v) where
 
   -- what a check of the held tables answers
   pub values-told : {r w : Verdict} → r ≡ firstFault (stringChecks (heldTable b (valueStrings (v .places)) (v .«value_buckets»))) → r ≡ w
-      → firstFault (stringChecks (values b)) ≡ w
+      → firstFault (stringChecks (values ed b)) ≡ w
   values-told p q = sym (p ∙ ap (λ (t : Table). firstFault (stringChecks t)) values-table) ∙ q
 
-  pub values-packed : {r : Bool} → Sure (Packed (heldTable b (valueStrings (v .places)) (v .«value_buckets»))) r → Sure (Packed (values b)) r
+  pub values-packed : {r : Bool} → Sure (Packed (heldTable b (valueStrings (v .places)) (v .«value_buckets»))) r → Sure (Packed (values ed b)) r
   values-packed p z = subst (λ (t : Table). Packed t) values-table (p z)
 
   pub names-told : {r w : Verdict} → r ≡ firstFault (stringChecks (heldTable b (nameStrings (v .places)) (v .«name_buckets»))) → r ≡ w
-      → firstFault (stringChecks (names b)) ≡ w
+      → firstFault (stringChecks (names ed b)) ≡ w
   names-told p q = sym (p ∙ ap (λ (t : Table). firstFault (stringChecks t)) names-table) ∙ q
 
   -- the arrays have a place for each bucket
@@ -93,8 +94,8 @@ module _ (b : List ℕ) (v : View) (f : Fits b v) where
   unfolding names
   names-long = sym (f .«name_buckets» .long)
 
-  pub nodes-ready : (n : Names) → Known b n → firstFault (stringChecks (values b)) ≡ Accepted
-      → Ready b (v .places) n (v .«attribute_segments») (v .«node_segments») (v .«value_segments») (v .«value_buckets»)
+  pub nodes-ready : (n : Names) → Known ed b n → firstFault (stringChecks (values ed b)) ≡ Accepted
+      → Ready ed b (v .places) n (v .«attribute_segments») (v .«node_segments») (v .«value_segments») (v .«value_buckets»)
   nodes-ready n k e = record {
     laid = f .laid;
     placed = f .places;
@@ -106,9 +107,9 @@ module _ (b : List ℕ) (v : View) (f : Fits b v) where
     accepted = e;
   }
 
-  pub used-told : v .places .«used_nodes» ≡ usedNodes b
+  pub used-told : v .places .«used_nodes» ≡ usedNodes ed b
   unfolding usedNodes
   used-told = f .places .«used_nodes»
 
-  pub tree-ready : firstFault (allNodeChecks b) ≡ Accepted → TreeReady b (v .places .nodes) (v .«node_segments»)
+  pub tree-ready : firstFault (allNodeChecks ed b) ≡ Accepted → TreeReady ed b (v .places .nodes) (v .«node_segments»)
   tree-ready e = record { laid = f .laid; nodes = f .places .nodes; sampled = f .«node_segments»; accepted = e }

@@ -10,6 +10,7 @@ use Rattle.verdict.specs.declared.Verdict.the-variants.{Refused}
 use Rattle.verdict.proofs.Laws.{clean-inv}
 use Rattle.verdict.proofs.Broken.{append-refused}
 use Rattle.layout.specs.Layout.{layoutChecks, values, names}
+use Rattle.layout.specs.declared.Edition.{Edition}
 use Rattle.strings.specs.Order.{stringChecks}
 use Rattle.keys.specs.Order.{specialChecks, allKeyChecks}
 use Rattle.nodes.specs.Order.{allNodeChecks}
@@ -27,18 +28,18 @@ clears n (inr e) t = subst (λ (k : ℕ). T (not (clearing k))) e t
 behind : (xs ys : List Check) {n p : ℕ} → Calm xs → (n ≡ 21) ⊎ (n ≡ 22) → firstFault (xs ++ ys) ≡ Refused n p → firstFault ys ≡ Refused n p
 behind xs ys {n} a c e = ⊎-elim (λ f. absurd (clears n c (calm-number xs a f))) (λ w. w .1) (append-refused xs ys e)
 
-room-calm : (b : List ℕ) (room : ℕ) → Calm (roomChecks b room)
+room-calm : (ed : Edition) (b : List ℕ) (room : ℕ) → Calm (roomChecks ed b room)
 unfolding roomChecks
-room-calm b room = calm-more _ _ _ _ _ tt calm-none
+room-calm ed b room = calm-more _ _ _ _ _ tt calm-none
 
-pub late-room : (b : List ℕ) (room : ℕ) {n p : ℕ} → verdictOf b room ≡ Refused n p → (n ≡ 21) ⊎ (n ≡ 22) → usedNodes b ≤ room
+pub late-room : (ed : Edition) (b : List ℕ) (room : ℕ) {n p : ℕ} → verdictOf ed b room ≡ Refused n p → (n ≡ 21) ⊎ (n ≡ 22) → usedNodes ed b ≤ room
 unfolding verdictOf acceptChecks treeChecks roomChecks
-late-room b room {n} e c =
-    let v = behind (layoutChecks b) _ (calm-layout b) c e in
-    let m = behind (stringChecks (values b)) _ (calm-strings (values b)) c v in
-    let s = behind (stringChecks (names b)) _ (calm-strings (names b)) c m in
-    let k = behind (specialChecks b) _ (calm-special b) c s in
-    let d = behind (allKeyChecks b) _ (calm-keys b) c k in
-    let t = behind (allNodeChecks b) _ (calm-nodes b) c d in
-    ⊎-elim (λ f. absurd (clears n c (calm-number (roomChecks b room) (room-calm b room) f))) (λ w. clean-inv _ _ _ _ _ (w .0) .0)
-    (append-refused (roomChecks b room) _ t)
+late-room ed b room {n} e c =
+    let v = behind (layoutChecks ed b) _ (calm-layout ed b) c e in
+    let m = behind (stringChecks (values ed b)) _ (calm-strings (values ed b)) c v in
+    let s = behind (stringChecks (names ed b)) _ (calm-strings (names ed b)) c m in
+    let k = behind (specialChecks ed b) _ (calm-special ed b) c s in
+    let d = behind (allKeyChecks ed b) _ (calm-keys ed b) c k in
+    let t = behind (allNodeChecks ed b) _ (calm-nodes ed b) c d in
+    ⊎-elim (λ f. absurd (clears n c (calm-number (roomChecks ed b room) (room-calm ed b room) f))) (λ w. clean-inv _ _ _ _ _ (w .0) .0)
+    (append-refused (roomChecks ed b room) _ t)

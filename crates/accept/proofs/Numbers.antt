@@ -11,6 +11,7 @@ use Rattle.region.specs.Checks.{segmentChecks, regionChecks}
 use Rattle.layout.specs.Header.{zeroWordChecks, headerChecks, keyChecks}
 use Rattle.layout.specs.Table.{Table, bucketChecks, listChecks, tableChecks}
 use Rattle.layout.specs.Layout.{sizeChecks, footerChecks, frontChecks, layoutChecks}
+use Rattle.layout.specs.declared.Edition.{Edition}
 use Rattle.strings.specs.Order.{entryChecks, bucketEntryChecks, allEntryChecks, positionChecks, allPositionChecks, stringChecks}
 use Rattle.keys.specs.Order.{specialChecks, keyRuleChecks, allKeyChecks}
 use Rattle.nodes.specs.Order.{attributeChecks, nodeAttributeChecks, attributeRangeChecks, nodeChecks, segmentNodeChecks, allNodeChecks}
@@ -50,13 +51,13 @@ calm-number [] a e = absurd (never e refl)
 calm-number (check m q P (yes h) ∷ cs) a e = calm-number cs (a .1) e
 calm-number (check m q P (no h) ∷ cs) {n} a e = let z : m ≡ n = cc in subst (λ (x : ℕ). T (not (clearing x))) z (a .0)
 
-stays : (b ws : List ℕ) (n p : ℕ) (t : Bool) → clearing n ≡ t → T (not t) → workspaceAfter b ws (Refused n p) ≡ ws
+stays : (ed : Edition) (b ws : List ℕ) (n p : ℕ) (t : Bool) → clearing n ≡ t → T (not t) → workspaceAfter ed b ws (Refused n p) ≡ ws
 unfolding workspaceAfter
-stays b ws n p true e h = absurd h
-stays b ws n p false e h = rw e
+stays ed b ws n p true e h = absurd h
+stays ed b ws n p false e h = rw e
 
-pub calm-stays : (b ws : List ℕ) (cs : List Check) {n p : ℕ} → Calm cs → firstFault cs ≡ Refused n p → workspaceAfter b ws (Refused n p) ≡ ws
-calm-stays b ws cs {n} {p} a e = stays b ws n p (clearing n) refl (calm-number cs a e)
+pub calm-stays : (ed : Edition) (b ws : List ℕ) (cs : List Check) {n p : ℕ} → Calm cs → firstFault cs ≡ Refused n p → workspaceAfter ed b ws (Refused n p) ≡ ws
+calm-stays ed b ws cs {n} {p} a e = stays ed b ws n p (clearing n) refl (calm-number cs a e)
 
 -- ---- group by group
 
@@ -97,20 +98,20 @@ calm-key-list : (b : List ℕ) → Calm (keyChecks b)
 unfolding keyChecks
 calm-key-list b = calm-more _ _ _ _ _ tt (calm-more _ _ _ _ _ tt (calm-more _ _ _ _ _ tt (calm-more _ _ _ _ _ tt calm-none)))
 
-calm-front : (b : List ℕ) → Calm (frontChecks b)
+calm-front : (ed : Edition) (b : List ℕ) → Calm (frontChecks ed b)
 unfolding frontChecks
-calm-front b =
+calm-front ed b =
     calm-append _ _ (calm-size b)
     (calm-append _ _ (calm-header b) (calm-append _ _ (calm-key-list b) (calm-append _ _ (calm-region _ b _) (calm-region _ b _))))
 
-calm-footer : (b : List ℕ) → Calm (footerChecks b)
+calm-footer : (ed : Edition) (b : List ℕ) → Calm (footerChecks ed b)
 unfolding footerChecks
-calm-footer b = calm-more _ _ _ _ _ tt (calm-more _ _ _ _ _ tt (calm-more _ _ _ _ _ tt calm-none))
+calm-footer ed b = calm-more _ _ _ _ _ tt (calm-more _ _ _ _ _ tt (calm-more _ _ _ _ _ tt calm-none))
 
-pub calm-layout : (b : List ℕ) → Calm (layoutChecks b)
+pub calm-layout : (ed : Edition) (b : List ℕ) → Calm (layoutChecks ed b)
 unfolding layoutChecks
-calm-layout b =
-    calm-append _ _ (calm-front b) (calm-append _ _ (calm-table _ _) (calm-append _ _ (calm-table _ _) (calm-footer b)))
+calm-layout ed b =
+    calm-append _ _ (calm-front ed b) (calm-append _ _ (calm-table _ _) (calm-append _ _ (calm-table _ _) (calm-footer ed b)))
 
 calm-entry : (t : Table) (k j : ℕ) → Calm (entryChecks t k j)
 unfolding entryChecks
@@ -128,31 +129,31 @@ pub calm-strings : (t : Table) → Calm (stringChecks t)
 unfolding stringChecks allEntryChecks allPositionChecks
 calm-strings t = calm-append _ _ (calm-each _ _ _ (calm-entries t)) (calm-each _ _ _ (calm-position t))
 
-pub calm-special : (b : List ℕ) → Calm (specialChecks b)
+pub calm-special : (ed : Edition) (b : List ℕ) → Calm (specialChecks ed b)
 unfolding specialChecks
-calm-special b = calm-more _ _ _ _ _ tt calm-none
+calm-special ed b = calm-more _ _ _ _ _ tt calm-none
 
-calm-key : (b : List ℕ) (k : ℕ) → Calm (keyRuleChecks b k)
+calm-key : (ed : Edition) (b : List ℕ) (k : ℕ) → Calm (keyRuleChecks ed b k)
 unfolding keyRuleChecks
-calm-key b k = calm-more _ _ _ _ _ tt calm-none
+calm-key ed b k = calm-more _ _ _ _ _ tt calm-none
 
-pub calm-keys : (b : List ℕ) → Calm (allKeyChecks b)
+pub calm-keys : (ed : Edition) (b : List ℕ) → Calm (allKeyChecks ed b)
 unfolding allKeyChecks
-calm-keys b = calm-each _ _ _ (calm-key b)
+calm-keys ed b = calm-each _ _ _ (calm-key ed b)
 
-calm-attribute : (b : List ℕ) (p i : ℕ) → Calm (attributeChecks b p i)
+calm-attribute : (ed : Edition) (b : List ℕ) (p i : ℕ) → Calm (attributeChecks ed b p i)
 unfolding attributeChecks
-calm-attribute b p i = calm-more _ _ _ _ _ tt (calm-more _ _ _ _ _ tt calm-none)
+calm-attribute ed b p i = calm-more _ _ _ _ _ tt (calm-more _ _ _ _ _ tt calm-none)
 
-calm-node : (b : List ℕ) (seg el : ℕ) → Calm (nodeChecks b seg el)
+calm-node : (ed : Edition) (b : List ℕ) (seg el : ℕ) → Calm (nodeChecks ed b seg el)
 unfolding nodeChecks attributeRangeChecks nodeAttributeChecks
-calm-node b seg el =
-    calm-more _ _ _ _ _ tt (calm-more _ _ _ _ _ tt (calm-append _ _ (calm-each _ _ _ (calm-attribute b (nodeAt b seg el))) (calm-more _ _ _ _ _ tt calm-none)))
+calm-node ed b seg el =
+    calm-more _ _ _ _ _ tt (calm-more _ _ _ _ _ tt (calm-append _ _ (calm-each _ _ _ (calm-attribute ed b (nodeAt ed b seg el))) (calm-more _ _ _ _ _ tt calm-none)))
 
-calm-segment-nodes : (b : List ℕ) (seg : ℕ) → Calm (segmentNodeChecks b seg)
+calm-segment-nodes : (ed : Edition) (b : List ℕ) (seg : ℕ) → Calm (segmentNodeChecks ed b seg)
 unfolding segmentNodeChecks
-calm-segment-nodes b seg = calm-each _ _ _ (calm-node b seg)
+calm-segment-nodes ed b seg = calm-each _ _ _ (calm-node ed b seg)
 
-pub calm-nodes : (b : List ℕ) → Calm (allNodeChecks b)
+pub calm-nodes : (ed : Edition) (b : List ℕ) → Calm (allNodeChecks ed b)
 unfolding allNodeChecks
-calm-nodes b = calm-more _ _ _ _ _ tt (calm-each _ _ _ (calm-segment-nodes b))
+calm-nodes ed b = calm-more _ _ _ _ _ tt (calm-each _ _ _ (calm-segment-nodes ed b))

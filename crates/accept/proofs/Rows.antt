@@ -14,7 +14,9 @@ use Rattle.region.specs.Region.{countOf, usedOf}
 use Rattle.region.specs.Checks.{segmentChecks, regionChecks}
 use Rattle.layout.specs.Header.{keyCount, zeroWordChecks, headerChecks, keyChecks}
 use Rattle.layout.specs.Table.{Table, table, entries, count, bucketChecks, listChecks, tableChecks}
-use Rattle.layout.specs.Layout.{nodeSize, nodesAt, values, names, sizeChecks, footerChecks, frontChecks, layoutChecks}
+use Rattle.layout.specs.Edition.{nodeSize}
+use Rattle.layout.specs.Layout.{nodesAt, values, names, sizeChecks, footerChecks, frontChecks, layoutChecks}
+use Rattle.layout.specs.declared.Edition.{Edition}
 use Rattle.strings.specs.Rules.{Duplicate}
 use Rattle.strings.specs.Texts.{textOf}
 use Rattle.strings.specs.Order.{entryChecks, bucketEntryChecks, allEntryChecks, positionChecks, allPositionChecks, stringChecks}
@@ -35,10 +37,10 @@ use Rattle.accept.specs.Refusals.{RegionOf, TableOf, Field, Limited, Ent
 some-duplicate : (t : Table) (k j : ℕ) → ((Duplicate t k j → ⊥) → ⊥) → Duplicate t k j
 some-duplicate t k j f = by-cases (someBelow? j (λ i. texts? (textOf t k i) (textOf t k j))) (λ w. w) (λ w. absurd (f w))
 
-module _ (b : List ℕ) (room : ℕ) where
+module _ (ed : Edition) (b : List ℕ) (room : ℕ) where
   -- a check whose rule is broken is a row of the table
   abbrev Row : ℕ → ℕ → Type 0 → Type 0
-  Row n p P = (P → ⊥) → Broken b room n p
+  Row n p P = (P → ⊥) → Broken ed b room n p
 
   abbrev Rows : List Check → Type 0
   Rows cs = AllOf Row cs
@@ -54,7 +56,7 @@ module _ (b : List ℕ) (room : ℕ) where
 
   -- ---- 1 to 6 along the file
 
-  module _ {size r : ℕ} (g : RegionOf b size r) where
+  module _ {size r : ℕ} (g : RegionOf ed b size r) where
     of-segment : (s : ℕ) → s < countOf b r → Rows (segmentChecks size b r s)
     unfolding segmentChecks
     of-segment s l =
@@ -71,7 +73,7 @@ module _ (b : List ℕ) (room : ℕ) where
         (more _ _ _ _ _ (Broken.too-many (Limited.of-segments g))
         (all-each Row (segmentChecks size b r) (countOf b r) 0 (λ s l h. of-segment s (omega arith))))
 
-  module _ (at n most : ℕ) (g : RegionOf b 2 at) (o : TableOf b (table b at n) most) where
+  module _ (at n most : ℕ) (g : RegionOf ed b 2 at) (o : TableOf ed b (table b at n) most) where
     of-bucket : (k : ℕ) → k < n → Rows (bucketChecks (table b at n) k)
     unfolding bucketChecks
     of-bucket k l = more _ _ _ _ _ (Broken.runs-past (Field.entry-count o k l)) (more _ _ _ _ _ (Broken.runs-past (Field.bucket-entries o k l)) none)
@@ -94,7 +96,7 @@ module _ (b : List ℕ) (room : ℕ) where
     of-entry : (k j : ℕ) → k < n → j < entries (table b at n) k → Rows (entryChecks (table b at n) k j)
     unfolding entryChecks
     of-entry k j l h =
-        let e : EntryOf b (table b at n) k j = record { most = most; of = o; bucket = l; entry = h } in
+        let e : EntryOf ed b (table b at n) k j = record { most = most; of = o; bucket = l; entry = h } in
         more _ _ _ _ _ (Broken.unresolved e)
         (more _ _ _ _ _ (Broken.length-wrong e)
         (more _ _ _ _ _ (Broken.hash-wrong e)
@@ -137,96 +139,96 @@ module _ (b : List ℕ) (room : ℕ) where
       (more _ _ _ _ _ (Broken.too-few Limited.of-keys)
       (more _ _ _ _ _ (Broken.too-many Limited.of-keys) (more _ _ _ _ _ (Broken.runs-past Field.all-keys) none)))
 
-  of-front : Rows (frontChecks b)
+  of-front : Rows (frontChecks ed b)
   unfolding frontChecks
   of-front = then _ _ of-size (then _ _ of-header (then _ _ of-keys (then _ _ (of-region RegionOf.attributes) (of-region RegionOf.nodes))))
 
-  of-footer : Rows (footerChecks b)
+  of-footer : Rows (footerChecks ed b)
   unfolding footerChecks
   of-footer = more _ _ _ _ _ (Broken.runs-past Field.footer) (more _ _ _ _ _ Broken.footer-not-0 (more _ _ _ _ _ Broken.bytes-after none))
 
-  of-layout : Rows (layoutChecks b)
+  of-layout : Rows (layoutChecks ed b)
   unfolding layoutChecks values names
   of-layout =
       then _ _ of-front
       (then _ _ (of-table _ _ _ RegionOf.value-characters TableOf.of-values)
       (then _ _ (of-table _ _ _ RegionOf.name-characters TableOf.of-names) of-footer))
 
-  of-values : Rows (stringChecks (values b))
+  of-values : Rows (stringChecks (values ed b))
   unfolding values
   of-values = of-strings _ _ _ RegionOf.value-characters TableOf.of-values
 
-  of-names : Rows (stringChecks (names b))
+  of-names : Rows (stringChecks (names ed b))
   unfolding names
   of-names = of-strings _ _ _ RegionOf.name-characters TableOf.of-names
 
   -- ---- 14, 15
 
-  of-special : Rows (specialChecks b)
+  of-special : Rows (specialChecks ed b)
   unfolding specialChecks
   of-special = more _ _ _ _ _ Broken.not-special none
 
-  of-all-keys : Rows (allKeyChecks b)
+  of-all-keys : Rows (allKeyChecks ed b)
   unfolding allKeyChecks keyRuleChecks
-  of-all-keys = all-each Row (keyRuleChecks b) (keyCount b) 0 (λ k l h. more _ _ _ _ _ (Broken.key-wrong k (omega arith)) none)
+  of-all-keys = all-each Row (keyRuleChecks ed b) (keyCount b) 0 (λ k l h. more _ _ _ _ _ (Broken.key-wrong k (omega arith)) none)
 
   -- ---- 16 to 19 and 23
 
-  of-attribute : (seg el i : ℕ) → AttributeOf b seg el i → Rows (attributeChecks b (nodeAt b seg el) i)
+  of-attribute : (seg el i : ℕ) → AttributeOf ed b seg el i → Rows (attributeChecks ed b (nodeAt ed b seg el) i)
   unfolding attributeChecks
   of-attribute seg el i a = more _ _ _ _ _ (Broken.attribute-wrong a) (more _ _ _ _ _ (Broken.text-wrong a) none)
 
-  of-node : (seg el : ℕ) → UsedNode b seg el → Rows (nodeChecks b seg el)
+  of-node : (seg el : ℕ) → UsedNode ed b seg el → Rows (nodeChecks ed b seg el)
   unfolding nodeChecks attributeRangeChecks nodeAttributeChecks
   of-node seg el u =
       more _ _ _ _ _ (Broken.node-wrong u)
       (more _ _ _ _ _ (Broken.attributes-out u)
       (then _ _
-      (all-each Row (attributeChecks b (nodeAt b seg el)) (attributeCount b (nodeAt b seg el)) 0
+      (all-each Row (attributeChecks ed b (nodeAt ed b seg el)) (attributeCount b (nodeAt ed b seg el)) 0
       (λ i l h. of-attribute seg el i (record { node = u; attribute = omega arith })))
       (more _ _ _ _ _ (Broken.children-wrong u) none)))
 
   -- every used node in file order
-  of-used : (f : ℕ → ℕ → List Check) → ((seg el : ℕ) → UsedNode b seg el → Rows (f seg el))
-      → Rows (each (λ seg. each (f seg) (usedOf nodeSize b (nodesAt b) seg) 0) (countOf b (nodesAt b)) 0)
+  of-used : (f : ℕ → ℕ → List Check) → ((seg el : ℕ) → UsedNode ed b seg el → Rows (f seg el))
+      → Rows (each (λ seg. each (f seg) (usedOf (nodeSize ed) b (nodesAt ed b) seg) 0) (countOf b (nodesAt ed b)) 0)
   of-used f g =
-      all-each Row (λ seg. each (f seg) (usedOf nodeSize b (nodesAt b) seg) 0) (countOf b (nodesAt b)) 0
-      (λ seg l h. all-each Row (f seg) (usedOf nodeSize b (nodesAt b) seg) 0 (λ el m e. g seg el (record { seg-in = omega arith; el-in = omega arith })))
+      all-each Row (λ seg. each (f seg) (usedOf (nodeSize ed) b (nodesAt ed b) seg) 0) (countOf b (nodesAt ed b)) 0
+      (λ seg l h. all-each Row (f seg) (usedOf (nodeSize ed) b (nodesAt ed b) seg) 0 (λ el m e. g seg el (record { seg-in = omega arith; el-in = omega arith })))
 
-  of-nodes : Rows (allNodeChecks b)
+  of-nodes : Rows (allNodeChecks ed b)
   unfolding allNodeChecks segmentNodeChecks
-  of-nodes = more _ _ _ _ _ Broken.no-root (of-used (nodeChecks b) of-node)
+  of-nodes = more _ _ _ _ _ Broken.no-root (of-used (nodeChecks ed b) of-node)
 
   -- ---- 20 to 22
 
-  of-range : (seg el : ℕ) → UsedNode b seg el → Rows (rangeChecks b seg el)
+  of-range : (seg el : ℕ) → UsedNode ed b seg el → Rows (rangeChecks ed b seg el)
   unfolding rangeChecks
   of-range seg el u = more _ _ _ _ _ (Broken.range-taken u) none
 
-  deepest : (DepthRule b → ⊥) → Broken b room 22 (nodeOf b (firstOr 0 (ends (treeOf b) 64 0)))
+  deepest : (DepthRule ed b → ⊥) → Broken ed b room 22 (nodeOf ed b (firstOr 0 (ends (treeOf ed b) 64 0)))
   unfolding depthChecks
   deepest f =
-      let w = depth-first b (stop 22 (nodeOf b (firstOr 0 (ends (treeOf b) 64 0))) (DepthRule b) (depthRule? b) [] f) in
-      subst (Broken b room 22) (sym (w .1 .1)) (Broken.too-deep (w .1 .0) (w .1 .2))
+      let w = depth-first ed b (stop 22 (nodeOf ed b (firstOr 0 (ends (treeOf ed b) 64 0))) (DepthRule ed b) (depthRule? ed b) [] f) in
+      subst (Broken ed b room 22) (sym (w .1 .1)) (Broken.too-deep (w .1 .0) (w .1 .2))
 
-  of-tree : Rows (treeChecks b room)
+  of-tree : Rows (treeChecks ed b room)
   unfolding treeChecks roomChecks allRangeChecks segmentRangeChecks depthChecks
-  of-tree = then _ _ (more _ _ _ _ _ Broken.room-short none) (then _ _ (of-used (rangeChecks b) of-range) (more _ _ _ _ _ deepest none))
+  of-tree = then _ _ (more _ _ _ _ _ Broken.room-short none) (then _ _ (of-used (rangeChecks ed b) of-range) (more _ _ _ _ _ deepest none))
 
   -- ---- all of them
 
-  of-all : Rows (acceptChecks b room)
+  of-all : Rows (acceptChecks ed b room)
   unfolding acceptChecks
   of-all =
       then _ _ of-layout
       (then _ _ of-values (then _ _ of-names (then _ _ of-special (then _ _ of-all-keys (then _ _ of-nodes of-tree)))))
 
-  pub refused-row : {n p : ℕ} → verdictOf b room ≡ Refused n p → Broken b room n p
+  pub refused-row : {n p : ℕ} → verdictOf ed b room ≡ Refused n p → Broken ed b room n p
   unfolding verdictOf
-  refused-row e = all-broken (Broken b room) (acceptChecks b room) of-all e
+  refused-row e = all-broken (Broken ed b room) (acceptChecks ed b room) of-all e
 
 -- the numbers of acceptance are 1 to 23
-pub row-number : {b : List ℕ} {room n p : ℕ} → Broken b room n p → (1 ≤ n) × (n ≤ 23)
+pub row-number : {ed : Edition} {b : List ℕ} {room n p : ℕ} → Broken ed b room n p → (1 ≤ n) × (n ≤ 23)
 row-number (Broken.over-limit x) = (omega arith, omega arith)
 row-number (Broken.runs-past x y) = (omega arith, omega arith)
 row-number (Broken.version-wrong x) = (omega arith, omega arith)

@@ -2,6 +2,7 @@
 ghost use mathlib.Core.Path.{_≡_};
 ghost use lib.ListN.{length};
 ghost use Rattle.layout.specs.inner.View.{Fits};
+ghost use Rattle.layout.specs.declared.Edition.the-variants.{Bits64};
 ghost use Rattle.tree.specs.Outcome.{workspaceAfter};
 ghost use Rattle.accept.specs.Verdict.{verdictOf};
 ghost use Rattle.accept.specs.inner.Accepted.{Judged};
@@ -17,9 +18,9 @@ pub struct Acceptance {
 
 // Refusals 7 to 23 of a file that is laid out, with what they leave in the workspace.
 fn check_contents(b: &[u8], v: View, ws: &mut [u8]) -> Verdict
-    requires { ⌜ Fits (now b) v ⌝ }
-    ensures answer { λ r. ⌜ r ≡ verdictOf (now (b .entry)) (length (now (ws .entry))) ⌝ }
-    ensures workspace { λ _. ⌜ now (ws .exit) ≡ workspaceAfter (now (b .entry)) (now (ws .entry)) (verdictOf (now (b .entry)) (length (now (ws .entry)))) ⌝ }
+    requires { ⌜ Fits Bits64 (now b) v ⌝ }
+    ensures answer { λ r. ⌜ r ≡ verdictOf Bits64 (now (b .entry)) (length (now (ws .entry))) ⌝ }
+    ensures workspace { λ _. ⌜ now (ws .exit) ≡ workspaceAfter Bits64 (now (b .entry)) (now (ws .entry)) (verdictOf Bits64 (now (b .entry)) (length (now (ws .entry)))) ⌝ }
 {
     let t = hash::tables();
     let p = v.places;
@@ -80,8 +81,8 @@ fn check_contents(b: &[u8], v: View, ws: &mut [u8]) -> Verdict
 
 // Accepts a file, or refuses it.
 pub fn accept(b: &[u8], ws: &mut [u8]) -> Acceptance
-    ensures answer { λ r. ⌜ Judged (now (b .entry)) (now (ws .entry)) r ⌝ }
-    ensures workspace { λ _. ⌜ now (ws .exit) ≡ workspaceAfter (now (b .entry)) (now (ws .entry)) (verdictOf (now (b .entry)) (length (now (ws .entry)))) ⌝ }
+    ensures answer { λ r. ⌜ Judged Bits64 (now (b .entry)) (now (ws .entry)) r ⌝ }
+    ensures workspace { λ _. ⌜ now (ws .exit) ≡ workspaceAfter Bits64 (now (b .entry)) (now (ws .entry)) (verdictOf Bits64 (now (b .entry)) (length (now (ws .entry)))) ⌝ }
 {
     let c = layout::whole::check_layout(b);
     let laid = c.answer;

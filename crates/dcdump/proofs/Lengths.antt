@@ -12,6 +12,7 @@ use Rattle.verdict.specs.Checks.{firstFault}
 use Rattle.verdict.specs.declared.Verdict.{Verdict}
 use Rattle.verdict.specs.declared.Verdict.the-variants.{Accepted, Refused}
 use Rattle.verdict.proofs.Laws.{clean-inv}
+use Rattle.layout.specs.declared.Edition.the-variants.{Bits64}
 use Rattle.print.specs.Text.{decimalIn, decimal}
 use Rattle.accept.specs.Verdict.{verdictOf}
 use Rattle.outline.specs.Outline.{outlineOf}
@@ -74,23 +75,23 @@ accepted-long l h = simp length-append (omega (arith, file-decimal l h))
 -- ---- the whole
 
 -- no 26: the outline fits
-pub outline-fits : (b : List ℕ) (room : ℕ) → firstFault (outlineChecks b room) ≡ Accepted → length (outlineOf b) ≤ room
+pub outline-fits : (b : List ℕ) (room : ℕ) → firstFault (outlineChecks Bits64 b room) ≡ Accepted → length (outlineOf Bits64 b) ≤ room
 unfolding outlineChecks
-outline-fits b room e = clean-inv 26 (length (outlineOf b)) (length (outlineOf b) ≤ room) _ [] e .0
+outline-fits b room e = clean-inv 26 (length (outlineOf Bits64 b)) (length (outlineOf Bits64 b) ≤ room) _ [] e .0
 
-shown-long : (b : List ℕ) (v : Verdict) → length b ≤ 32768 → (v ≡ Accepted → length (outlineOf b) ≤ 65536) → length (reportAccepted b v) ≤ 65551
+shown-long : (b : List ℕ) (v : Verdict) → length b ≤ 32768 → (v ≡ Accepted → length (outlineOf Bits64 b) ≤ 65536) → length (reportAccepted b v) ≤ 65551
 unfolding reportAccepted
-shown-long b Accepted h f = omega (arith, length-append (acceptedLine (length b)) (outlineOf b), accepted-long (length b) h, f refl)
+shown-long b Accepted h f = omega (arith, length-append (acceptedLine (length b)) (outlineOf Bits64 b), accepted-long (length b) h, f refl)
 shown-long b (Refused r p) h f = refused-long r p
 
 judged-long : (b : List ℕ) (v : Verdict) → length b ≤ 32768 → length (reportFile b v) ≤ 65551
 unfolding reportFile
-judged-long b Accepted h = shown-long b (firstFault (outlineChecks b 65536)) h (outline-fits b 65536)
+judged-long b Accepted h = shown-long b (firstFault (outlineChecks Bits64 b 65536)) h (outline-fits b 65536)
 judged-long b (Refused r p) h = refused-long r p
 
 framed-long : (b : List ℕ) (f : Frames) → length b ≤ 32768 → length (reportFrames b f) ≤ 65551
 unfolding reportFrames
-framed-long b (Bytes n) h = judged-long b (verdictOf b 2048) h
+framed-long b (Bytes n) h = judged-long b (verdictOf Bits64 b 2048) h
 framed-long b (Bad n) h = bad-long n
 
 pub output-long : (input : List ℕ) → length (outputOf input) ≤ 65551

@@ -10,6 +10,7 @@ use Rattle.laws.specs.inner.Lists.{splice}
 use Rattle.verdict.specs.Checks.{firstFault}
 use Rattle.verdict.specs.declared.Verdict.{Verdict}
 use Rattle.verdict.specs.declared.Verdict.the-variants.{Accepted}
+use Rattle.layout.specs.declared.Edition.the-variants.{Bits64}
 use Rattle.print.specs.inner.Put.{Put}
 use Rattle.print.proofs.Puts.{put-same, put-length, put-front}
 use Rattle.accept.specs.Verdict.{verdictOf}
@@ -33,22 +34,22 @@ reported f verdict e s g = sym (ap f (ap verdict s ∙ sym e ∙ g))
 -- ---- an accepted file
 
 -- the text that was written, at its length
-outline-text : (b text text′ : List ℕ) (n : ℕ) (v : Verdict) → text′ ≡ outlineAfter b text v → v ≡ Accepted → n ≡ length (outlineOf b) → take n text′ ≡ outlineOf b
+outline-text : (b text text′ : List ℕ) (n : ℕ) (v : Verdict) → text′ ≡ outlineAfter Bits64 b text v → v ≡ Accepted → n ≡ length (outlineOf Bits64 b) → take n text′ ≡ outlineOf Bits64 b
 unfolding outlineAfter
 outline-text b text text′ n v e f l =
-    ap (take n) (e ∙ ap (outlineAfter b text) f) ∙ take-at (outlineOf b) (drop (length (outlineOf b)) text) n (sym l)
+    ap (take n) (e ∙ ap (outlineAfter Bits64 b text) f) ∙ take-at (outlineOf Bits64 b) (drop (length (outlineOf Bits64 b)) text) n (sym l)
 
-module _ (b : List ℕ) (room : ℕ) {v : Verdict} (e : v ≡ firstFault (outlineChecks b room)) (s : 65536 ≡ room) (f : v ≡ Accepted) (n : ℕ)
-    (l : n ≡ length (outlineOf b)) where
+module _ (b : List ℕ) (room : ℕ) {v : Verdict} (e : v ≡ firstFault (outlineChecks Bits64 b room)) (s : 65536 ≡ room) (f : v ≡ Accepted) (n : ℕ)
+    (l : n ≡ length (outlineOf Bits64 b)) where
   pub shown-fits : (text : List ℕ) → length text ≡ room → n ≤ length text
   shown-fits text h = omega (arith, outline-fits b room (sym e ∙ f))
 
-  pub shown-accepted : (text text′ : List ℕ) → text′ ≡ outlineAfter b text v
-      → acceptedLine (length b) ++ take n text′ ≡ reportAccepted b (firstFault (outlineChecks b 65536))
+  pub shown-accepted : (text text′ : List ℕ) → text′ ≡ outlineAfter Bits64 b text v
+      → acceptedLine (length b) ++ take n text′ ≡ reportAccepted b (firstFault (outlineChecks Bits64 b 65536))
   unfolding reportAccepted
   shown-accepted text text′ g =
       ap (λ (t : List ℕ). acceptedLine (length b) ++ t) (outline-text b text text′ n v g f l)
-      ∙ reported (reportAccepted b) (λ (r : ℕ). firstFault (outlineChecks b r)) e s f
+      ∙ reported (reportAccepted b) (λ (r : ℕ). firstFault (outlineChecks Bits64 b r)) e s f
 
 -- ---- an input
 
@@ -68,10 +69,10 @@ module _ (input : List ℕ) (n : ℕ) {f : Frames} (e : f ≡ framesOf input) (g
   unfolding splice
   file-text d d′ h = ap (take n) h ∙ take-at (fileOf input) _ n (sym (file-count input (sym e ∙ g)))
 
-  pub framed-file : (d d′ : List ℕ) → d′ ≡ splice d 0 (fileOf input) → reportFile (take n d′) (verdictOf (take n d′) 2048) ≡ outputOf input
+  pub framed-file : (d d′ : List ℕ) → d′ ≡ splice d 0 (fileOf input) → reportFile (take n d′) (verdictOf Bits64 (take n d′) 2048) ≡ outputOf input
   unfolding outputOf reportFrames
   framed-file d d′ h =
-      ap (λ (b : List ℕ). reportFile b (verdictOf b 2048)) (file-text d d′ h) ∙ sym (ap (reportFrames (fileOf input)) (sym e ∙ g))
+      ap (λ (b : List ℕ). reportFile b (verdictOf Bits64 b 2048)) (file-text d d′ h) ∙ sym (ap (reportFrames (fileOf input)) (sym e ∙ g))
 
 pub framed-bad : (input : List ℕ) {f : Frames} {n : ℕ} → f ≡ framesOf input → f ≡ Bad n → badLine n ≡ outputOf input
 unfolding outputOf reportFrames

@@ -6,6 +6,7 @@ ghost use lib.ListN.{length, take, drop};
 ghost use Rattle.verdict.specs.Checks.{firstFault};
 ghost use Rattle.print.specs.inner.Put.{Put};
 ghost use Rattle.layout.specs.inner.View.{Fits};
+ghost use Rattle.layout.specs.declared.Edition.the-variants.{Bits64};
 ghost use Rattle.accept.specs.Rules.{FileRules};
 ghost use Rattle.accept.specs.Verdict.{verdictOf};
 ghost use Rattle.outline.specs.Outlined.{outlineChecks};
@@ -28,9 +29,9 @@ fn put_outline(out: &mut [u8], l: usize, text: &[u8], n: usize) -> usize
 
 // An accepted file: its length and its outline, or 26.
 fn show(b: &[u8], v: View, out: &mut [u8]) -> usize
-    requires { ⌜ FileRules (now b) ⌝ }
-    requires { ⌜ Fits (now b) v ⌝ }
-    ensures { λ r. ⌜ Put (now (out .entry)) 0 (reportAccepted (now (b .entry)) (firstFault (outlineChecks (now (b .entry)) 65536))) r (now (out .exit)) ⌝ }
+    requires { ⌜ FileRules Bits64 (now b) ⌝ }
+    requires { ⌜ Fits Bits64 (now b) v ⌝ }
+    ensures { λ r. ⌜ Put (now (out .entry)) 0 (reportAccepted (now (b .entry)) (firstFault (outlineChecks Bits64 (now (b .entry)) 65536))) r (now (out .exit)) ⌝ }
 {
     let p = v.places;
     let attribute_segments = v.attribute_segments;
@@ -56,7 +57,7 @@ fn show(b: &[u8], v: View, out: &mut [u8]) -> usize
 
 // A file: its refusal, or what there is to show.
 fn judge(b: &[u8], out: &mut [u8]) -> usize
-    ensures { λ r. ⌜ Put (now (out .entry)) 0 (reportFile (now (b .entry)) (verdictOf (now (b .entry)) 2048)) r (now (out .exit)) ⌝ }
+    ensures { λ r. ⌜ Put (now (out .entry)) 0 (reportFile (now (b .entry)) (verdictOf Bits64 (now (b .entry)) 2048)) r (now (out .exit)) ⌝ }
 {
     let mut ws = buffers::workspace();
     let r = accept::accept(b, &mut ws);

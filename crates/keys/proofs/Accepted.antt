@@ -8,16 +8,17 @@ use Rattle.verdict.specs.Checks.{firstFault}
 use Rattle.verdict.specs.declared.Verdict.the-variants.{Accepted}
 use Rattle.verdict.proofs.Laws.{pass, clean-inv, fault-none, each-inv, each-clean}
 use Rattle.layout.specs.Header.{keyCount}
+use Rattle.layout.specs.declared.Edition.{Edition}
 use Rattle.keys.specs.Names.{Special}
 use Rattle.keys.specs.Keys.{KeyRule}
 use Rattle.keys.specs.Order.{specialChecks, keyRuleChecks, allKeyChecks}
 
-module _ (b : List ℕ) where
-  pub special-iff : firstFault (specialChecks b) ≡ Accepted ↔ Special b
+module _ (ed : Edition) (b : List ℕ) where
+  pub special-iff : firstFault (specialChecks ed b) ≡ Accepted ↔ Special ed b
   unfolding specialChecks
   special-iff = (λ e. clean-inv _ _ _ _ _ e .0, λ r. pass _ _ _ _ _ r ∙ fault-none)
 
-  pub keys-iff : firstFault (allKeyChecks b) ≡ Accepted ↔ ((k : ℕ) → k < keyCount b → KeyRule b k)
+  pub keys-iff : firstFault (allKeyChecks ed b) ≡ Accepted ↔ ((k : ℕ) → k < keyCount b → KeyRule ed b k)
   unfolding allKeyChecks keyRuleChecks
   keys-iff = (
     λ e k h. clean-inv _ _ _ _ _ (each-inv _ _ _ e k (omega arith) (omega arith)) .0,

@@ -8,35 +8,36 @@ use mathlib.Core.List.{List}
 use Rattle.le.proofs.Agree.{Agree, u16-same}
 use Rattle.layout.specs.Header.{keyCount}
 use Rattle.layout.specs.Layout.{namesAt, names}
+use Rattle.layout.specs.declared.Edition.{Edition}
 use Rattle.layout.proofs.Laws.{key-in}
 use Rattle.layout.proofs.Agree.{Inside, alike-file, front, names-behind}
 use Rattle.strings.proofs.Agree.{listed-same}
 use Rattle.keys.specs.Names.{nameCount, nameText, Bears, Special}
 use Rattle.keys.specs.Keys.{keyName, KeyRule}
 
-module _ {b c : List ℕ} {x : ℕ} (a : Agree b c x) (h : Inside b x) where
-  pub name-count-same : nameCount c ≡ nameCount b
+module _ {ed : Edition} {b c : List ℕ} {x : ℕ} (a : Agree b c x) (h : Inside ed b x) where
+  pub name-count-same : nameCount ed c ≡ nameCount ed b
   unfolding nameCount names
   name-count-same = rw (alike-file a h .names-at, alike-file a h .names .count)
 
-  name-text-same : (i : ℕ) → nameText c i ≡ nameText b i
+  name-text-same : (i : ℕ) → nameText ed c i ≡ nameText ed b i
   unfolding nameText names
-  name-text-same i = rw (alike-file a h .names-at) (listed-same a (namesAt b) 512 (names-behind a h) i)
+  name-text-same i = rw (alike-file a h .names-at) (listed-same a (namesAt ed b) 512 (names-behind a h) i)
 
-  pub bears-same : {i : ℕ} {t : List ℕ} → Bears b i t → Bears c i t
+  pub bears-same : {i : ℕ} {t : List ℕ} → Bears ed b i t → Bears ed c i t
   bears-same {i} g = record { low = g .low; high = rw name-count-same (g .high); text = name-text-same i ∙ g .text }
 
-  pub bears-back : {i : ℕ} {t : List ℕ} → Bears c i t → Bears b i t
+  pub bears-back : {i : ℕ} {t : List ℕ} → Bears ed c i t → Bears ed b i t
   bears-back {i} g = record { low = g .low; high = rw name-count-same at (g .high); text = sym (name-text-same i) ∙ g .text }
 
-  pub special-same : Special b → Special c
+  pub special-same : Special ed b → Special ed c
   special-same g = record { two = rw name-count-same (g .two); highest = simp (name-count-same, name-text-same) (g .highest) }
 
   key-name-same : (k f : ℕ) → k < keyCount b → f < 4 → keyName c k f ≡ keyName b k f
   unfolding keyName
   key-name-same k f l m = u16-same a _ (inl (omega (arith, key-in b k l, front a h)))
 
-  pub key-same : (k : ℕ) → k < keyCount b → KeyRule b k → KeyRule c k
+  pub key-same : (k : ℕ) → k < keyCount b → KeyRule ed b k → KeyRule ed c k
   key-same k l g f m =
       let e = key-name-same k f l m in
       record {

@@ -16,6 +16,7 @@ use Rattle.text.specs.Text.{textIn, chars}
 use Rattle.layout.specs.Header.{keysAt, keyCount, keyAt}
 use Rattle.layout.specs.Table.{Table, listAt, count, listedSegment, listedElement}
 use Rattle.layout.specs.Layout.{names}
+use Rattle.layout.specs.declared.Edition.{Edition}
 use Rattle.strings.specs.Texts.{listedText}
 use Rattle.strings.specs.Order.{stringChecks}
 use Rattle.strings.proofs.Spots.{Spotted}
@@ -54,23 +55,23 @@ unfolding rootName valueName
 root-not-value e = let z : _≡_ {A = ℕ} 0x72 0x76 = cc in omega arith
 
 -- the table that the code holds is that of the names
-module _ (b : List ℕ) (t : Table) (same : t ≡ names b) where
-  pub name-count : (n : ℕ) → n ≡ count t → n - 1 ≡ nameCount b
+module _ (ed : Edition) (b : List ℕ) (t : Table) (same : t ≡ names ed b) where
+  pub name-count : (n : ℕ) → n ≡ count t → n - 1 ≡ nameCount ed b
   unfolding nameCount
   name-count n e = ap (λ (x : ℕ). x - 1) (e ∙ ap count same)
 
-  pub named : (i : ℕ) (x y : List ℕ) {r : Bool} → x ≡ y → Tells (listedText t i ≡ x) r → Tells (nameText b i ≡ y) r
+  pub named : (i : ℕ) (x y : List ℕ) {r : Bool} → x ≡ y → Tells (listedText t i ≡ x) r → Tells (nameText ed b i ≡ y) r
   unfolding nameText
-  named i x y {r} e f = subst (λ (w : List ℕ). Tells (listedText (names b) i ≡ w) r) e (subst (λ (u : Table). Tells (listedText u i ≡ x) r) same f)
+  named i x y {r} e f = subst (λ (w : List ℕ). Tells (listedText (names ed b) i ≡ w) r) e (subst (λ (u : Table). Tells (listedText u i ≡ x) r) same f)
 
-  only-name : Clean (stringChecks t) → (i j : ℕ) (x : List ℕ) → Bears b i x → Bears b j x → i ≡ j
+  only-name : Clean (stringChecks t) → (i j : ℕ) (x : List ℕ) → Bears ed b i x → Bears ed b j x → i ≡ j
   unfolding nameCount nameText
   only-name ok i j x g h =
-      one-position (names b) (subst (λ (u : Table). Clean (stringChecks u)) same ok) i j (g .low) (omega (arith, g .low, g .high)) (h .low)
+      one-position (names ed b) (subst (λ (u : Table). Clean (stringChecks u)) same ok) i j (g .low) (omega (arith, g .low, g .high)) (h .low)
       (omega (arith, h .low, h .high)) (g .text ∙ sym (h .text))
 
-  known : Clean (stringChecks t) → (m i j : ℕ) → m ≡ nameCount b → Bears b i rootName → Bears b j valueName
-      → Known b (record { count = m; root = i; value = j })
+  known : Clean (stringChecks t) → (m i j : ℕ) → m ≡ nameCount ed b → Bears ed b i rootName → Bears ed b j valueName
+      → Known ed b (record { count = m; root = i; value = j })
   known ok m i j e g h = record {
     count = e;
     root = g;
@@ -80,46 +81,46 @@ module _ (b : List ℕ) (t : Table) (same : t ≡ names b) where
   }
 
   -- the ways out, by what was found at the two highest indices
-  module _ (m : ℕ) (e : m ≡ nameCount b) where
-    bears : (i : ℕ) (x : List ℕ) → 1 ≤ i → i ≤ m → nameText b i ≡ x → Bears b i x
+  module _ (m : ℕ) (e : m ≡ nameCount ed b) where
+    bears : (i : ℕ) (x : List ℕ) → 1 ≤ i → i ≤ m → nameText ed b i ≡ x → Bears ed b i x
     bears i x l h q = record { low = l; high = omega (arith, e); text = q }
 
-    at-top : {x : List ℕ} → nameText b m ≡ x → nameText b (nameCount b) ≡ x
-    at-top {x} q = subst (λ (i : ℕ). nameText b i ≡ x) e q
+    at-top : {x : List ℕ} → nameText ed b m ≡ x → nameText ed b (nameCount ed b) ≡ x
+    at-top {x} q = subst (λ (i : ℕ). nameText ed b i ≡ x) e q
 
-    at-next : {x : List ℕ} → nameText b (m - 1) ≡ x → nameText b (nameCount b - 1) ≡ x
-    at-next {x} q = subst (λ (i : ℕ). nameText b (i - 1) ≡ x) e q
+    at-next : {x : List ℕ} → nameText ed b (m - 1) ≡ x → nameText ed b (nameCount ed b - 1) ≡ x
+    at-next {x} q = subst (λ (i : ℕ). nameText ed b (i - 1) ≡ x) e q
 
-    pub root-top : Clean (stringChecks t) → 2 ≤ m → nameText b m ≡ rootName → nameText b (m - 1) ≡ valueName
-        → SpecialsFound b (record { answer = Accepted; names = record { count = m; root = m; value = m - 1 } })
+    pub root-top : Clean (stringChecks t) → 2 ≤ m → nameText ed b m ≡ rootName → nameText ed b (m - 1) ≡ valueName
+        → SpecialsFound ed b (record { answer = Accepted; names = record { count = m; root = m; value = m - 1 } })
     unfolding specialChecks
     root-top ok l p q = record {
       answer = sym (pass _ _ _ _ _ (record { two = omega (arith, e); highest = inl (at-top p, at-next q) }) ∙ fault-none);
       names = λ w. known ok m m (m - 1) e (bears m rootName (omega arith) (omega arith) p) (bears (m - 1) valueName (omega arith) (omega arith) q);
     }
 
-    pub value-top : Clean (stringChecks t) → 2 ≤ m → nameText b m ≡ valueName → nameText b (m - 1) ≡ rootName
-        → SpecialsFound b (record { answer = Accepted; names = record { count = m; root = m - 1; value = m } })
+    pub value-top : Clean (stringChecks t) → 2 ≤ m → nameText ed b m ≡ valueName → nameText ed b (m - 1) ≡ rootName
+        → SpecialsFound ed b (record { answer = Accepted; names = record { count = m; root = m - 1; value = m } })
     unfolding specialChecks
     value-top ok l p q = record {
       answer = sym (pass _ _ _ _ _ (record { two = omega (arith, e); highest = inr (at-top p, at-next q) }) ∙ fault-none);
       names = λ w. known ok m (m - 1) m e (bears (m - 1) rootName (omega arith) (omega arith) q) (bears m valueName (omega arith) (omega arith) p);
     }
 
-    pub too-few : m < 2 → Special b → ⊥
+    pub too-few : m < 2 → Special ed b → ⊥
     too-few l r = omega (arith, e, r .two)
 
-    pub root-alone : nameText b m ≡ rootName → (nameText b (m - 1) ≡ valueName → ⊥) → Special b → ⊥
-    root-alone p f r = ⊎-elim (λ w. f (ap (λ (i : ℕ). nameText b (i - 1)) e ∙ w .1)) (λ w. root-not-value (sym (at-top p) ∙ w .0)) (r .highest)
+    pub root-alone : nameText ed b m ≡ rootName → (nameText ed b (m - 1) ≡ valueName → ⊥) → Special ed b → ⊥
+    root-alone p f r = ⊎-elim (λ w. f (ap (λ (i : ℕ). nameText ed b (i - 1)) e ∙ w .1)) (λ w. root-not-value (sym (at-top p) ∙ w .0)) (r .highest)
 
-    pub value-alone : (nameText b m ≡ rootName → ⊥) → (nameText b (m - 1) ≡ rootName → ⊥) → Special b → ⊥
+    pub value-alone : (nameText ed b m ≡ rootName → ⊥) → (nameText ed b (m - 1) ≡ rootName → ⊥) → Special ed b → ⊥
     value-alone f g r =
-        ⊎-elim (λ w. f (ap (nameText b) e ∙ w .0)) (λ w. g (ap (λ (i : ℕ). nameText b (i - 1)) e ∙ w .1)) (r .highest)
+        ⊎-elim (λ w. f (ap (nameText ed b) e ∙ w .0)) (λ w. g (ap (λ (i : ℕ). nameText ed b (i - 1)) e ∙ w .1)) (r .highest)
 
-    pub other-top : (nameText b m ≡ rootName → ⊥) → (nameText b m ≡ valueName → ⊥) → Special b → ⊥
-    other-top f g r = ⊎-elim (λ w. f (ap (nameText b) e ∙ w .0)) (λ w. g (ap (nameText b) e ∙ w .0)) (r .highest)
+    pub other-top : (nameText ed b m ≡ rootName → ⊥) → (nameText ed b m ≡ valueName → ⊥) → Special ed b → ⊥
+    other-top f g r = ⊎-elim (λ w. f (ap (nameText ed b) e ∙ w .0)) (λ w. g (ap (nameText ed b) e ∙ w .0)) (r .highest)
 
-  pub not-special : (place : ℕ) (n : Names) → place ≡ listAt t → (Special b → ⊥) → SpecialsFound b (record { answer = Refused 14 place; names = n })
+  pub not-special : (place : ℕ) (n : Names) → place ≡ listAt t → (Special ed b → ⊥) → SpecialsFound ed b (record { answer = Refused 14 place; names = n })
   unfolding specialChecks
   not-special place n e f = record {
     answer = ap (Refused 14) (e ∙ ap listAt same) ∙ sym (stop _ _ _ _ _ f);
@@ -128,21 +129,21 @@ module _ (b : List ℕ) (t : Table) (same : t ≡ names b) where
 
 -- ---- 15: one name of a key
 
-module _ (b : List ℕ) (n : Names) (g : Known b n) (k f x : ℕ) (q : x ≡ u16At b (36 + 8 * k + 2 * f)) where
+module _ (ed : Edition) (b : List ℕ) (n : Names) (g : Known ed b n) (k f x : ℕ) (q : x ≡ u16At b (36 + 8 * k + 2 * f)) where
   name-is : x ≡ keyName b k f
   unfolding keyName keyAt keysAt
   name-is = q
 
-  pub not-zero : k ≡ 0 → (x ≡ 0 → ⊥) → KeyNameRule b k f → ⊥
+  pub not-zero : k ≡ 0 → (x ≡ 0 → ⊥) → KeyNameRule ed b k f → ⊥
   not-zero z d r = d (name-is ∙ r .zero-key z)
 
-  pub too-high : n .count < x → KeyNameRule b k f → ⊥
+  pub too-high : n .count < x → KeyNameRule ed b k f → ⊥
   too-high l r = omega (arith, name-is, r .high, g .count)
 
-  pub is-value : x ≡ n .value → KeyNameRule b k f → ⊥
-  is-value e r = r .not-value (subst (λ (i : ℕ). Bears b i valueName) (sym e ∙ name-is) (g .value))
+  pub is-value : x ≡ n .value → KeyNameRule ed b k f → ⊥
+  is-value e r = r .not-value (subst (λ (i : ℕ). Bears ed b i valueName) (sym e ∙ name-is) (g .value))
 
-  pub name-right : (k ≡ 0 → x ≡ 0) → x ≤ n .count → (x ≡ n .value → ⊥) → KeyNameRule b k f
+  pub name-right : (k ≡ 0 → x ≡ 0) → x ≤ n .count → (x ≡ n .value → ⊥) → KeyNameRule ed b k f
   name-right z l d = record {
     zero-key = λ e. sym name-is ∙ z e;
     high = omega (arith, name-is, g .count);
@@ -151,22 +152,22 @@ module _ (b : List ℕ) (n : Names) (g : Known b n) (k f x : ℕ) (q : x ≡ u16
 
 -- ---- all keys: what the loop has left, from key k on
 
-unfoldable pub keysLeft : List ℕ → ℕ → Verdict
-keysLeft b k = firstFault (each (keyRuleChecks b) (keyCount b - k) k)
+unfoldable pub keysLeft : Edition → List ℕ → ℕ → Verdict
+keysLeft ed b k = firstFault (each (keyRuleChecks ed b) (keyCount b - k) k)
 
-module _ (b : List ℕ) where
-  pub keys-start : firstFault (allKeyChecks b) ≡ keysLeft b 0
+module _ (ed : Edition) (b : List ℕ) where
+  pub keys-start : firstFault (allKeyChecks ed b) ≡ keysLeft ed b 0
   unfolding allKeyChecks keysLeft
   keys-start = row-same _ _ _ _ (omega arith)
 
-  pub keys-more : (k : ℕ) → k < keyCount b → KeyRule b k → keysLeft b k ≡ keysLeft b (k + 1)
+  pub keys-more : (k : ℕ) → k < keyCount b → KeyRule ed b k → keysLeft ed b k ≡ keysLeft ed b (k + 1)
   unfolding keysLeft keyRuleChecks
-  keys-more k h r = each-more (keyRuleChecks b) _ _ _ (omega arith) (pass _ _ _ _ _ r ∙ fault-none)
+  keys-more k h r = each-more (keyRuleChecks ed b) _ _ _ (omega arith) (pass _ _ _ _ _ r ∙ fault-none)
 
-  pub keys-stop : (k : ℕ) → k < keyCount b → (KeyRule b k → ⊥) → keysLeft b k ≡ Refused 15 (36 + 8 * k)
+  pub keys-stop : (k : ℕ) → k < keyCount b → (KeyRule ed b k → ⊥) → keysLeft ed b k ≡ Refused 15 (36 + 8 * k)
   unfolding keysLeft keyRuleChecks keyAt keysAt
-  keys-stop k h f = each-stop (keyRuleChecks b) _ _ (omega arith) (stop _ _ _ _ _ f)
+  keys-stop k h f = each-stop (keyRuleChecks ed b) _ _ (omega arith) (stop _ _ _ _ _ f)
 
-  pub keys-none : (k : ℕ) → keyCount b ≤ k → keysLeft b k ≡ Accepted
+  pub keys-none : (k : ℕ) → keyCount b ≤ k → keysLeft ed b k ≡ Accepted
   unfolding keysLeft
-  keys-none k h = each-end (keyRuleChecks b) _ _ (omega arith)
+  keys-none k h = each-end (keyRuleChecks ed b) _ _ (omega arith)

@@ -5,15 +5,16 @@ use mathlib.Core.Logic.{_⊎_}
 use mathlib.Core.List.{List, [], _∷_}
 use Rattle.layout.specs.Table.{count}
 use Rattle.layout.specs.Layout.{names}
+use Rattle.layout.specs.declared.Edition.{Edition}
 use Rattle.strings.specs.Texts.{listedText}
 
 -- The name count: the address count of names less one.
-unfoldable pub nameCount : List ℕ → ℕ
-nameCount b = count (names b) - 1
+unfoldable pub nameCount : Edition → List ℕ → ℕ
+nameCount ed b = count (names ed b) - 1
 
 -- The text that name index i picks from the names address list, counted from 1.
-unfoldable pub nameText : List ℕ → ℕ → List ℕ
-nameText b i = listedText (names b) i
+unfoldable pub nameText : Edition → List ℕ → ℕ → List ℕ
+nameText ed b i = listedText (names ed b) i
 
 -- `__root__` and `__value__`.
 unfoldable pub rootName : List ℕ
@@ -23,14 +24,14 @@ unfoldable pub valueName : List ℕ
 valueName = 0x5f ∷ 0x5f ∷ 0x76 ∷ 0x61 ∷ 0x6c ∷ 0x75 ∷ 0x65 ∷ 0x5f ∷ 0x5f ∷ []
 
 -- Index i is that of a name, whose text is x.
-pub record Bears (b : List ℕ) (i : ℕ) (x : List ℕ) : Type 0 where
+pub record Bears (ed : Edition) (b : List ℕ) (i : ℕ) (x : List ℕ) : Type 0 where
   pub low : 1 ≤ i
-  pub high : i ≤ nameCount b
-  pub text : nameText b i ≡ x
+  pub high : i ≤ nameCount ed b
+  pub text : nameText ed b i ≡ x
 
 -- 14: `__root__` and `__value__` are the two highest name indices, either way round.
-pub record Special (b : List ℕ) : Type 0 where
-  pub two : 2 ≤ nameCount b
+pub record Special (ed : Edition) (b : List ℕ) : Type 0 where
+  pub two : 2 ≤ nameCount ed b
   pub highest :
-      ((nameText b (nameCount b) ≡ rootName) × (nameText b (nameCount b - 1) ≡ valueName))
-      ⊎ ((nameText b (nameCount b) ≡ valueName) × (nameText b (nameCount b - 1) ≡ rootName))
+      ((nameText ed b (nameCount ed b) ≡ rootName) × (nameText ed b (nameCount ed b - 1) ≡ valueName))
+      ⊎ ((nameText ed b (nameCount ed b) ≡ valueName) × (nameText ed b (nameCount ed b - 1) ≡ rootName))

@@ -5,6 +5,7 @@ ghost use Rattle.verdict.specs.Checks.{firstFault};
 ghost use Rattle.verdict.specs.inner.Tells.{Tells};
 ghost use Rattle.layout.specs.Header.{keyCount};
 ghost use Rattle.layout.specs.Layout.{LaidOut};
+ghost use Rattle.layout.specs.declared.Edition.the-variants.{Bits64};
 ghost use Rattle.keys.specs.Keys.{KeyRule};
 ghost use Rattle.keys.specs.Order.{allKeyChecks};
 ghost use Rattle.keys.specs.inner.Known.{Known};
@@ -19,8 +20,8 @@ const NAME_SIZE: usize = 2;
 
 // Whether refusal 15 is not due to key k.
 fn key_right(b: &[u8], names: Names, k: usize) -> bool
-    requires { ⌜ LaidOut (now b) × Known (now b) names × (k < keyCount (now b)) ⌝ }
-    ensures { λ r. ⌜ Tells (KeyRule (now (b .entry)) k) r ⌝ }
+    requires { ⌜ LaidOut Bits64 (now b) × Known Bits64 (now b) names × (k < keyCount (now b)) ⌝ }
+    ensures { λ r. ⌜ Tells (KeyRule Bits64 (now (b .entry)) k) r ⌝ }
 {
     let mut f = 0usize;
     while f < 4 {
@@ -43,8 +44,8 @@ fn key_right(b: &[u8], names: Names, k: usize) -> bool
 
 // Refusal 15 of every key.
 pub fn check_keys(b: &[u8], names: Names) -> Verdict
-    requires { ⌜ LaidOut (now b) × Known (now b) names ⌝ }
-    ensures { λ r. ⌜ r ≡ firstFault (allKeyChecks (now (b .entry))) ⌝ }
+    requires { ⌜ LaidOut Bits64 (now b) × Known Bits64 (now b) names ⌝ }
+    ensures { λ r. ⌜ r ≡ firstFault (allKeyChecks Bits64 (now (b .entry))) ⌝ }
 {
     let n = le::u32_at(b, KEYS_AT);
     let mut k = 0;

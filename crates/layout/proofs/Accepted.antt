@@ -16,7 +16,9 @@ use Rattle.region.proofs.Accepted.{laid-iff}
 use Rattle.region.proofs.Laws.{end-le}
 use Rattle.layout.specs.Header.{zeroWordChecks, headerChecks, keysAt, keyCount, keyAt, keyChecks}
 use Rattle.layout.specs.Table.{Table, bucketAt, entries, listAt, tableEnd, bucketChecks, listChecks, tableChecks, TableLaid}
-use Rattle.layout.specs.Layout.{attributeSize, nodeSize, attributesAt, nodesAt, valuesAt, values, valuesMost, namesAt, names, namesMost, footerAt, sizeChecks, frontChecks, footerChecks, layoutChecks, LaidOut}
+use Rattle.layout.specs.Edition.{attributeSize, nodeSize}
+use Rattle.layout.specs.Layout.{attributesAt, nodesAt, valuesAt, values, valuesMost, namesAt, names, namesMost, footerAt, sizeChecks, frontChecks, footerChecks, layoutChecks, LaidOut}
+use Rattle.layout.specs.declared.Edition.{Edition}
 use Rattle.layout.proofs.Laws.{bucket-first, bucket-next}
 
 -- one behind the other
@@ -117,18 +119,6 @@ module _ (b : List ℕ) where
   keys-clean h l m =
       pass _ _ _ _ _ (omega arith) ∙ pass _ _ _ _ _ h ∙ pass _ _ _ _ _ l ∙ pass _ _ _ _ _ (omega arith) ∙ fault-none
 
-  footer-inv : Clean (footerChecks b) → (u32At b (footerAt b) ≡ 0) × (footerAt b + 4 ≡ length b)
-  unfolding footerChecks
-  footer-inv e =
-      let x = clean-inv _ _ _ _ _ e in
-      let y = clean-inv _ _ _ _ _ (x .1) in
-      let z = clean-inv _ _ _ _ _ (y .1) in
-      (y .0, omega (arith, x .0, z .0))
-
-  footer-clean : u32At b (footerAt b) ≡ 0 → footerAt b + 4 ≡ length b → Clean (footerChecks b)
-  unfolding footerChecks
-  footer-clean h l = pass _ _ _ _ _ (omega arith) ∙ pass _ _ _ _ _ h ∙ pass _ _ _ _ _ (omega arith) ∙ fault-none
-
   pub header-end : Clean (headerChecks b) → keysAt ≤ length b
   unfolding keysAt
   header-end e = header-inv e .0
@@ -136,38 +126,51 @@ module _ (b : List ℕ) where
   pub keys-end : Clean (keyChecks b) → attributesAt b ≤ length b
   keys-end e = keys-inv e .2
 
-  front-inv : Clean (frontChecks b)
-      → (length b ≤ 1073741824) × Clean (headerChecks b) × Clean (keyChecks b) × Clean (regionChecks attributeSize b (attributesAt b))
-      × Clean (regionChecks nodeSize b (nodesAt b))
+module _ (ed : Edition) (b : List ℕ) where
+  footer-inv : Clean (footerChecks ed b) → (u32At b (footerAt ed b) ≡ 0) × (footerAt ed b + 4 ≡ length b)
+  unfolding footerChecks
+  footer-inv e =
+      let x = clean-inv _ _ _ _ _ e in
+      let y = clean-inv _ _ _ _ _ (x .1) in
+      let z = clean-inv _ _ _ _ _ (y .1) in
+      (y .0, omega (arith, x .0, z .0))
+
+  footer-clean : u32At b (footerAt ed b) ≡ 0 → footerAt ed b + 4 ≡ length b → Clean (footerChecks ed b)
+  unfolding footerChecks
+  footer-clean h l = pass _ _ _ _ _ (omega arith) ∙ pass _ _ _ _ _ h ∙ pass _ _ _ _ _ (omega arith) ∙ fault-none
+
+  front-inv : Clean (frontChecks ed b)
+      → (length b ≤ 1073741824) × Clean (headerChecks b) × Clean (keyChecks b) × Clean (regionChecks (attributeSize ed) b (attributesAt b))
+      × Clean (regionChecks (nodeSize ed) b (nodesAt ed b))
   unfolding frontChecks sizeChecks
   front-inv e =
       let s = clean-inv _ _ _ _ _ e in
       let h = append-inv (headerChecks b) _ (s .1) in
       let k = append-inv (keyChecks b) _ (h .1) in
-      let a = append-inv (regionChecks attributeSize b (attributesAt b)) _ (k .1) in
+      let a = append-inv (regionChecks (attributeSize ed) b (attributesAt b)) _ (k .1) in
       (s .0, h .0, k .0, a .0, a .1)
 
-  pub front-end : Clean (frontChecks b) → (valuesAt b ≤ length b) × (length b ≤ 1073741824)
+  pub front-end : Clean (frontChecks ed b) → (valuesAt ed b ≤ length b) × (length b ≤ 1073741824)
   unfolding valuesAt
-  front-end e = let f = front-inv e in (region-end nodeSize b (nodesAt b) (f .4), f .0)
+  front-end e = let f = front-inv e in (region-end (nodeSize ed) b (nodesAt ed b) (f .4), f .0)
 
-  pub values-end : Clean (tableChecks (values b) valuesMost) → namesAt b ≤ length b
+  pub values-end : Clean (tableChecks (values ed b) valuesMost) → namesAt ed b ≤ length b
   unfolding values namesAt
-  values-end e = table-end (values b) valuesMost e
+  values-end e = table-end (values ed b) valuesMost e
 
-  pub names-end : Clean (tableChecks (names b) namesMost) → footerAt b ≤ length b
+  pub names-end : Clean (tableChecks (names ed b) namesMost) → footerAt ed b ≤ length b
   unfolding names footerAt
-  names-end e = table-end (names b) namesMost e
+  names-end e = table-end (names ed b) namesMost e
 
-  accepted-layout : Clean (layoutChecks b) → LaidOut b
+  accepted-layout : Clean (layoutChecks ed b) → LaidOut ed b
   unfolding layoutChecks
   accepted-layout e =
-      let r = append-inv (frontChecks b) _ e in
-      let v = append-inv (tableChecks (values b) valuesMost) _ (r .1) in
-      let m = append-inv (tableChecks (names b) namesMost) _ (v .1) in
+      let r = append-inv (frontChecks ed b) _ e in
+      let v = append-inv (tableChecks (values ed b) valuesMost) _ (r .1) in
+      let m = append-inv (tableChecks (names ed b) namesMost) _ (v .1) in
       let f = front-inv (r .0) in
-      let h = header-inv (f .1) in
-      let k = keys-inv (f .2) in
+      let h = header-inv b (f .1) in
+      let k = keys-inv b (f .2) in
       let z = footer-inv (m .1) in
       record {
         small = f .0;
@@ -177,24 +180,24 @@ module _ (b : List ℕ) where
         some-key = k .0;
         few-keys = k .1;
         keys = k .2;
-        attributes = laid-iff attributeSize b (attributesAt b) .0 (f .3);
-        nodes = laid-iff nodeSize b (nodesAt b) .0 (f .4);
-        values = table-iff (values b) valuesMost .0 (v .0);
-        names = table-iff (names b) namesMost .0 (m .0);
+        attributes = laid-iff (attributeSize ed) b (attributesAt b) .0 (f .3);
+        nodes = laid-iff (nodeSize ed) b (nodesAt ed b) .0 (f .4);
+        values = table-iff (values ed b) valuesMost .0 (v .0);
+        names = table-iff (names ed b) namesMost .0 (m .0);
         footer = z .0;
         ends = z .1;
       }
 
-  layout-accepted : LaidOut b → Clean (layoutChecks b)
+  layout-accepted : LaidOut ed b → Clean (layoutChecks ed b)
   unfolding layoutChecks frontChecks sizeChecks
   layout-accepted g =
       both _ _
       (pass _ _ _ _ _ (g .small)
-      ∙ both _ _ (header-clean (g .header) (g .version) (g .zero-words))
-      (both _ _ (keys-clean (g .some-key) (g .few-keys) (g .keys))
-      (both _ _ (laid-iff attributeSize b (attributesAt b) .1 (g .attributes)) (laid-iff nodeSize b (nodesAt b) .1 (g .nodes)))))
-      (both _ _ (table-iff (values b) valuesMost .1 (g .values))
-      (both _ _ (table-iff (names b) namesMost .1 (g .names)) (footer-clean (g .footer) (g .ends))))
+      ∙ both _ _ (header-clean b (g .header) (g .version) (g .zero-words))
+      (both _ _ (keys-clean b (g .some-key) (g .few-keys) (g .keys))
+      (both _ _ (laid-iff (attributeSize ed) b (attributesAt b) .1 (g .attributes)) (laid-iff (nodeSize ed) b (nodesAt ed b) .1 (g .nodes)))))
+      (both _ _ (table-iff (values ed b) valuesMost .1 (g .values))
+      (both _ _ (table-iff (names ed b) namesMost .1 (g .names)) (footer-clean (g .footer) (g .ends))))
 
-  pub layout-iff : firstFault (layoutChecks b) ≡ Accepted ↔ LaidOut b
+  pub layout-iff : firstFault (layoutChecks ed b) ≡ Accepted ↔ LaidOut ed b
   layout-iff = (accepted-layout, layout-accepted)

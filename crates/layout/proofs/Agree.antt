@@ -11,10 +11,12 @@ use Rattle.region.specs.Region.{endOf, startOf, countOf}
 use Rattle.region.proofs.Agree.{Alike, clear-behind, clear-within, alike, end-same, total-same, laid-same, mapped-same, starts-kept, counts-kept, start-order, start-behind}
 use Rattle.layout.specs.Header.{headerOf, keysAt, keyCount, keyAt}
 use Rattle.layout.specs.Table.{table, bucketAt, entries, entryHash, entryLength, entryIndex, entrySegment, entryElement, entryAt, hashOf, lengthOf, indexOf, segmentOf, elementOf, listAt, count, positionAt, listedSegment, listedElement, tableEnd, TableLaid, BucketStarts}
-use Rattle.layout.specs.Layout.{attributeSize, nodeSize, attributesAt, nodesAt, valuesAt, values, namesAt, names, footerAt, LaidOut}
+use Rattle.layout.specs.Edition.{attributeSize, nodeSize}
+use Rattle.layout.specs.Layout.{attributesAt, nodesAt, valuesAt, values, namesAt, names, footerAt, LaidOut}
 use Rattle.layout.specs.inner.View.{PlacesFit, Fits}
 use Rattle.layout.specs.declared.Places.{Places}
 use Rattle.layout.specs.declared.View.{View}
+use Rattle.layout.specs.declared.Edition.{Edition}
 
 -- the table at an offset has the same characters, entries and list in both files
 pub record AlikeTable (b c : List ℕ) (at n : ℕ) : Type 0 where
@@ -92,27 +94,27 @@ module _ {b c : List ℕ} {at n : ℕ} (a : AlikeTable b c at n) where
 
 -- ---- the whole file, where the four bytes are among the elements of one segment of the attributes
 
-pub record Inside (b : List ℕ) (x : ℕ) : Type 0 where
+pub record Inside (ed : Edition) (b : List ℕ) (x : ℕ) : Type 0 where
   pub segment : ℕ
   pub seg-in : segment < countOf b (attributesAt b)
-  pub from : startOf attributeSize b (attributesAt b) segment + 8 ≤ x
-  pub till : x + 4 ≤ startOf attributeSize b (attributesAt b) (segment + 1)
+  pub from : startOf (attributeSize ed) b (attributesAt b) segment + 8 ≤ x
+  pub till : x + 4 ≤ startOf (attributeSize ed) b (attributesAt b) (segment + 1)
 
 -- each part has the same offset and the same counts in both files
-pub record AlikeFile (b c : List ℕ) : Type 0 where
+pub record AlikeFile (ed : Edition) (b c : List ℕ) : Type 0 where
   pub keys : keyCount c ≡ keyCount b
   pub attributes-at : attributesAt c ≡ attributesAt b
-  pub nodes-at : nodesAt c ≡ nodesAt b
-  pub values-at : valuesAt c ≡ valuesAt b
-  pub names-at : namesAt c ≡ namesAt b
-  pub attributes : Alike attributeSize b c (attributesAt b)
-  pub nodes : Alike nodeSize b c (nodesAt b)
-  pub values : AlikeTable b c (valuesAt b) 1024
-  pub names : AlikeTable b c (namesAt b) 512
+  pub nodes-at : nodesAt ed c ≡ nodesAt ed b
+  pub values-at : valuesAt ed c ≡ valuesAt ed b
+  pub names-at : namesAt ed c ≡ namesAt ed b
+  pub attributes : Alike (attributeSize ed) b c (attributesAt b)
+  pub nodes : Alike (nodeSize ed) b c (nodesAt ed b)
+  pub values : AlikeTable b c (valuesAt ed b) 1024
+  pub names : AlikeTable b c (namesAt ed b) 512
 
-module _ {b c : List ℕ} {x : ℕ} (a : Agree b c x) (h : Inside b x) where
+module _ {ed : Edition} {b c : List ℕ} {x : ℕ} (a : Agree b c x) (h : Inside ed b x) where
   pub front : attributesAt b + 4 ≤ x
-  front = omega (arith, start-behind attributeSize b (attributesAt b) (h .segment))
+  front = omega (arith, start-behind (attributeSize ed) b (attributesAt b) (h .segment))
 
   keys-same : keyCount c ≡ keyCount b
   unfolding keyCount attributesAt keyAt keysAt
@@ -122,51 +124,51 @@ module _ {b c : List ℕ} {x : ℕ} (a : Agree b c x) (h : Inside b x) where
   unfolding attributesAt
   attributes-same = rw keys-same
 
-  attributes-alike : Alike attributeSize b c (attributesAt b)
-  attributes-alike = alike a attributeSize _ (clear-within attributeSize b (attributesAt b) x (h .segment) (h .from) (h .till))
+  attributes-alike : Alike (attributeSize ed) b c (attributesAt b)
+  attributes-alike = alike a (attributeSize ed) _ (clear-within (attributeSize ed) b (attributesAt b) x (h .segment) (h .from) (h .till))
 
-  nodes-same : nodesAt c ≡ nodesAt b
+  nodes-same : nodesAt ed c ≡ nodesAt ed b
   unfolding nodesAt
   nodes-same = rw attributes-same (end-same attributes-alike)
 
-  pub nodes-behind : x + 4 ≤ nodesAt b
+  pub nodes-behind : x + 4 ≤ nodesAt ed b
   unfolding nodesAt endOf
-  nodes-behind = omega (arith, h .till, start-order attributeSize b (attributesAt b) (h .segment + 1) (countOf b (attributesAt b)) (omega (arith, h .seg-in)))
+  nodes-behind = omega (arith, h .till, start-order (attributeSize ed) b (attributesAt b) (h .segment + 1) (countOf b (attributesAt b)) (omega (arith, h .seg-in)))
 
-  nodes-alike : Alike nodeSize b c (nodesAt b)
-  nodes-alike = alike a nodeSize _ (clear-behind nodeSize b (nodesAt b) x nodes-behind)
+  nodes-alike : Alike (nodeSize ed) b c (nodesAt ed b)
+  nodes-alike = alike a (nodeSize ed) _ (clear-behind (nodeSize ed) b (nodesAt ed b) x nodes-behind)
 
-  pub values-behind : x + 4 ≤ valuesAt b
+  pub values-behind : x + 4 ≤ valuesAt ed b
   unfolding valuesAt endOf
-  values-behind = omega (arith, nodes-behind, start-behind nodeSize b (nodesAt b) (countOf b (nodesAt b)))
+  values-behind = omega (arith, nodes-behind, start-behind (nodeSize ed) b (nodesAt ed b) (countOf b (nodesAt ed b)))
 
-  values-same : valuesAt c ≡ valuesAt b
+  values-same : valuesAt ed c ≡ valuesAt ed b
   unfolding valuesAt
   values-same = rw nodes-same (end-same nodes-alike)
 
-  values-alike : AlikeTable b c (valuesAt b) 1024
+  values-alike : AlikeTable b c (valuesAt ed b) 1024
   values-alike = alike-table a _ 1024 values-behind
 
-  pub names-behind : x + 4 ≤ namesAt b
+  pub names-behind : x + 4 ≤ namesAt ed b
   unfolding namesAt values
-  names-behind = table-behind a (valuesAt b) 1024 values-behind
+  names-behind = table-behind a (valuesAt ed b) 1024 values-behind
 
-  names-same : namesAt c ≡ namesAt b
+  names-same : namesAt ed c ≡ namesAt ed b
   unfolding namesAt values
   names-same = rw values-same (values-alike .ends)
 
-  names-alike : AlikeTable b c (namesAt b) 512
+  names-alike : AlikeTable b c (namesAt ed b) 512
   names-alike = alike-table a _ 512 names-behind
 
-  footer-same : footerAt c ≡ footerAt b
+  footer-same : footerAt ed c ≡ footerAt ed b
   unfolding footerAt names
   footer-same = rw names-same (names-alike .ends)
 
-  footer-behind : x + 4 ≤ footerAt b
+  footer-behind : x + 4 ≤ footerAt ed b
   unfolding footerAt names
-  footer-behind = table-behind a (namesAt b) 512 names-behind
+  footer-behind = table-behind a (namesAt ed b) 512 names-behind
 
-  pub alike-file : AlikeFile b c
+  pub alike-file : AlikeFile ed b c
   alike-file =
       record {
         keys = keys-same;
@@ -180,7 +182,7 @@ module _ {b c : List ℕ} {x : ℕ} (a : Agree b c x) (h : Inside b x) where
         names = names-alike;
       }
 
-  pub laid-out : LaidOut b → LaidOut c
+  pub laid-out : LaidOut ed b → LaidOut ed c
   unfolding values names attributesAt keyAt keysAt
   laid-out g =
       record {
@@ -195,7 +197,7 @@ module _ {b c : List ℕ} {x : ℕ} (a : Agree b c x) (h : Inside b x) where
         nodes = rw nodes-same (laid-same nodes-alike (g .nodes));
         values = rw values-same (table-laid values-alike (g .values));
         names = rw names-same (table-laid names-alike (g .names));
-        footer = rw footer-same (u32-same a (footerAt b) (inr footer-behind) ∙ g .footer);
+        footer = rw footer-same (u32-same a (footerAt ed b) (inr footer-behind) ∙ g .footer);
         ends = rw (footer-same, a .long) (g .ends);
       }
 
@@ -205,7 +207,7 @@ module _ {b c : List ℕ} {x : ℕ} (a : Agree b c x) (h : Inside b x) where
   header-same =
       rw (u32-same a 0 (inl (omega (arith, front))), u64-same a 4 (inl (omega (arith, front))), u32-same a 12 (inl (omega (arith, front))))
 
-  placed-same : {p : Places} → PlacesFit b p → PlacesFit c p
+  placed-same : {p : Places} → PlacesFit ed b p → PlacesFit ed c p
   unfolding values names
   placed-same g =
       record {
@@ -219,7 +221,7 @@ module _ {b c : List ℕ} {x : ℕ} (a : Agree b c x) (h : Inside b x) where
         «name_list» = rw names-same (g .«name_list» ∙ sym (list-same names-alike));
       }
 
-  pub fits-same : {v : View} → Fits b v → Fits c v
+  pub fits-same : {v : View} → Fits ed b v → Fits ed c v
   unfolding values names
   fits-same g =
       record {

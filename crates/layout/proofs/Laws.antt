@@ -10,6 +10,7 @@ use Rattle.region.specs.Region.{endOf}
 use Rattle.layout.specs.Header.{keysAt, keyCount, keyAt}
 use Rattle.layout.specs.Table.{Table, bucketAt, entries, entryAt, count, positionAt, tableEnd, TableLaid}
 use Rattle.layout.specs.Layout.{attributesAt, LaidOut}
+use Rattle.layout.specs.declared.Edition.{Edition}
 
 -- ---- a string table
 
@@ -56,10 +57,10 @@ module _ (b : List ℕ) where
   unfolding attributesAt keyAt
   key-in k h = omega arith
 
-  module _ (g : LaidOut b) where
-    pub keys-fit : keysAt + 4 ≤ length b
-    unfolding attributesAt keyAt
-    keys-fit = omega (arith, g .keys)
+module _ (ed : Edition) (b : List ℕ) (g : LaidOut ed b) where
+  pub keys-fit : keysAt + 4 ≤ length b
+  unfolding attributesAt keyAt
+  keys-fit = omega (arith, g .keys)
 
-    pub key-fits : (k : ℕ) → k < keyCount b → keyAt k + 8 ≤ length b
-    key-fits k h = omega (arith, key-in k h, g .keys)
+  pub key-fits : (k : ℕ) → k < keyCount b → keyAt k + 8 ≤ length b
+  key-fits k h = omega (arith, key-in b k h, g .keys)

@@ -1,3 +1,4 @@
+pub mod Sizes
 pub mod Laws
 pub mod Accepted
 pub mod Parts

@@ -11,6 +11,7 @@ use Rattle.region.specs.Checks.{field}
 use Rattle.layout.specs.Header.{zeroWordChecks}
 use Rattle.layout.specs.Table.{Table, bucketAt, entries, listAt, count, tableEnd, bucketChecks, listChecks}
 use Rattle.layout.specs.Layout.{footerAt, footerChecks}
+use Rattle.layout.specs.declared.Edition.{Edition}
 use Rattle.layout.proofs.Laws.{bucket-next}
 
 module _ (b : List ℕ) (i p : ℕ) (h : p ≡ 16 + 4 * i) where
@@ -39,8 +40,8 @@ module _ (t : Table) (most p : ℕ) (h : p ≡ listAt t) where
   unfolding listChecks tableEnd count
   list-told q = rw (sym q) (rw h)
 
-module _ (b : List ℕ) (p : ℕ) (h : p ≡ footerAt b) where
+module _ (ed : Edition) (b : List ℕ) (p : ℕ) (h : p ≡ footerAt ed b) where
   pub footer-told : {v : Verdict} → firstFault (field b p 4 ∷ equal 6 p (u32At b p) 0 ∷ atMost 6 (p + 4) (length b) (p + 4) ∷ []) ≡ v
-      → v ≡ firstFault (footerChecks b)
+      → v ≡ firstFault (footerChecks ed b)
   unfolding footerChecks
   footer-told q = rw (sym q) (rw h)

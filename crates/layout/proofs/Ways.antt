@@ -13,12 +13,14 @@ use Rattle.region.specs.Region.{endOf}
 use Rattle.region.specs.Checks.{regionChecks}
 use Rattle.layout.specs.Header.{headerChecks, keyChecks}
 use Rattle.layout.specs.Table.{Table, table, bucketChecks, listChecks, tableEnd, tableChecks}
-use Rattle.layout.specs.Layout.{attributeSize, nodeSize, attributesAt, nodesAt, valuesAt, values, valuesMost, namesAt, names, namesMost, sizeChecks, frontChecks, footerChecks, layoutChecks}
+use Rattle.layout.specs.Edition.{attributeSize, nodeSize}
+use Rattle.layout.specs.Layout.{attributesAt, nodesAt, valuesAt, values, valuesMost, namesAt, names, namesMost, sizeChecks, frontChecks, footerChecks, layoutChecks}
 use Rattle.layout.specs.inner.Scanned.{FrontScanned, TableScanned}
 use Rattle.layout.specs.inner.View.{Walked}
 use Rattle.layout.specs.declared.front.FrontScan.{FrontScan}
 use Rattle.layout.specs.declared.tables.TableScan.{TableScan}
 use Rattle.layout.specs.declared.whole.Walk.{Walk}
+use Rattle.layout.specs.declared.Edition.{Edition}
 use Rattle.verdict.proofs.Scans.{told, no-end}
 
 -- ---- a table: its characters, its buckets, its list
@@ -50,56 +52,56 @@ module _ (t : Table) (most : ℕ) where
 
 -- ---- the front: its size, the header, the keys, the attributes, the nodes
 
-module _ (b : List ℕ) where
-  pub front-stop : (r : FrontScan) {n p : ℕ} → firstFault (frontChecks b) ≡ Refused n p → r .answer ≡ Fault n p → FrontScanned b r
+module _ (ed : Edition) (b : List ℕ) where
+  pub front-stop : (r : FrontScan) {n p : ℕ} → firstFault (frontChecks ed b) ≡ Refused n p → r .answer ≡ Fault n p → FrontScanned ed b r
   unfolding scanned
   front-stop r q h =
       record {
-        answer = h ∙ told _ (valuesAt b) q;
+        answer = h ∙ told _ (valuesAt ed b) q;
         attributes-at = λ e w. absurd (no-end h w);
         nodes-at = λ e w. absurd (no-end h w);
       }
 
-  pub size-stop : (length b ≤ 1073741824 → ⊥) → firstFault (frontChecks b) ≡ Refused 1 0
+  pub size-stop : (length b ≤ 1073741824 → ⊥) → firstFault (frontChecks ed b) ≡ Refused 1 0
   unfolding frontChecks sizeChecks
   size-stop h = stop _ _ _ _ _ h
 
   -- a region is scanned from where the code found the part before to end
-  pub attributes-scanned : {x : Scan} {e : ℕ} → e ≡ attributesAt b → x ≡ scanned (firstFault (regionChecks 12 b e)) (endOf 12 b e)
-      → x ≡ scanned (firstFault (regionChecks attributeSize b (attributesAt b))) (nodesAt b)
-  unfolding attributeSize nodesAt
+  pub attributes-scanned : {x : Scan} {e : ℕ} → e ≡ attributesAt b → x ≡ scanned (firstFault (regionChecks (attributeSize ed) b e)) (endOf (attributeSize ed) b e)
+      → x ≡ scanned (firstFault (regionChecks (attributeSize ed) b (attributesAt b))) (nodesAt ed b)
+  unfolding nodesAt
   attributes-scanned q h = rw q at h
 
-  pub nodes-scanned : {x : Scan} {e : ℕ} → e ≡ nodesAt b → x ≡ scanned (firstFault (regionChecks 24 b e)) (endOf 24 b e)
-      → x ≡ scanned (firstFault (regionChecks nodeSize b (nodesAt b))) (valuesAt b)
-  unfolding nodeSize valuesAt
+  pub nodes-scanned : {x : Scan} {e : ℕ} → e ≡ nodesAt ed b → x ≡ scanned (firstFault (regionChecks (nodeSize ed) b e)) (endOf (nodeSize ed) b e)
+      → x ≡ scanned (firstFault (regionChecks (nodeSize ed) b (nodesAt ed b))) (valuesAt ed b)
+  unfolding valuesAt
   nodes-scanned q h = rw q at h
 
   module _ (s : length b ≤ 1073741824) where
-    pub header-stop : {n p : ℕ} → firstFault (headerChecks b) ≡ Refused n p → firstFault (frontChecks b) ≡ Refused n p
+    pub header-stop : {n p : ℕ} → firstFault (headerChecks b) ≡ Refused n p → firstFault (frontChecks ed b) ≡ Refused n p
     unfolding frontChecks sizeChecks
     header-stop q = pass _ _ _ _ _ s ∙ fault-keep (headerChecks b) _ q
 
     module _ (h : Clean (headerChecks b)) where
-      pub keys-stop : {n p : ℕ} → firstFault (keyChecks b) ≡ Refused n p → firstFault (frontChecks b) ≡ Refused n p
+      pub keys-stop : {n p : ℕ} → firstFault (keyChecks b) ≡ Refused n p → firstFault (frontChecks ed b) ≡ Refused n p
       unfolding frontChecks sizeChecks
       keys-stop q = pass _ _ _ _ _ s ∙ fault-append (headerChecks b) _ h ∙ fault-keep (keyChecks b) _ q
 
       module _ (k : Clean (keyChecks b)) where
-        regions-left : firstFault (frontChecks b) ≡ firstFault (regionChecks attributeSize b (attributesAt b) ++ regionChecks nodeSize b (nodesAt b))
+        regions-left : firstFault (frontChecks ed b) ≡ firstFault (regionChecks (attributeSize ed) b (attributesAt b) ++ regionChecks (nodeSize ed) b (nodesAt ed b))
         unfolding frontChecks sizeChecks
         regions-left = pass _ _ _ _ _ s ∙ fault-append (headerChecks b) _ h ∙ fault-append (keyChecks b) _ k
 
-        pub attributes-stop : {n p : ℕ} → firstFault (regionChecks attributeSize b (attributesAt b)) ≡ Refused n p → firstFault (frontChecks b) ≡ Refused n p
+        pub attributes-stop : {n p : ℕ} → firstFault (regionChecks (attributeSize ed) b (attributesAt b)) ≡ Refused n p → firstFault (frontChecks ed b) ≡ Refused n p
         attributes-stop q = regions-left ∙ fault-keep _ _ q
 
-        pub nodes-left : Clean (regionChecks attributeSize b (attributesAt b)) → firstFault (frontChecks b) ≡ firstFault (regionChecks nodeSize b (nodesAt b))
+        pub nodes-left : Clean (regionChecks (attributeSize ed) b (attributesAt b)) → firstFault (frontChecks ed b) ≡ firstFault (regionChecks (nodeSize ed) b (nodesAt ed b))
         nodes-left a = regions-left ∙ fault-append _ _ a
 
 -- ---- the file: its front, its values, its names, its footer
 
-module _ (b : List ℕ) where
-  pub walk-stop : (w : Walk) (vs ns : List ℕ) {n p : ℕ} → firstFault (layoutChecks b) ≡ Refused n p → w .answer ≡ Refused n p → Walked b w vs ns
+module _ (ed : Edition) (b : List ℕ) where
+  pub walk-stop : (w : Walk) (vs ns : List ℕ) {n p : ℕ} → firstFault (layoutChecks ed b) ≡ Refused n p → w .answer ≡ Refused n p → Walked ed b w vs ns
   walk-stop w vs ns q h =
       record {
         answer = h ∙ sym q;
@@ -114,36 +116,36 @@ module _ (b : List ℕ) where
       }
 
   -- a table is scanned from where the code found the part before to end, with as many buckets as it has places for
-  pub values-scanned : {e n : ℕ} {r : TableScan} {xs : List ℕ} → e ≡ valuesAt b → n ≡ 1024 → TableScanned (table b e n) 4294967295 r xs
-      → TableScanned (values b) valuesMost r xs
+  pub values-scanned : {e n : ℕ} {r : TableScan} {xs : List ℕ} → e ≡ valuesAt ed b → n ≡ 1024 → TableScanned (table b e n) 4294967295 r xs
+      → TableScanned (values ed b) valuesMost r xs
   unfolding values valuesMost
   values-scanned {e} {n} {r} {xs} q h s =
-      subst (λ (m : ℕ). TableScanned (table b (valuesAt b) m) 4294967295 r xs) h
+      subst (λ (m : ℕ). TableScanned (table b (valuesAt ed b) m) 4294967295 r xs) h
       (subst (λ (a : ℕ). TableScanned (table b a n) 4294967295 r xs) q s)
 
-  pub names-scanned : {e n : ℕ} {r : TableScan} {xs : List ℕ} → e ≡ namesAt b → n ≡ 512 → TableScanned (table b e n) 65536 r xs
-      → TableScanned (names b) namesMost r xs
+  pub names-scanned : {e n : ℕ} {r : TableScan} {xs : List ℕ} → e ≡ namesAt ed b → n ≡ 512 → TableScanned (table b e n) 65536 r xs
+      → TableScanned (names ed b) namesMost r xs
   unfolding names namesMost
   names-scanned {e} {n} {r} {xs} q h s =
-      subst (λ (m : ℕ). TableScanned (table b (namesAt b) m) 65536 r xs) h
+      subst (λ (m : ℕ). TableScanned (table b (namesAt ed b) m) 65536 r xs) h
       (subst (λ (a : ℕ). TableScanned (table b a n) 65536 r xs) q s)
 
-  pub front-refused : {n p : ℕ} → firstFault (frontChecks b) ≡ Refused n p → firstFault (layoutChecks b) ≡ Refused n p
+  pub front-refused : {n p : ℕ} → firstFault (frontChecks ed b) ≡ Refused n p → firstFault (layoutChecks ed b) ≡ Refused n p
   unfolding layoutChecks
-  front-refused q = fault-keep (frontChecks b) _ q
+  front-refused q = fault-keep (frontChecks ed b) _ q
 
-  module _ (f : Clean (frontChecks b)) where
-    pub values-refused : {n p : ℕ} → firstFault (tableChecks (values b) valuesMost) ≡ Refused n p → firstFault (layoutChecks b) ≡ Refused n p
+  module _ (f : Clean (frontChecks ed b)) where
+    pub values-refused : {n p : ℕ} → firstFault (tableChecks (values ed b) valuesMost) ≡ Refused n p → firstFault (layoutChecks ed b) ≡ Refused n p
     unfolding layoutChecks
-    values-refused q = fault-append (frontChecks b) _ f ∙ fault-keep (tableChecks (values b) valuesMost) _ q
+    values-refused q = fault-append (frontChecks ed b) _ f ∙ fault-keep (tableChecks (values ed b) valuesMost) _ q
 
-    module _ (v : Clean (tableChecks (values b) valuesMost)) where
-      pub names-refused : {n p : ℕ} → firstFault (tableChecks (names b) namesMost) ≡ Refused n p → firstFault (layoutChecks b) ≡ Refused n p
+    module _ (v : Clean (tableChecks (values ed b) valuesMost)) where
+      pub names-refused : {n p : ℕ} → firstFault (tableChecks (names ed b) namesMost) ≡ Refused n p → firstFault (layoutChecks ed b) ≡ Refused n p
       unfolding layoutChecks
       names-refused q =
-          fault-append (frontChecks b) _ f ∙ fault-append (tableChecks (values b) valuesMost) _ v ∙ fault-keep (tableChecks (names b) namesMost) _ q
+          fault-append (frontChecks ed b) _ f ∙ fault-append (tableChecks (values ed b) valuesMost) _ v ∙ fault-keep (tableChecks (names ed b) namesMost) _ q
 
-      pub footer-left : Clean (tableChecks (names b) namesMost) → firstFault (layoutChecks b) ≡ firstFault (footerChecks b)
+      pub footer-left : Clean (tableChecks (names ed b) namesMost) → firstFault (layoutChecks ed b) ≡ firstFault (footerChecks ed b)
       unfolding layoutChecks
       footer-left m =
-          fault-append (frontChecks b) _ f ∙ fault-append (tableChecks (values b) valuesMost) _ v ∙ fault-append (tableChecks (names b) namesMost) _ m
+          fault-append (frontChecks ed b) _ f ∙ fault-append (tableChecks (values ed b) valuesMost) _ v ∙ fault-append (tableChecks (names ed b) namesMost) _ m

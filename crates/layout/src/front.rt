@@ -6,6 +6,7 @@ ghost use Rattle.verdict.specs.Checks.{firstFault, each};
 ghost use Rattle.verdict.specs.inner.Scans.{scanned};
 ghost use Rattle.layout.specs.inner.Scanned.{FrontScanned};
 ghost use Rattle.layout.specs.Header.{headerOf, headerChecks, zeroWordChecks, keysAt, keyChecks, keyAt, keyCount};
+ghost use Rattle.layout.specs.declared.Edition.the-variants.{Bits64};
 use crate::ATTRIBUTE_SIZE;
 use crate::FIRST_KEY_AT;
 use crate::Header;
@@ -94,7 +95,7 @@ fn front_refused(answer: Scan) -> FrontScan
 
 // Refusals 1 to 5 up to the end of the nodes, or where they end.
 pub fn scan_front(b: &[u8]) -> FrontScan
-    ensures { λ r. ⌜ FrontScanned (now (b .entry)) r ⌝ }
+    ensures { λ r. ⌜ FrontScanned Bits64 (now (b .entry)) r ⌝ }
 {
     if b.len() > MOST_BYTES {
         return front_refused(Scan::Fault(1, 0));

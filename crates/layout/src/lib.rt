@@ -22,7 +22,12 @@ pub const KEY_SIZE: usize = 8;
 // The most keys.
 pub const MOST_KEYS: usize = 4096;
 
-// The bytes of an attribute, of a node and of a character.
+// The edition of a file, which decides the sizes of its attributes and nodes.
+pub enum Edition {
+    Bits64,
+}
+
+// The bytes of an attribute and of a node in the 64-bit edition, and of a character.
 pub const ATTRIBUTE_SIZE: usize = 12;
 
 pub const NODE_SIZE: usize = 24;

@@ -5,6 +5,7 @@ ghost use lib.ListN.{length};
 ghost use Rattle.verdict.specs.Checks.{firstFault};
 ghost use Rattle.layout.specs.Layout.{footerAt, footerChecks};
 ghost use Rattle.layout.specs.inner.View.{Walked, Fits, Viewed};
+ghost use Rattle.layout.specs.declared.Edition.the-variants.{Bits64};
 use crate::ATTRIBUTE_SIZE;
 use crate::CHARACTER_SIZE;
 use crate::CheckedLayout;
@@ -49,8 +50,8 @@ fn walk_refused(num: u32, place: usize) -> Walk
 
 // The footer at p.
 fn footer(b: &[u8], p: usize) -> Verdict
-    requires { ⌜ (p ≡ footerAt (now b)) × (p ≤ length (now b)) ⌝ }
-    ensures { λ r. ⌜ r ≡ firstFault (footerChecks (now (b .entry))) ⌝ }
+    requires { ⌜ (p ≡ footerAt Bits64 (now b)) × (p ≤ length (now b)) ⌝ }
+    ensures { λ r. ⌜ r ≡ firstFault (footerChecks Bits64 (now (b .entry))) ⌝ }
 {
     if b.len() - p < 4 {
         return Verdict::Refused(2, p);
@@ -67,7 +68,7 @@ fn footer(b: &[u8], p: usize) -> Verdict
 // Refusals 1 to 6 along the file.
 fn along(b: &[u8], value_buckets: &mut [u32], name_buckets: &mut [u32]) -> Walk
     requires { ⌜ (length (now «value_buckets») ≡ 1024) × (length (now «name_buckets») ≡ 512) ⌝ }
-    ensures { λ r. ⌜ Walked (now (b .entry)) r (now («value_buckets» .exit)) (now («name_buckets» .exit)) ⌝ }
+    ensures { λ r. ⌜ Walked Bits64 (now (b .entry)) r (now («value_buckets» .exit)) (now («name_buckets» .exit)) ⌝ }
 {
     let f = front::scan_front(b);
     let fa = f.answer;
@@ -100,8 +101,8 @@ fn along(b: &[u8], value_buckets: &mut [u32], name_buckets: &mut [u32]) -> Walk
 
 // The view of a file that passed.
 fn view_of(b: &[u8], w: Walk, value_buckets: [u32; 1024], name_buckets: [u32; 512]) -> View
-    requires { ⌜ Walked (now b) w «value_buckets» «name_buckets» × (w .answer ≡ Verdict.Accepted) ⌝ }
-    ensures { λ r. ⌜ Fits (now (b .entry)) r ⌝ }
+    requires { ⌜ Walked Bits64 (now b) w «value_buckets» «name_buckets» × (w .answer ≡ Verdict.Accepted) ⌝ }
+    ensures { λ r. ⌜ Fits Bits64 (now (b .entry)) r ⌝ }
 {
     let attributes = region::mapped(b, w.attributes, ATTRIBUTE_SIZE);
     let nodes = region::mapped(b, w.nodes, NODE_SIZE);
@@ -178,7 +179,7 @@ fn no_view() -> View {
 
 // Refusals 1 to 6, and the view of a file that passes them.
 pub fn check_layout(b: &[u8]) -> CheckedLayout
-    ensures { λ r. ⌜ Viewed (now (b .entry)) r ⌝ }
+    ensures { λ r. ⌜ Viewed Bits64 (now (b .entry)) r ⌝ }
 {
     let mut value_buckets = [0u32; 1024];
     let mut name_buckets = [0u32; 512];

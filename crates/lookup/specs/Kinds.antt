@@ -3,6 +3,7 @@ use Prim.Native.Nat.{ℕ, _+_, _*_}
 use mathlib.Core.List.{List}
 use Rattle.layout.specs.Table.{Table, entryIndex, entrySegment, entryElement}
 use Rattle.layout.specs.Layout.{values, names}
+use Rattle.layout.specs.declared.Edition.{Edition}
 use Rattle.lookup.specs.Lookup.{indexOfText, addressOfText}
 use Rattle.lookup.specs.declared.Kind.{Kind}
 use Rattle.lookup.specs.declared.Kind.the-variants.{Name, Value}
@@ -20,9 +21,9 @@ tellsAt Name b e = entryIndex b e
 tellsAt Value b e = entrySegment b e * 65536 + entryElement b e
 
 -- The table that is asked.
-unfoldable pub tableOf : Kind → List ℕ → Table
-tableOf Name b = names b
-tableOf Value b = values b
+unfoldable pub tableOf : Edition → Kind → List ℕ → Table
+tableOf ed Name b = names ed b
+tableOf ed Value b = values ed b
 
 -- The kind of an answer: 0 found, 1 absent, 2 collided.
 unfoldable pub kindOf : Lookup → ℕ

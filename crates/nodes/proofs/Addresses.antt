@@ -19,6 +19,7 @@ use Rattle.text.specs.Text.{textIn, textAt}
 use Rattle.text.proofs.Laws.{room-fits}
 use Rattle.layout.specs.Table.{Table, entries, entrySegment, entryElement, entryAt, hashOf, segmentOf, elementOf}
 use Rattle.layout.specs.Layout.{values}
+use Rattle.layout.specs.declared.Edition.{Edition}
 use Rattle.strings.specs.Texts.{textTo, spotAt}
 use Rattle.strings.specs.Order.{allEntryChecks, stringChecks}
 use Rattle.strings.specs.declared.spot.Spot.{Spot}
@@ -100,14 +101,14 @@ spot-fits b p seg el l g z =
     let s = spot-in _ _ _ _ (sym g ∙ z) in
     omega (arith, room-fits b p seg el l (s .0), s .1, s .2)
 
-pub clean-entries : (b : List ℕ) (t : Table) → t ≡ values b → Clean (stringChecks (values b)) → Clean (allEntryChecks t)
-clean-entries b t same ok = subst (λ (u : Table). Clean (allEntryChecks u)) (sym same) (strings-parts (values b) ok .0)
+pub clean-entries : (ed : Edition) (b : List ℕ) (t : Table) → t ≡ values ed b → Clean (stringChecks (values ed b)) → Clean (allEntryChecks t)
+clean-entries ed b t same ok = subst (λ (u : Table). Clean (allEntryChecks u)) (sym same) (strings-parts (values ed b) ok .0)
 
-module _ (b : List ℕ) (q w y : ℕ) (e : w ≡ typeWord b q) (f : y ≡ typeOf w) where
-  pub other-type : (y ≡ 3 → ⊥) → Tells (TextRight b q) true
+module _ (ed : Edition) (b : List ℕ) (q w y : ℕ) (e : w ≡ typeWord b q) (f : y ≡ typeOf w) where
+  pub other-type : (y ≡ 3 → ⊥) → Tells (TextRight ed b q) true
   other-type d = tells-yes (λ z. absurd (d (sym (kind-is b q w e y f) ∙ z)))
 
-  module _ (three : y ≡ 3) (t : Table) (same : t ≡ values b) (ok : Clean (stringChecks (values b))) where
+  module _ (three : y ≡ 3) (t : Table) (same : t ≡ values ed b) (ok : Clean (stringChecks (values ed b))) where
     abbrev seg : ℕ
     seg = textSegment b q
 
@@ -115,23 +116,23 @@ module _ (b : List ℕ) (q w y : ℕ) (e : w ≡ typeWord b q) (f : y ≡ typeOf
     el = textElement b q
 
     passed : Clean (allEntryChecks t)
-    passed = clean-entries b t same ok
+    passed = clean-entries ed b t same ok
 
-    there : (P : Table → ℕ → ℕ → Type 0) → P t seg el → P (values b) seg el
+    there : (P : Table → ℕ → ℕ → Type 0) → P t seg el → P (values ed b) seg el
     there P h = subst (λ (u : Table). P u seg el) same h
 
-    back : (P : Table → ℕ → ℕ → Type 0) → P (values b) seg el → P t seg el
+    back : (P : Table → ℕ → ℕ → Type 0) → P (values ed b) seg el → P t seg el
     back P h = subst (λ (u : Table). P u seg el) (sym same) h
 
-    rule-of : TextRight b q → TextRule b q
+    rule-of : TextRight ed b q → TextRule ed b q
     rule-of r = r (kind-is b q w e y f ∙ three)
 
-    entry-of : TextRight b q → EntryAddress t seg el
+    entry-of : TextRight ed b q → EntryAddress t seg el
     entry-of r = back EntryAddress (rule-of r .entry)
 
     module _ {r : Spot} (g : r ≡ spotAt (t .bytes) (t .at) seg el) where
       -- an address that does not resolve is no entry's
-      pub text-nowhere : r ≡ Nowhere → Tells (TextRight b q) false
+      pub text-nowhere : r ≡ Nowhere → Tells (TextRight ed b q) false
       text-nowhere z = tells-no (λ u. spot-out _ _ _ _ (sym g ∙ z) (address-resolves t passed seg el (entry-of u)))
 
       module _ {x n : ℕ} (z : r ≡ At x n) where
@@ -142,7 +143,7 @@ module _ (b : List ℕ) (q w y : ℕ) (e : w ≡ typeWord b q) (f : y ≡ typeOf
             ap (λ (p : ℕ). textIn (t .bytes) p n) (s .1) ∙ ap (textIn (t .bytes) _) (s .2)
 
         module _ (a : ℕ) (m : a ≡ valueHash (textIn (t .bytes) x n)) (v : ℕ) (i : v ≡ extendedOf w) where
-          pub text-differs : (v ≡ a → ⊥) → Tells (TextRight b q) false
+          pub text-differs : (v ≡ a → ⊥) → Tells (TextRight ed b q) false
           text-differs d =
               tells-no (λ u. d (sym (extended-is b q w e v i)
               ∙ back (λ s k j. extendedOf (typeWord b q) ≡ valueHash (textTo s k j)) (rule-of u .hash)
@@ -150,7 +151,7 @@ module _ (b : List ℕ) (q w y : ℕ) (e : w ≡ typeWord b q) (f : y ≡ typeOf
 
           pub text-told : Bytes b → t .bytes ≡ b → v ≡ a → (h : ℕ) → h ≡ hashText (textIn (t .bytes) x n)
               → (k : ℕ) → (k ≡ bucketOf (t .buckets) h) × (k < t .buckets)
-              → (address : ℕ) → address ≡ valueWord b q → {o : Bool} → Meets t k h 12 address o → Tells (TextRight b q) o
+              → (address : ℕ) → address ≡ valueWord b q → {o : Bool} → Meets t k h 12 address o → Tells (TextRight ed b q) o
           text-told bytes here d h c k l address g {o} p = record {
             so = λ u s. record {
               entry = there EntryAddress (told .so u);

@@ -2,7 +2,7 @@
 -- 02: its contract will use `attribute-place-same`, `attribute-used`, `value-of-same`, `put-value` and `put-changed`. Assumes nothing.
 use Prim.Native.Nat.{ℕ, _+_, _-_, _^_, _≤_, _<_}
 use native.Mathlib.Omega.{arith}
-use mathlib.Core.Path.{_≡_, refl, ap, _∙_}
+use mathlib.Core.Path.{_≡_, ap, _∙_}
 use mathlib.Core.Logic.{_⊎_, inl, inr, ⊎-elim}
 use mathlib.Core.List.{List}
 use lib.ListN.{length}
@@ -13,8 +13,11 @@ use Rattle.words.specs.Words.{typeOf, extendedOf}
 use Rattle.region.specs.Region.{Resolves, placeOf}
 use Rattle.region.proofs.Laws.{range-each, place-fits}
 use Rattle.region.proofs.Agree.{alike-back, place-same, place-from, place-within, places-apart, start-behind, resolves-same, reaches-same}
-use Rattle.layout.specs.Layout.{attributeSize, nodeSize, attributesAt, nodesAt, valuesAt, values, LaidOut}
+use Rattle.layout.specs.Edition.{attributeSize, nodeSize}
+use Rattle.layout.specs.Layout.{attributesAt, nodesAt, valuesAt, values, LaidOut}
+use Rattle.layout.specs.declared.Edition.{Edition}
 use Rattle.layout.proofs.Agree.{Inside, alike-file, nodes-behind, values-behind}
+use Rattle.layout.proofs.Sizes.{attribute-least}
 use Rattle.strings.proofs.Agree.{text-to-same, address-same}
 use Rattle.keys.proofs.Agree.{name-count-same, bears-same, bears-back}
 use Rattle.nodes.specs.Node.{nodeName, keyWord, attributeField, childField, attributeSegment, attributeElement, childSegment, childElement, Live, attributeCount, childCount, nodeAt, attributeAt, childAt}
@@ -23,19 +26,19 @@ use Rattle.nodes.specs.Rules.{RootRule, NodeRule, AttributesReach, Attri
 
 -- ---- nodes stand behind the four bytes: each field is the same
 
-module _ {b c : List ℕ} {x : ℕ} (a : Agree b c x) (h : Inside b x) where
-  pub node-at-same : (seg el : ℕ) → nodeAt c seg el ≡ nodeAt b seg el
+module _ {ed : Edition} {b c : List ℕ} {x : ℕ} (a : Agree b c x) (h : Inside ed b x) where
+  pub node-at-same : (seg el : ℕ) → nodeAt ed c seg el ≡ nodeAt ed b seg el
   unfolding nodeAt
   node-at-same seg el = rw (alike-file a h .nodes-at) (place-same (alike-file a h .nodes) seg el)
 
-  pub node-low : (seg el : ℕ) → x + 4 ≤ nodeAt b seg el
+  pub node-low : (seg el : ℕ) → x + 4 ≤ nodeAt ed b seg el
   unfolding nodeAt
-  node-low seg el = omega (arith, nodes-behind a h, place-from nodeSize b (nodesAt b) seg el, start-behind nodeSize b (nodesAt b) seg)
+  node-low seg el = omega (arith, nodes-behind a h, place-from (nodeSize ed) b (nodesAt ed b) seg el, start-behind (nodeSize ed) b (nodesAt ed b) seg)
 
-  pub node-used : (seg el : ℕ) → Resolves nodeSize b (nodesAt b) seg el → Resolves nodeSize c (nodesAt c) seg el
+  pub node-used : (seg el : ℕ) → Resolves (nodeSize ed) b (nodesAt ed b) seg el → Resolves (nodeSize ed) c (nodesAt ed c) seg el
   node-used seg el r = rw (alike-file a h .nodes-at) (resolves-same (alike-file a h .nodes) seg el r)
 
-  pub node-back : (seg el : ℕ) → Resolves nodeSize c (nodesAt c) seg el → Resolves nodeSize b (nodesAt b) seg el
+  pub node-back : (seg el : ℕ) → Resolves (nodeSize ed) c (nodesAt ed c) seg el → Resolves (nodeSize ed) b (nodesAt ed b) seg el
   node-back seg el r = resolves-same (alike-back (alike-file a h .nodes)) seg el (rw (alike-file a h .nodes-at) at r)
 
   module _ (p : ℕ) (l : x + 4 ≤ p) where
@@ -63,11 +66,11 @@ module _ {b c : List ℕ} {x : ℕ} (a : Agree b c x) (h : Inside b x) where
     unfolding attributeElement
     attribute-element-same = u16-same a _ (inr (omega arith))
 
-    pub child-segment-same : childSegment c p ≡ childSegment b p
+    pub child-segment-same : childSegment ed c p ≡ childSegment ed b p
     unfolding childSegment
     child-segment-same = u16-same a _ (inr (omega arith))
 
-    pub child-element-same : childElement c p ≡ childElement b p
+    pub child-element-same : childElement ed c p ≡ childElement ed b p
     unfolding childElement
     child-element-same = u16-same a _ (inr (omega arith))
 
@@ -79,133 +82,129 @@ module _ {b c : List ℕ} {x : ℕ} (a : Agree b c x) (h : Inside b x) where
     unfolding childCount
     child-count-same = rw (name-same, child-field-same)
 
-    pub attribute-at-same : (i : ℕ) → attributeAt c p i ≡ attributeAt b p i
+    pub attribute-at-same : (i : ℕ) → attributeAt ed c p i ≡ attributeAt ed b p i
     unfolding attributeAt
     attribute-at-same i =
         rw (alike-file a h .attributes-at, attribute-segment-same, attribute-element-same) (place-same (alike-file a h .attributes) _ _)
 
-    child-at-same : (i : ℕ) → childAt c p i ≡ childAt b p i
+    child-at-same : (i : ℕ) → childAt ed c p i ≡ childAt ed b p i
     unfolding childAt
     child-at-same i = rw (child-segment-same, child-element-same) (node-at-same _ _)
 
-    child-low : (i : ℕ) → x + 4 ≤ childAt b p i
+    child-low : (i : ℕ) → x + 4 ≤ childAt ed b p i
     unfolding childAt
     child-low i = node-low _ _
 
     live-back : Live c p → Live b p
     live-back v z = v (name-same ∙ z)
 
-    reach-same : AttributesReach b p → AttributesReach c p
+    reach-same : AttributesReach ed b p → AttributesReach ed c p
     reach-same g =
         rw (alike-file a h .attributes-at, attribute-segment-same, attribute-element-same, attribute-count-same)
         (reaches-same (alike-file a h .attributes) _ _ _ g)
 
-    root-same : RootRule b p → RootRule c p
+    root-same : RootRule ed b p → RootRule ed c p
     root-same g = record { named = rw name-same (bears-same a h (g .named)); bare = attribute-field-same ∙ g .bare }
 
   module _ (p : ℕ) (l : x + 4 ≤ p) where
-    child-live : (i : ℕ) → Live c (childAt c p i) → Live b (childAt b p i)
-    child-live i v = live-back (childAt b p i) (child-low p l i) (rw (child-at-same p l i) at v)
+    child-live : (i : ℕ) → Live c (childAt ed c p i) → Live b (childAt ed b p i)
+    child-live i v = live-back (childAt ed b p i) (child-low p l i) (rw (child-at-same p l i) at v)
 
-    child-rule : ChildRule b p → ChildRule c p
+    child-rule : ChildRule ed b p → ChildRule ed c p
     child-rule g =
         record {
           reach = rw (alike-file a h .nodes-at, child-segment-same p l, child-element-same p l, child-count-same p l)
               (reaches-same (alike-file a h .nodes) _ _ _ (g .reach));
           rising = λ j m i n v w.
-              rw (child-at-same p l i, child-at-same p l j, name-same (childAt b p i) (child-low p l i), name-same (childAt b p j) (child-low p l j))
+              rw (child-at-same p l i, child-at-same p l j, name-same (childAt ed b p i) (child-low p l i), name-same (childAt ed b p j) (child-low p l j))
               (g .rising j (rw (child-count-same p l) at m) i n (child-live i v) (child-live j w));
         }
 
   module _ (seg el : ℕ) where
-    node-live : Live c (nodeAt c seg el) → Live b (nodeAt b seg el)
-    node-live v = live-back (nodeAt b seg el) (node-low seg el) (rw (node-at-same seg el) at v)
+    node-live : Live c (nodeAt ed c seg el) → Live b (nodeAt ed b seg el)
+    node-live v = live-back (nodeAt ed b seg el) (node-low seg el) (rw (node-at-same seg el) at v)
 
-    node-rule : NodeRule b seg el → NodeRule c seg el
+    node-rule : NodeRule ed b seg el → NodeRule ed c seg el
     node-rule g =
         record {
-          root = λ s e. rw (node-at-same seg el) (root-same (nodeAt b seg el) (node-low seg el) (g .root s e));
-          name = rw (node-at-same seg el, name-same (nodeAt b seg el) (node-low seg el), name-count-same a h) (g .name);
-          flags = λ v. rw (node-at-same seg el, key-word-same (nodeAt b seg el) (node-low seg el)) (g .flags (node-live v));
-          key = λ v. rw (node-at-same seg el, key-word-same (nodeAt b seg el) (node-low seg el), alike-file a h .keys) (g .key (node-live v));
+          root = λ s e. rw (node-at-same seg el) (root-same (nodeAt ed b seg el) (node-low seg el) (g .root s e));
+          name = rw (node-at-same seg el, name-same (nodeAt ed b seg el) (node-low seg el), name-count-same a h) (g .name);
+          flags = λ v. rw (node-at-same seg el, key-word-same (nodeAt ed b seg el) (node-low seg el)) (g .flags (node-live v));
+          key = λ v. rw (node-at-same seg el, key-word-same (nodeAt ed b seg el) (node-low seg el), alike-file a h .keys) (g .key (node-live v));
         }
 
 -- ---- attributes
 
 -- the offset of attribute seg:el
-abbrev pub attributePlace : List ℕ → ℕ → ℕ → ℕ
-attributePlace b seg el = placeOf attributeSize b (attributesAt b) seg el
+abbrev pub attributePlace : Edition → List ℕ → ℕ → ℕ → ℕ
+attributePlace ed b seg el = placeOf (attributeSize ed) b (attributesAt b) seg el
 
 -- c is b with another value in attribute seg:el, which is used and of type 1; where it is a truth, the new value is 0 or 1
-pub record Changed (b c : List ℕ) (seg el : ℕ) : Type 0 where
-  pub agree : Agree b c (attributePlace b seg el + 4)
-  pub used : Resolves attributeSize b (attributesAt b) seg el
-  pub whole : typeOf (typeWord b (attributePlace b seg el)) ≡ 1
-  pub truth : extendedOf (typeWord b (attributePlace b seg el)) ≡ 1 → valueWord c (attributePlace b seg el) ≤ 1
+pub record Changed (ed : Edition) (b c : List ℕ) (seg el : ℕ) : Type 0 where
+  pub agree : Agree b c (attributePlace ed b seg el + 4)
+  pub used : Resolves (attributeSize ed) b (attributesAt b) seg el
+  pub whole : typeOf (typeWord b (attributePlace ed b seg el)) ≡ 1
+  pub truth : extendedOf (typeWord b (attributePlace ed b seg el)) ≡ 1 → valueWord c (attributePlace ed b seg el) ≤ 1
 
-twelve : attributeSize ≡ 12
-unfolding attributeSize
-twelve = refl
-
-module _ {b c : List ℕ} {seg el : ℕ} (g : LaidOut b) (d : Changed b c seg el) where
-  pub inside : Inside b (attributePlace b seg el + 4)
+module _ {ed : Edition} {b c : List ℕ} {seg el : ℕ} (g : LaidOut ed b) (d : Changed ed b c seg el) where
+  pub inside : Inside ed b (attributePlace ed b seg el + 4)
   inside =
       record {
         segment = seg;
         seg-in = d .used .seg-in;
-        from = omega (arith, place-from attributeSize b (attributesAt b) seg el);
-        till = omega (arith, twelve, place-within (g .attributes) seg el (d .used));
+        from = omega (arith, place-from (attributeSize ed) b (attributesAt b) seg el);
+        till = omega (arith, attribute-least ed, place-within (g .attributes) seg el (d .used));
       }
 
   -- every attribute keeps its offset, and is used as before
-  pub attribute-place-same : (s e : ℕ) → attributePlace c s e ≡ attributePlace b s e
+  pub attribute-place-same : (s e : ℕ) → attributePlace ed c s e ≡ attributePlace ed b s e
   attribute-place-same s e = rw (alike-file (d .agree) inside .attributes-at) (place-same (alike-file (d .agree) inside .attributes) s e)
 
-  pub attribute-used : (s e : ℕ) → Resolves attributeSize b (attributesAt b) s e → Resolves attributeSize c (attributesAt c) s e
+  pub attribute-used : (s e : ℕ) → Resolves (attributeSize ed) b (attributesAt b) s e → Resolves (attributeSize ed) c (attributesAt c) s e
   attribute-used s e r = rw (alike-file (d .agree) inside .attributes-at) (resolves-same (alike-file (d .agree) inside .attributes) s e r)
 
   -- a used attribute is the changed one, or shares no byte with the changed value
-  apart : (s e : ℕ) → Resolves attributeSize b (attributesAt b) s e
-      → (attributePlace b s e ≡ attributePlace b seg el) ⊎ Off (attributePlace b seg el + 4) (attributePlace b s e) 8
+  apart : (s e : ℕ) → Resolves (attributeSize ed) b (attributesAt b) s e
+      → (attributePlace ed b s e ≡ attributePlace ed b seg el) ⊎ Off (attributePlace ed b seg el + 4) (attributePlace ed b s e) 8
   apart s e r =
       ⊎-elim
       (λ q. inl (rw (q .0, q .1)))
-      (λ q. inr (⊎-elim (λ m. inl (omega (arith, twelve))) (λ m. inr (omega (arith, twelve))) q))
+      (λ q. inr (⊎-elim (λ m. inl (omega (arith, attribute-least ed))) (λ m. inr (omega (arith, attribute-least ed))) q))
       (places-apart (g .attributes) s e seg el r (d .used))
 
-  module _ (s e : ℕ) (r : Resolves attributeSize b (attributesAt b) s e) where
-    fields-off : Off (attributePlace b seg el + 4) (attributePlace b s e) 4
+  module _ (s e : ℕ) (r : Resolves (attributeSize ed) b (attributesAt b) s e) where
+    fields-off : Off (attributePlace ed b seg el + 4) (attributePlace ed b s e) 4
     fields-off = ⊎-elim (λ q. inl (omega arith)) (λ q. ⊎-elim (λ m. inl (omega arith)) (λ m. inr m) q) (apart s e r)
 
-    attribute-name-same : attributeName c (attributePlace b s e) ≡ attributeName b (attributePlace b s e)
+    attribute-name-same : attributeName c (attributePlace ed b s e) ≡ attributeName b (attributePlace ed b s e)
     unfolding attributeName
     attribute-name-same = u16-same (d .agree) _ (⊎-elim (λ q. inl (omega arith)) (λ q. inr q) fields-off)
 
-    pub type-word-same : typeWord c (attributePlace b s e) ≡ typeWord b (attributePlace b s e)
+    pub type-word-same : typeWord c (attributePlace ed b s e) ≡ typeWord b (attributePlace ed b s e)
     unfolding typeWord
     type-word-same = u16-same (d .agree) _ (⊎-elim (λ q. inl (omega arith)) (λ q. inr (omega arith)) fields-off)
 
-    module _ (q : Off (attributePlace b seg el + 4) (attributePlace b s e) 8) where
-      value-off : Off (attributePlace b seg el + 4) (attributePlace b s e + 4) 4
+    module _ (q : Off (attributePlace ed b seg el + 4) (attributePlace ed b s e) 8) where
+      value-off : Off (attributePlace ed b seg el + 4) (attributePlace ed b s e + 4) 4
       value-off = ⊎-elim (λ m. inl (omega arith)) (λ m. inr (omega arith)) q
 
-      value-same : valueWord c (attributePlace b s e) ≡ valueWord b (attributePlace b s e)
+      value-same : valueWord c (attributePlace ed b s e) ≡ valueWord b (attributePlace ed b s e)
       unfolding valueWord
       value-same = u32-same (d .agree) _ value-off
 
-      segment-same : textSegment c (attributePlace b s e) ≡ textSegment b (attributePlace b s e)
+      segment-same : textSegment c (attributePlace ed b s e) ≡ textSegment b (attributePlace ed b s e)
       unfolding textSegment
       segment-same = u16-same (d .agree) _ (⊎-elim (λ m. inl (omega arith)) inr value-off)
 
-      element-same : textElement c (attributePlace b s e) ≡ textElement b (attributePlace b s e)
+      element-same : textElement c (attributePlace ed b s e) ≡ textElement b (attributePlace ed b s e)
       unfolding textElement
       element-same = u16-same (d .agree) _ (⊎-elim (λ m. inl (omega arith)) (λ m. inr (omega arith)) value-off)
 
-    truth-same : extendedOf (typeWord b (attributePlace b s e)) ≡ 1 → valueWord b (attributePlace b s e) ≤ 1 → valueWord c (attributePlace b s e) ≤ 1
+    truth-same : extendedOf (typeWord b (attributePlace ed b s e)) ≡ 1 → valueWord b (attributePlace ed b s e) ≤ 1 → valueWord c (attributePlace ed b s e) ≤ 1
     truth-same z v = ⊎-elim (λ q. rw q (d .truth (rw q at z))) (λ q. rw (value-same q) v) (apart s e r)
 
     -- an attribute at another place keeps its value
-    pub value-of-same : (attributePlace b s e ≡ attributePlace b seg el → ⊥) → valueOf c (attributePlace b s e) ≡ valueOf b (attributePlace b s e)
+    pub value-of-same : (attributePlace ed b s e ≡ attributePlace ed b seg el → ⊥) → valueOf c (attributePlace ed b s e) ≡ valueOf b (attributePlace ed b s e)
     unfolding valueOf
     value-of-same f =
         ⊎-elim
@@ -213,7 +212,7 @@ module _ {b c : List ℕ} {seg el : ℕ} (g : LaidOut b) (d : Changed b c seg el
         (λ q. rw (type-word-same, value-same q, segment-same q, element-same q))
         (apart s e r)
 
-    typed-same : Typed b (attributePlace b s e) → Typed c (attributePlace b s e)
+    typed-same : Typed b (attributePlace ed b s e) → Typed c (attributePlace ed b s e)
     unfolding Typed
     typed-same t =
         rw type-word-same
@@ -222,42 +221,42 @@ module _ {b c : List ℕ} {seg el : ℕ} (g : LaidOut b) (d : Changed b c seg el
         inr
         t)
 
-    text-right : TextRight b (attributePlace b s e) → TextRight c (attributePlace b s e)
+    text-right : TextRight ed b (attributePlace ed b s e) → TextRight ed c (attributePlace ed b s e)
     unfolding values
     text-right t z =
-        let y : typeOf (typeWord b (attributePlace b s e)) ≡ 3 = rw type-word-same at z in
+        let y : typeOf (typeWord b (attributePlace ed b s e)) ≡ 3 = rw type-word-same at z in
         ⊎-elim
-        (λ q. absurd (let w = d .whole in let v : typeOf (typeWord b (attributePlace b seg el)) ≡ 3 = rw q at y in omega arith))
+        (λ q. absurd (let w = d .whole in let v : typeOf (typeWord b (attributePlace ed b seg el)) ≡ 3 = rw q at y in omega arith))
         (λ q. record {
           entry = rw (segment-same q, element-same q, alike-file (d .agree) inside .values-at)
-              (address-same (d .agree) (valuesAt b) 1024 (values-behind (d .agree) inside) _ _ (t y .entry));
-          hash = rw (type-word-same, segment-same q, element-same q, alike-file (d .agree) inside .values-at, text-to-same (d .agree) (valuesAt b) 1024 (values-behind (d .agree) inside))
+              (address-same (d .agree) (valuesAt ed b) 1024 (values-behind (d .agree) inside) _ _ (t y .entry));
+          hash = rw (type-word-same, segment-same q, element-same q, alike-file (d .agree) inside .values-at, text-to-same (d .agree) (valuesAt ed b) 1024 (values-behind (d .agree) inside))
               (t y .hash);
         })
         (apart s e r)
 
   -- ---- the attributes of a node
-  module _ (p : ℕ) (l : attributePlace b seg el + 4 + 4 ≤ p) (reach : AttributesReach b p) where
-    reached : (i : ℕ) → i < attributeCount b p → Resolves attributeSize b (attributesAt b) (attributeSegment b p) (attributeElement b p + i)
-    reached i m = ⊎-elim (λ z. absurd (omega arith)) (λ k. range-each attributeSize b (attributesAt b) _ _ _ i k m) reach
+  module _ (p : ℕ) (l : attributePlace ed b seg el + 4 + 4 ≤ p) (reach : AttributesReach ed b p) where
+    reached : (i : ℕ) → i < attributeCount b p → Resolves (attributeSize ed) b (attributesAt b) (attributeSegment b p) (attributeElement b p + i)
+    reached i m = ⊎-elim (λ z. absurd (omega arith)) (λ k. range-each (attributeSize ed) b (attributesAt b) _ _ _ i k m) reach
 
-    name-at-same : (i : ℕ) → i < attributeCount b p → attributeName c (attributeAt c p i) ≡ attributeName b (attributeAt b p i)
+    name-at-same : (i : ℕ) → i < attributeCount b p → attributeName c (attributeAt ed c p i) ≡ attributeName b (attributeAt ed b p i)
     unfolding attributeAt
     name-at-same i m = ap (attributeName c) (attribute-at-same (d .agree) inside p l i) ∙ attribute-name-same _ _ (reached i m)
 
-    type-at-same : (i : ℕ) → i < attributeCount b p → typeWord c (attributeAt c p i) ≡ typeWord b (attributeAt b p i)
+    type-at-same : (i : ℕ) → i < attributeCount b p → typeWord c (attributeAt ed c p i) ≡ typeWord b (attributeAt ed b p i)
     unfolding attributeAt
     type-at-same i m = ap (typeWord c) (attribute-at-same (d .agree) inside p l i) ∙ type-word-same _ _ (reached i m)
 
-    typed-at : (i : ℕ) → i < attributeCount b p → Typed b (attributeAt b p i) → Typed c (attributeAt b p i)
+    typed-at : (i : ℕ) → i < attributeCount b p → Typed b (attributeAt ed b p i) → Typed c (attributeAt ed b p i)
     unfolding attributeAt
     typed-at i m t = typed-same _ _ (reached i m) t
 
-    text-at : (i : ℕ) → i < attributeCount b p → TextRight b (attributeAt b p i) → TextRight c (attributeAt b p i)
+    text-at : (i : ℕ) → i < attributeCount b p → TextRight ed b (attributeAt ed b p i) → TextRight ed c (attributeAt ed b p i)
     unfolding attributeAt
     text-at i m t = text-right _ _ (reached i m) t
 
-    attribute-rule : (i : ℕ) → i < attributeCount b p → AttributeRule b p i → AttributeRule c p i
+    attribute-rule : (i : ℕ) → i < attributeCount b p → AttributeRule ed b p i → AttributeRule ed c p i
     attribute-rule i m k =
         record {
           low = rw (name-at-same i m) (k .low);
@@ -267,22 +266,22 @@ module _ {b c : List ℕ} {seg el : ℕ} (g : LaidOut b) (d : Changed b c seg el
           value = λ w. rw (type-at-same i m) (k .value (bears-back (d .agree) inside (rw (name-at-same i m) at w)));
         }
 
-  node-rules : (s e : ℕ) → NodeRules b s e → NodeRules c s e
+  node-rules : (s e : ℕ) → NodeRules ed b s e → NodeRules ed c s e
   node-rules s e k =
       let a = d .agree in
-      let p = nodeAt b s e in
+      let p = nodeAt ed b s e in
       let l = node-low a inside s e in
       record {
         node = node-rule a inside s e (k .node);
         attributes = rw (node-at-same a inside s e) (reach-same a inside p l (k .attributes));
-        attribute = λ i m. let n : i < attributeCount b (nodeAt b s e) = rw (node-at-same a inside s e, attribute-count-same a inside (nodeAt b s e) l) at m in
+        attribute = λ i m. let n : i < attributeCount b (nodeAt ed b s e) = rw (node-at-same a inside s e, attribute-count-same a inside (nodeAt ed b s e) l) at m in
             rw (node-at-same a inside s e) (attribute-rule p l (k .attributes) i n (k .attribute i n));
-        text = λ i m. let n : i < attributeCount b (nodeAt b s e) = rw (node-at-same a inside s e, attribute-count-same a inside (nodeAt b s e) l) at m in
-            rw (node-at-same a inside s e, attribute-at-same a inside (nodeAt b s e) l i) (text-at p l (k .attributes) i n (k .text i n));
+        text = λ i m. let n : i < attributeCount b (nodeAt ed b s e) = rw (node-at-same a inside s e, attribute-count-same a inside (nodeAt ed b s e) l) at m in
+            rw (node-at-same a inside s e, attribute-at-same a inside (nodeAt ed b s e) l i) (text-at p l (k .attributes) i n (k .text i n));
         children = rw (node-at-same a inside s e) (child-rule a inside p l (k .children));
       }
 
-  pub nodes-rules : NodesRules b → NodesRules c
+  pub nodes-rules : NodesRules ed b → NodesRules ed c
   nodes-rules k =
       record {
         root = node-used (d .agree) inside 0 0 (k .root);
@@ -291,15 +290,15 @@ module _ {b c : List ℕ} {seg el : ℕ} (g : LaidOut b) (d : Changed b c seg el
 
 -- ---- writing a word as the value is such a change
 
-module _ (b : List ℕ) (g : LaidOut b) (seg el : ℕ) (r : Resolves attributeSize b (attributesAt b) seg el) where
-  pub value-fits : attributePlace b seg el + 4 + 4 ≤ length b
-  value-fits = omega (arith, twelve, place-fits attributeSize b (attributesAt b) (g .attributes) seg el r)
+module _ (ed : Edition) (b : List ℕ) (g : LaidOut ed b) (seg el : ℕ) (r : Resolves (attributeSize ed) b (attributesAt b) seg el) where
+  pub value-fits : attributePlace ed b seg el + 4 + 4 ≤ length b
+  value-fits = omega (arith, attribute-least ed, place-fits (attributeSize ed) b (attributesAt b) (g .attributes) seg el r)
 
-  pub put-value : (w : ℕ) → w < 2 ^ 32 → valueWord (splice b (attributePlace b seg el + 4) (le4 w)) (attributePlace b seg el) ≡ w
+  pub put-value : (w : ℕ) → w < 2 ^ 32 → valueWord (splice b (attributePlace ed b seg el + 4) (le4 w)) (attributePlace ed b seg el) ≡ w
   unfolding valueWord
   put-value w l = put-read b _ value-fits w l
 
-  pub put-changed : (w : ℕ) → w < 2 ^ 32 → typeOf (typeWord b (attributePlace b seg el)) ≡ 1
-      → (extendedOf (typeWord b (attributePlace b seg el)) ≡ 1 → w ≤ 1) → Changed b (splice b (attributePlace b seg el + 4) (le4 w)) seg el
+  pub put-changed : (w : ℕ) → w < 2 ^ 32 → typeOf (typeWord b (attributePlace ed b seg el)) ≡ 1
+      → (extendedOf (typeWord b (attributePlace ed b seg el)) ≡ 1 → w ≤ 1) → Changed ed b (splice b (attributePlace ed b seg el + 4) (le4 w)) seg el
   put-changed w l t f =
       record { agree = put-agree b _ value-fits w; used = r; whole = t; truth = λ z. rw (put-value w l) (f z) }

@@ -12,7 +12,7 @@ use Rattle.words.specs.Words.{typeOf, extendedOf}
 use Rattle.nodes.specs.declared.value.Value.{Value}
 use Rattle.nodes.specs.declared.value.Value.the-variants.{Whole, Truth, Float, Text}
 
--- Name u16, type word u16, 4 value bytes, 4 ignored bytes.
+-- Name u16, type word u16, 4 value bytes. In 64 bit 4 ignored bytes follow.
 unfoldable pub attributeName : List ℕ → ℕ → ℕ
 attributeName b q = u16At b q
 

@@ -5,6 +5,7 @@ ghost use Rattle.hash.specs.inner.Tables.{Tables};
 ghost use Rattle.memo.specs.inner.Memo.{Remembers};
 ghost use Rattle.nodes.specs.inner.Doubts.{AllTrusted, NoDoubt};
 ghost use Rattle.verdict.specs.inner.Tells.{Sure};
+ghost use Rattle.layout.specs.declared.Edition.the-variants.{Bits64};
 ghost use Rattle.nodes.specs.Order.{allNodeChecks};
 ghost use Rattle.nodes.specs.inner.Held.{Ready};
 ghost use Rattle.nodes.specs.inner.Noted.{noted};
@@ -29,9 +30,9 @@ pub fn check_nodes(
     doubts: &[u32; 4096],
     memo: &mut [u32; 3072],
 ) -> Verdict
-    requires { ⌜ Tables (now t) × Ready (now b) p names (now «attribute_segments») (now «node_segments») (now «value_segments») (now «value_buckets»)
-        × Sure (NoDoubt (now doubts)) known × AllTrusted (now b) (now doubts) × Remembers (noted (now b)) (now memo) ⌝ }
-    ensures answer { λ r. ⌜ r ≡ firstFault (allNodeChecks (now (b .entry))) ⌝ }
+    requires { ⌜ Tables (now t) × Ready Bits64 (now b) p names (now «attribute_segments») (now «node_segments») (now «value_segments») (now «value_buckets»)
+        × Sure (NoDoubt (now doubts)) known × AllTrusted Bits64 (now b) (now doubts) × Remembers (noted (now b)) (now memo) ⌝ }
+    ensures answer { λ r. ⌜ r ≡ firstFault (allNodeChecks Bits64 (now (b .entry))) ⌝ }
     ensures memo { λ _. ⌜ Remembers (noted (now (b .entry))) (now (memo .exit)) ⌝ }
 {
     let nodes = p.nodes;

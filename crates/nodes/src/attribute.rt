@@ -7,7 +7,9 @@ ghost use Rattle.verdict.specs.inner.Tells.{Tells, Sure};
 ghost use Rattle.verdict.specs.declared.Verdict.the-variants.{Accepted};
 ghost use Rattle.hash.specs.inner.Tables.{Tables};
 ghost use Rattle.memo.specs.inner.Memo.{Remembers};
+ghost use Rattle.layout.specs.Edition.{attributeSize};
 ghost use Rattle.layout.specs.Layout.{values};
+ghost use Rattle.layout.specs.declared.Edition.the-variants.{Bits64};
 ghost use Rattle.strings.specs.Order.{stringChecks};
 ghost use Rattle.strings.specs.inner.Held.{Held, heldTable};
 ghost use Rattle.keys.specs.inner.Known.{Known};
@@ -30,7 +32,7 @@ use verdict::Verdict;
 
 // Whether type, extended code and truth word of the attribute at q are right.
 fn typed(b: &[u8], q: usize) -> bool
-    requires { ⌜ q + 12 ≤ length (now b) ⌝ }
+    requires { ⌜ q + attributeSize Bits64 ≤ length (now b) ⌝ }
     ensures { λ r. ⌜ Tells (Typed (now (b .entry)) q) r ⌝ }
 {
     let word = fields::type_word(b, q);
@@ -51,8 +53,8 @@ fn typed(b: &[u8], q: usize) -> bool
 
 // Whether refusal 18 is not due to attribute i of the node at p, which stands at q.
 fn attribute_right(b: &[u8], names: Names, p: usize, i: usize, q: usize) -> bool
-    requires { ⌜ Known (now b) names × (q ≡ attributeAt (now b) p i) × (q + 12 ≤ length (now b)) ⌝ }
-    ensures { λ r. ⌜ Tells (AttributeRule (now (b .entry)) p i) r ⌝ }
+    requires { ⌜ Known Bits64 (now b) names × (q ≡ attributeAt Bits64 (now b) p i) × (q + attributeSize Bits64 ≤ length (now b)) ⌝ }
+    ensures { λ r. ⌜ Tells (AttributeRule Bits64 (now (b .entry)) p i) r ⌝ }
 {
     let name = fields::attribute_name(b, q);
     if name == 0 {
@@ -85,9 +87,9 @@ pub fn text_right(
     q: usize,
     memo: &mut [u32; 3072],
 ) -> bool
-    requires { ⌜ Tables (now t) × Held (now b) s (now segments) (now buckets) × (heldTable (now b) s (now buckets) ≡ values (now b))
-        × (firstFault (stringChecks (values (now b))) ≡ Accepted) × (q + 12 ≤ length (now b)) × Remembers (noted (now b)) (now memo) ⌝ }
-    ensures answer { λ r. ⌜ Tells (TextRight (now (b .entry)) q) r ⌝ }
+    requires { ⌜ Tables (now t) × Held (now b) s (now segments) (now buckets) × (heldTable (now b) s (now buckets) ≡ values Bits64 (now b))
+        × (firstFault (stringChecks (values Bits64 (now b))) ≡ Accepted) × (q + attributeSize Bits64 ≤ length (now b)) × Remembers (noted (now b)) (now memo) ⌝ }
+    ensures answer { λ r. ⌜ Tells (TextRight Bits64 (now (b .entry)) q) r ⌝ }
     ensures memo { λ _. ⌜ Remembers (noted (now (b .entry))) (now (memo .exit)) ⌝ }
 {
     let word = fields::type_word(b, q);
@@ -126,10 +128,10 @@ fn text_passes(
     doubts: &[u32; 4096],
     memo: &mut [u32; 3072],
 ) -> bool
-    requires { ⌜ Tables (now t) × Held (now b) s (now segments) (now buckets) × (heldTable (now b) s (now buckets) ≡ values (now b))
-        × (firstFault (stringChecks (values (now b))) ≡ Accepted) × (q + 12 ≤ length (now b)) × Sure (NoDoubt (now doubts)) known
-        × Trusted (now b) (now doubts) q × Remembers (noted (now b)) (now memo) ⌝ }
-    ensures answer { λ r. ⌜ Tells (TextRight (now (b .entry)) q) r ⌝ }
+    requires { ⌜ Tables (now t) × Held (now b) s (now segments) (now buckets) × (heldTable (now b) s (now buckets) ≡ values Bits64 (now b))
+        × (firstFault (stringChecks (values Bits64 (now b))) ≡ Accepted) × (q + attributeSize Bits64 ≤ length (now b)) × Sure (NoDoubt (now doubts)) known
+        × Trusted Bits64 (now b) (now doubts) q × Remembers (noted (now b)) (now memo) ⌝ }
+    ensures answer { λ r. ⌜ Tells (TextRight Bits64 (now (b .entry)) q) r ⌝ }
     ensures memo { λ _. ⌜ Remembers (noted (now (b .entry))) (now (memo .exit)) ⌝ }
 {
     if known {
@@ -156,11 +158,11 @@ pub fn check_attributes(
     doubts: &[u32; 4096],
     memo: &mut [u32; 3072],
 ) -> Verdict
-    requires { ⌜ Tables (now t) × Known (now b) names × Held (now b) s (now segments) (now buckets)
-        × (heldTable (now b) s (now buckets) ≡ values (now b)) × (firstFault (stringChecks (values (now b))) ≡ Accepted) ⌝ }
-    requires { ⌜ (n ≡ attributeCount (now b) p) × (a ≡ attributeAt (now b) p 0) × (a + n * 12 ≤ length (now b)) × Sure (NoDoubt (now doubts)) known
-        × ((i : ℕ) → i < n → Trusted (now b) (now doubts) (attributeAt (now b) p i)) × Remembers (noted (now b)) (now memo) ⌝ }
-    ensures answer { λ r. ⌜ r ≡ firstFault (nodeAttributeChecks (now (b .entry)) p) ⌝ }
+    requires { ⌜ Tables (now t) × Known Bits64 (now b) names × Held (now b) s (now segments) (now buckets)
+        × (heldTable (now b) s (now buckets) ≡ values Bits64 (now b)) × (firstFault (stringChecks (values Bits64 (now b))) ≡ Accepted) ⌝ }
+    requires { ⌜ (n ≡ attributeCount (now b) p) × (a ≡ attributeAt Bits64 (now b) p 0) × (a + n * attributeSize Bits64 ≤ length (now b)) × Sure (NoDoubt (now doubts)) known
+        × ((i : ℕ) → i < n → Trusted Bits64 (now b) (now doubts) (attributeAt Bits64 (now b) p i)) × Remembers (noted (now b)) (now memo) ⌝ }
+    ensures answer { λ r. ⌜ r ≡ firstFault (nodeAttributeChecks Bits64 (now (b .entry)) p) ⌝ }
     ensures memo { λ _. ⌜ Remembers (noted (now (b .entry))) (now (memo .exit)) ⌝ }
 {
     let mut i = 0;

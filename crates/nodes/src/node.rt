@@ -10,7 +10,9 @@ ghost use Rattle.memo.specs.inner.Memo.{Remembers};
 ghost use Rattle.region.specs.Region.{Resolves};
 ghost use Rattle.region.specs.inner.Samples.{Mapped, Starts};
 ghost use Rattle.layout.specs.Header.{keyCount};
-ghost use Rattle.layout.specs.Layout.{attributeSize, nodeSize, attributesAt, nodesAt, values};
+ghost use Rattle.layout.specs.Edition.{attributeSize, nodeSize};
+ghost use Rattle.layout.specs.Layout.{attributesAt, nodesAt, values};
+ghost use Rattle.layout.specs.declared.Edition.the-variants.{Bits64};
 ghost use Rattle.strings.specs.Order.{stringChecks};
 ghost use Rattle.strings.specs.inner.Held.{Held, heldTable};
 ghost use Rattle.keys.specs.inner.Known.{Known};
@@ -34,8 +36,8 @@ use verdict::Verdict;
 
 // Whether refusal 16 is not due to node seg:el, which stands at p.
 fn node_right(b: &[u8], names: Names, keys: usize, seg: usize, el: usize, p: usize) -> bool
-    requires { ⌜ Known (now b) names × (keys ≡ keyCount (now b)) × (p ≡ nodeAt (now b) seg el) × (p + 24 ≤ length (now b)) ⌝ }
-    ensures { λ r. ⌜ Tells (NodeRule (now (b .entry)) seg el) r ⌝ }
+    requires { ⌜ Known Bits64 (now b) names × (keys ≡ keyCount (now b)) × (p ≡ nodeAt Bits64 (now b) seg el) × (p + nodeSize Bits64 ≤ length (now b)) ⌝ }
+    ensures { λ r. ⌜ Tells (NodeRule Bits64 (now (b .entry)) seg el) r ⌝ }
 {
     let name = fields::node_name(b, p);
     if seg + el == 0 {
@@ -61,8 +63,8 @@ fn node_right(b: &[u8], names: Names, keys: usize, seg: usize, el: usize, p: usi
 
 // Whether the name indices of the live ones among the n nodes from q on do not fall.
 fn rising(b: &[u8], q: usize, n: usize) -> bool
-    requires { ⌜ q + n * 24 ≤ length (now b) ⌝ }
-    ensures { λ r. ⌜ Tells (NamesRise (now (b .entry)) q n) r ⌝ }
+    requires { ⌜ q + n * nodeSize Bits64 ≤ length (now b) ⌝ }
+    ensures { λ r. ⌜ Tells (NamesRise Bits64 (now (b .entry)) q n) r ⌝ }
 {
     let mut last = 0;
     let mut i = 0;
@@ -81,9 +83,9 @@ fn rising(b: &[u8], q: usize, n: usize) -> bool
 
 // Whether refusal 23 is not due to the live node at p.
 fn children_right(b: &[u8], nodes: Region, segments: &[u32; 1024], p: usize) -> bool
-    requires { ⌜ Mapped nodeSize (now b) (nodesAt (now b)) nodes × Starts nodeSize (now b) (nodesAt (now b)) (nodes .shift) (now segments) ⌝ }
-    requires { ⌜ (p + 24 ≤ length (now b)) × Live (now b) p ⌝ }
-    ensures { λ r. ⌜ Tells (ChildRule (now (b .entry)) p) r ⌝ }
+    requires { ⌜ Mapped (nodeSize Bits64) (now b) (nodesAt Bits64 (now b)) nodes × Starts (nodeSize Bits64) (now b) (nodesAt Bits64 (now b)) (nodes .shift) (now segments) ⌝ }
+    requires { ⌜ (p + nodeSize Bits64 ≤ length (now b)) × Live (now b) p ⌝ }
+    ensures { λ r. ⌜ Tells (ChildRule Bits64 (now (b .entry)) p) r ⌝ }
 {
     let n = fields::child_field(b, p);
     if n == 0 {
@@ -119,12 +121,12 @@ fn check_attribute_range(
     doubts: &[u32; 4096],
     memo: &mut [u32; 3072],
 ) -> Verdict
-    requires { ⌜ Tables (now t) × Known (now b) names × Held (now b) s (now segments) (now buckets)
-        × (heldTable (now b) s (now buckets) ≡ values (now b)) × (firstFault (stringChecks (values (now b))) ≡ Accepted) ⌝ }
-    requires { ⌜ Mapped attributeSize (now b) (attributesAt (now b)) attributes
-        × Starts attributeSize (now b) (attributesAt (now b)) (attributes .shift) (now «attribute_segments») × (x + 24 ≤ length (now b)) × Live (now b) x
-        × Sure (NoDoubt (now doubts)) known × AllTrusted (now b) (now doubts) × Remembers (noted (now b)) (now memo) ⌝ }
-    ensures answer { λ r. ⌜ r ≡ firstFault (attributeRangeChecks (now (b .entry)) x) ⌝ }
+    requires { ⌜ Tables (now t) × Known Bits64 (now b) names × Held (now b) s (now segments) (now buckets)
+        × (heldTable (now b) s (now buckets) ≡ values Bits64 (now b)) × (firstFault (stringChecks (values Bits64 (now b))) ≡ Accepted) ⌝ }
+    requires { ⌜ Mapped (attributeSize Bits64) (now b) (attributesAt (now b)) attributes
+        × Starts (attributeSize Bits64) (now b) (attributesAt (now b)) (attributes .shift) (now «attribute_segments») × (x + nodeSize Bits64 ≤ length (now b)) × Live (now b) x
+        × Sure (NoDoubt (now doubts)) known × AllTrusted Bits64 (now b) (now doubts) × Remembers (noted (now b)) (now memo) ⌝ }
+    ensures answer { λ r. ⌜ r ≡ firstFault (attributeRangeChecks Bits64 (now (b .entry)) x) ⌝ }
     ensures memo { λ _. ⌜ Remembers (noted (now (b .entry))) (now (memo .exit)) ⌝ }
 {
     let n = fields::attribute_field(b, x);
@@ -176,10 +178,10 @@ pub fn check_node(
     doubts: &[u32; 4096],
     memo: &mut [u32; 3072],
 ) -> Verdict
-    requires { ⌜ Tables (now t) × Ready (now b) p names (now «attribute_segments») (now «node_segments») (now «value_segments») (now «value_buckets»)
-        × Resolves nodeSize (now b) (nodesAt (now b)) seg el × (x ≡ nodeAt (now b) seg el) × Sure (NoDoubt (now doubts)) known
-        × AllTrusted (now b) (now doubts) × Remembers (noted (now b)) (now memo) ⌝ }
-    ensures answer { λ r. ⌜ r ≡ firstFault (nodeChecks (now (b .entry)) seg el) ⌝ }
+    requires { ⌜ Tables (now t) × Ready Bits64 (now b) p names (now «attribute_segments») (now «node_segments») (now «value_segments») (now «value_buckets»)
+        × Resolves (nodeSize Bits64) (now b) (nodesAt Bits64 (now b)) seg el × (x ≡ nodeAt Bits64 (now b) seg el) × Sure (NoDoubt (now doubts)) known
+        × AllTrusted Bits64 (now b) (now doubts) × Remembers (noted (now b)) (now memo) ⌝ }
+    ensures answer { λ r. ⌜ r ≡ firstFault (nodeChecks Bits64 (now (b .entry)) seg el) ⌝ }
     ensures memo { λ _. ⌜ Remembers (noted (now (b .entry))) (now (memo .exit)) ⌝ }
 {
     if !node_right(b, names, p.keys, seg, el, x) {

@@ -21,6 +21,7 @@ use Rattle.layout.specs.Table.{table, count, positionAt, listedSegment, listedE
 use Rattle.layout.specs.Layout.{values, names}
 use Rattle.layout.specs.inner.View.{PlacesFit}
 use Rattle.layout.specs.declared.Places.{Places}
+use Rattle.layout.specs.declared.Edition.{Edition}
 use Rattle.layout.proofs.Laws.{position-fits}
 use Rattle.layout.proofs.Seen.{own-mapped}
 use Rattle.strings.specs.Texts.{textTo, listedText, spotAt}
@@ -81,51 +82,51 @@ module _ (b : List ℕ) (q : ℕ) {seg el : ℕ} (v : valueOf b q ≡ Text seg e
       sym (rw (ne-eqb (typeOf (typeWord b q)) 1 not-one, ne-eqb (typeOf (typeWord b q)) 2 not-two)) ∙ v in
       ((cc), (cc))
 
-module _ {b : List ℕ} (g : FileRules b) {p : Places} (w : PlacesFit b p) where
+module _ {ed : Edition} {b : List ℕ} (g : FileRules ed b) {p : Places} (w : PlacesFit ed b p) where
   -- ---- a name index
 
-  module _ {i x : ℕ} (low : 1 ≤ i) (high : i ≤ nameCount b) (e : x ≡ p .«name_list» + 4 * i) where
-    below : i < count (names b)
+  module _ {i x : ℕ} (low : 1 ≤ i) (high : i ≤ nameCount ed b) (e : x ≡ p .«name_list» + 4 * i) where
+    below : i < count (names ed b)
     unfolding nameCount
     below = omega arith
 
-    place : x ≡ positionAt (names b) i
+    place : x ≡ positionAt (names ed b) i
     unfolding positionAt
     place = e ∙ ap (λ (y : ℕ). y + 4 * i) (w .«name_list»)
 
     pub name-in : x + 4 ≤ length b
     unfolding names
-    name-in = omega (arith, place, position-fits (names b) (g .laid .names) i below)
+    name-in = omega (arith, place, position-fits (names ed b) (g .laid .names) i below)
 
     module _ {seg el : ℕ} (s : seg ≡ u16At b x) (l : el ≡ u16At b (x + 2)) where
-      segment-is : seg ≡ listedSegment (names b) i
+      segment-is : seg ≡ listedSegment (names ed b) i
       unfolding listedSegment names
       segment-is = s ∙ ap (u16At b) place
 
-      element-is : el ≡ listedElement (names b) i
+      element-is : el ≡ listedElement (names ed b) i
       unfolding listedElement names
       element-is = l ∙ ap (λ (y : ℕ). u16At b (y + 2)) place
 
-      resolves : Resolves 2 b (names b .at) seg el
+      resolves : Resolves 2 b (names ed b .at) seg el
       unfolding names
-      resolves = rw (segment-is, element-is) (position-resolves (names b) (strings-iff (names b) .1 (g .name-table)) i low below)
+      resolves = rw (segment-is, element-is) (position-resolves (names ed b) (strings-iff (names ed b) .1 (g .name-table)) i low below)
 
-      pub name-held : {xs : List ℕ} → NameStarts b p xs → TextHeld b (p .«name_chars») xs seg el
+      pub name-held : {xs : List ℕ} → NameStarts ed b p xs → TextHeld b (p .«name_chars») xs seg el
       name-held h = own (w .«name_chars») h resolves
 
-      pub name-text : textAt b (p .«name_chars» .at) seg el ≡ nameText b i
+      pub name-text : textAt b (p .«name_chars» .at) seg el ≡ nameText ed b i
       unfolding nameText listedText textTo names
       name-text =
           ap (λ (y : ℕ). textAt b y seg el) (w .«name_chars» .at-is)
-          ∙ ap (λ (y : ℕ). textAt b (names b .at) y el) segment-is ∙ ap (textAt b (names b .at) (listedSegment (names b) i)) element-is
+          ∙ ap (λ (y : ℕ). textAt b (names ed b .at) y el) segment-is ∙ ap (textAt b (names ed b .at) (listedSegment (names ed b) i)) element-is
 
   -- ---- a text value
 
-  module _ {q seg el : ℕ} (a : AttributeReady b q) (v : valueOf b q ≡ Text seg el) where
-    text-rule : TextRule b q
+  module _ {q seg el : ℕ} (a : AttributeReady ed b q) (v : valueOf b q ≡ Text seg el) where
+    text-rule : TextRule ed b q
     text-rule = a .text (only-text b q v (a .typed))
 
-    value-resolves : Resolves 2 b (values b .at) seg el
+    value-resolves : Resolves 2 b (values ed b .at) seg el
     unfolding values
     value-resolves =
         let t = text-rule .entry in
@@ -133,10 +134,10 @@ module _ {b : List ℕ} (g : FileRules b) {p : Places} (w : PlacesFit b p) where
         let z = text-of b q v in
         rw (z .0, z .1, ← k .2 .0, ← k .2 .1) (g .value-table .entry _ _ (t .1) (k .1) .resolved)
 
-    pub value-held : {xs : List ℕ} → ValueStarts b p xs → TextHeld b (p .«value_chars») xs seg el
+    pub value-held : {xs : List ℕ} → ValueStarts ed b p xs → TextHeld b (p .«value_chars») xs seg el
     value-held h = own (w .«value_chars») h value-resolves
 
-    pub value-text : textAt b (p .«value_chars» .at) seg el ≡ textTo (values b) seg el
+    pub value-text : textAt b (p .«value_chars» .at) seg el ≡ textTo (values ed b) seg el
     unfolding textTo values
     value-text = ap (λ (y : ℕ). textAt b y seg el) (w .«value_chars» .at-is)
 

@@ -7,6 +7,7 @@ use lib.ListN.{length, drop}
 use Rattle.verdict.specs.declared.Verdict.the-variants.{Accepted, Refused}
 use Rattle.verdict.proofs.Laws.{never, pass, stop, fault-none}
 use Rattle.layout.specs.declared.Places.{Places}
+use Rattle.layout.specs.declared.Edition.{Edition}
 use Rattle.nodes.specs.Node.{Live, nodeName}
 use Rattle.tree.specs.File.{nodeOf, Used}
 use Rattle.accept.specs.Rules.{FileRules}
@@ -21,11 +22,11 @@ use Rattle.outline.proofs.Fits.{outline-fits}
 
 -- ---- the root is live
 
-module _ {b : List ℕ} {p : Places} {xs ns vs ms : List ℕ} (r : OutlineReady b p xs ns vs ms) where
-  pub root-used : Used b 0
+module _ {ed : Edition} {b : List ℕ} {p : Places} {xs ns vs ms : List ℕ} (r : OutlineReady ed b p xs ns vs ms) where
+  pub root-used : Used ed b 0
   root-used = r .line .rules .nodes .root
 
-  pub root-live : {x : ℕ} → x ≡ nodeOf b 0 → Live b x
+  pub root-live : {x : ℕ} → x ≡ nodeOf ed b 0 → Live b x
   unfolding nodeOf
   root-live e z =
       let k = r .line .rules .nodes .each 0 0 (r .line .rules .nodes .root) .node .root refl refl .named .low in
@@ -34,20 +35,20 @@ module _ {b : List ℕ} {p : Places} {xs ns vs ms : List ℕ} (r : OutlineReady 
 -- ---- the ways out
 
 -- the answer, and what is left in the buffer
-abbrev pub Answered : List ℕ → List ℕ → Outlined → List ℕ → Type 0
-Answered b out r out′ = OutlineWritten b (length out) r × (out′ ≡ outlineAfter b out (r .answer))
+abbrev pub Answered : Edition → List ℕ → List ℕ → Outlined → List ℕ → Type 0
+Answered ed b out r out′ = OutlineWritten ed b (length out) r × (out′ ≡ outlineAfter ed b out (r .answer))
 
-module _ {b : List ℕ} (g : FileRules b) where
-  pub length-told : {d d′ : List ℕ} {n : ℕ} → Put d 0 (block b 63 0 0) n d′ → n ≡ length (outlineOf b)
+module _ {ed : Edition} {b : List ℕ} (g : FileRules ed b) where
+  pub length-told : {d d′ : List ℕ} {n : ℕ} → Put d 0 (block ed b 63 0 0) n d′ → n ≡ length (outlineOf ed b)
   unfolding outlineOf
-  length-told w = put-length w (omega (arith, outline-fits b g))
+  length-told w = put-length w (omega (arith, outline-fits ed b g))
 
   module _ (out : List ℕ) where
-    whole : {k : ℕ} {d : List ℕ} → Put out 0 (block b 63 0 0) k d → length (outlineOf b) ≤ length out → d ≡ outlineOf b ++ drop (length (outlineOf b)) out
+    whole : {k : ℕ} {d : List ℕ} → Put out 0 (block ed b 63 0 0) k d → length (outlineOf ed b) ≤ length out → d ≡ outlineOf ed b ++ drop (length (outlineOf ed b)) out
     unfolding outlineOf
     whole v l = put-front v l
 
-    pub too-long : {n : ℕ} → n ≡ length (outlineOf b) → length out < n → Answered b out (record { answer = Refused 26 n; length = 0 }) out
+    pub too-long : {n : ℕ} → n ≡ length (outlineOf ed b) → length out < n → Answered ed b out (record { answer = Refused 26 n; length = 0 }) out
     unfolding outlineAfter outlineChecks
     too-long {n} e h = (
       record {
@@ -58,8 +59,8 @@ module _ {b : List ℕ} (g : FileRules b) where
       refl,
     )
 
-    pub all-written : {n m : ℕ} {out′ : List ℕ} → n ≡ length (outlineOf b) → n ≤ length out → Put out 0 (block b 63 0 0) m out′
-        → Answered b out (record { answer = Accepted; length = m }) out′
+    pub all-written : {n m : ℕ} {out′ : List ℕ} → n ≡ length (outlineOf ed b) → n ≤ length out → Put out 0 (block ed b 63 0 0) m out′
+        → Answered ed b out (record { answer = Accepted; length = m }) out′
     unfolding outlineAfter outlineChecks
     all-written {n} e h w = (
       record {

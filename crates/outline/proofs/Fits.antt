@@ -9,7 +9,10 @@ use lib.ListN.{length, length-append, length-map}
 use Rattle.laws.proofs.Pigeon.{Once, once-none, once-more, pigeon}
 use Rattle.region.specs.Region.{Laid, countOf, startOf, fullOf, endOf, beforeOf, totalOf, numberOf}
 use Rattle.region.proofs.Laws.{number-lt, number-same, end-le}
-use Rattle.layout.specs.Layout.{nodeSize, nodesAt}
+use Rattle.layout.specs.Edition.{nodeSize}
+use Rattle.layout.specs.Layout.{nodesAt}
+use Rattle.layout.specs.declared.Edition.{Edition}
+use Rattle.layout.proofs.Sizes.{nodes-wide}
 use Rattle.tree.specs.Chain.{Tree, LiveIn, child, Chain, Before}
 use Rattle.tree.specs.File.{nodeOf, Used, treeOf, usedNodes}
 use Rattle.tree.proofs.Unique.{OneParent, chain-within, one-chain, one-parent}
@@ -81,57 +84,57 @@ unfolding Chain
 chain-live t [] a e h c = rw c h
 chain-live t (j ∷ ps) a e h c = chain-live t ps (child t a j) e (c .1 .0) (c .1 .1)
 
-module _ (b : List ℕ) (r : FileRules b) where
-  parents : OneParent (treeOf b) (Used b)
-  parents = one-parent b (r .laid .nodes) (r .nodes) (r .range)
+module _ (ed : Edition) (b : List ℕ) (r : FileRules ed b) where
+  parents : OneParent (treeOf ed b) (Used ed b)
+  parents = one-parent ed b (r .laid .nodes) (r .nodes) (r .range)
 
-  root-live : LiveIn (treeOf b) 0
+  root-live : LiveIn (treeOf ed b) 0
   unfolding treeOf nodeOf
   root-live z = omega (arith, r .nodes .each 0 0 (r .nodes .root) .node .root refl refl .named .low)
 
   -- the node where the places ps lead, and its running number
   abbrev at : List ℕ → ℕ
-  at ps = leads (treeOf b) 0 ps
+  at ps = leads (treeOf ed b) 0 ps
 
   abbrev number : List ℕ → ℕ
-  number ps = numberOf nodeSize b (nodesAt b) (at ps / 65536) (at ps % 65536)
+  number ps = numberOf (nodeSize ed) b (nodesAt ed b) (at ps / 65536) (at ps % 65536)
 
-  module _ (ps : List ℕ) (m : List·Memᴰ ps (chains (treeOf b) 63 0)) where
-    chain : Chain (treeOf b) ps 0 (at ps)
-    chain = chains-sound (treeOf b) 63 0 ps m .1
+  module _ (ps : List ℕ) (m : List·Memᴰ ps (chains (treeOf ed b) 63 0)) where
+    chain : Chain (treeOf ed b) ps 0 (at ps)
+    chain = chains-sound (treeOf ed b) 63 0 ps m .1
 
-    used : Used b (at ps)
-    used = chain-within (treeOf b) (Used b) parents ps 0 (at ps) (r .nodes .root) chain
+    used : Used ed b (at ps)
+    used = chain-within (treeOf ed b) (Used ed b) parents ps 0 (at ps) (r .nodes .root) chain
 
-    number-low : number ps < usedNodes b
+    number-low : number ps < usedNodes ed b
     unfolding usedNodes
-    number-low = number-lt nodeSize b (nodesAt b) (at ps / 65536) (at ps % 65536) used
+    number-low = number-lt (nodeSize ed) b (nodesAt ed b) (at ps / 65536) (at ps % 65536) used
 
-    shown-short : length (line b (length ps) (nodeOf b (at ps))) ≤ 2 ^ 36
+    shown-short : length (line ed b (length ps) (nodeOf ed b (at ps))) ≤ 2 ^ 36
     unfolding treeOf nodeOf
     shown-short =
-        line-short b r (at ps / 65536) (at ps % 65536) (r .nodes .each _ _ used) (length ps) (chains-sound (treeOf b) 63 0 ps m .0)
-        (chain-live (treeOf b) ps 0 (at ps) root-live chain)
+        line-short ed b r (at ps / 65536) (at ps % 65536) (r .nodes .each _ _ used) (length ps) (chains-sound (treeOf ed b) 63 0 ps m .0)
+        (chain-live (treeOf ed b) ps 0 (at ps) root-live chain)
 
-  number-one : (ps qs : List ℕ) → List·Memᴰ ps (chains (treeOf b) 63 0) → List·Memᴰ qs (chains (treeOf b) 63 0) → number ps ≡ number qs → ps ≡ qs
+  number-one : (ps qs : List ℕ) → List·Memᴰ ps (chains (treeOf ed b) 63 0) → List·Memᴰ qs (chains (treeOf ed b) 63 0) → number ps ≡ number qs → ps ≡ qs
   number-one ps qs m k q =
-      let w = number-same nodeSize b (nodesAt b) _ _ _ _ (used ps m) (used qs k) q in
+      let w = number-same (nodeSize ed) b (nodesAt ed b) _ _ _ _ (used ps m) (used qs k) q in
       let e : at ps ≡ at qs = omega (arith, w .0, w .1) in
-      one-chain (treeOf b) (Used b) parents ps qs (at qs) (subst (Chain (treeOf b) ps 0) e (chain ps m)) (chain qs k)
+      one-chain (treeOf ed b) (Used ed b) parents ps qs (at qs) (subst (Chain (treeOf ed b) ps 0) e (chain ps m)) (chain qs k)
 
-  few-lines : length (chains (treeOf b) 63 0) ≤ usedNodes b
-  few-lines = few-chains number (usedNodes b) (chains (treeOf b) 63 0) number-low number-one (chains-rising (treeOf b) 63 0)
+  few-lines : length (chains (treeOf ed b) 63 0) ≤ usedNodes ed b
+  few-lines = few-chains number (usedNodes ed b) (chains (treeOf ed b) 63 0) number-low number-one (chains-rising (treeOf ed b) 63 0)
 
-  few-nodes : usedNodes b ≤ 44739242
-  unfolding usedNodes nodeSize
-  few-nodes = omega (arith, total-fits nodeSize b (nodesAt b) (r .laid .nodes), r .laid .small)
+  few-nodes : usedNodes ed b ≤ 67108864
+  unfolding usedNodes
+  few-nodes = omega (arith, total-fits (nodeSize ed) b (nodesAt ed b) (r .laid .nodes), nodes-wide ed (totalOf (nodeSize ed) b (nodesAt ed b)), r .laid .small)
 
-  pub outline-short : length (outlineOf b) ≤ 44739242 * 2 ^ 36
+  pub outline-short : length (outlineOf ed b) ≤ 67108864 * 2 ^ 36
   outline-short =
-      rw outline-rows
+      rw (outline-rows ed)
       (le-trans
-      (flat-short (λ ps. line b (length ps) (nodeOf b (at ps))) (2 ^ 36) (chains (treeOf b) 63 0) shown-short)
+      (flat-short (λ ps. line ed b (length ps) (nodeOf ed b (at ps))) (2 ^ 36) (chains (treeOf ed b) 63 0) shown-short)
       (mul-le-mul-right (2 ^ 36) (le-trans few-lines few-nodes)))
 
-  pub outline-fits : length (outlineOf b) < 2 ^ 64
+  pub outline-fits : length (outlineOf ed b) < 2 ^ 64
   outline-fits = omega (arith, outline-short)

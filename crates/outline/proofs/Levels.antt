@@ -7,6 +7,7 @@ use native.Mathlib.Nat.{add-zero}
 use native.Mathlib.Omega.{arith}
 use borrow.Author.Tests.{eqb-false}
 use lib.Dec.{eqb}
+use Rattle.layout.specs.declared.Edition.{Edition}
 use Rattle.tree.specs.Chain.{LiveIn, child, ranged}
 use Rattle.tree.specs.File.{nodeOf, treeOf}
 use Rattle.tree.specs.Rules.{Deep}
@@ -28,40 +29,40 @@ unfolding ranged
 ranged-nil a zero = refl
 ranged-nil a (suc n) = ranged-nil (a + 1) n
 
-module _ (b : List ℕ) where
+module _ (ed : Edition) (b : List ℕ) where
   -- two ways to write a child agree where they do for a live one
-  shown-same : (f g : ℕ → List ℕ) (c : ℕ) → (LiveIn (treeOf b) c → f c ≡ g c) → shown b f c ≡ shown b g c
+  shown-same : (f g : ℕ → List ℕ) (c : ℕ) → (LiveIn (treeOf ed b) c → f c ≡ g c) → shown ed b f c ≡ shown ed b g c
   unfolding shown
-  shown-same f g c h = go (eqb (treeOf b .name c) 0) refl
+  shown-same f g c h = go (eqb (treeOf ed b .name c) 0) refl
     where
-      go : (x : Bool) → eqb (treeOf b .name c) 0 ≡ x → cond x [] (f c) ≡ cond x [] (g c)
+      go : (x : Bool) → eqb (treeOf ed b .name c) 0 ≡ x → cond x [] (f c) ≡ cond x [] (g c)
       go true q = refl
-      go false q = h (eqb-false (treeOf b .name c) 0 q)
+      go false q = h (eqb-false (treeOf ed b .name c) 0 q)
 
-  shown-none : (f : ℕ → List ℕ) (c : ℕ) → (LiveIn (treeOf b) c → ⊥) → shown b f c ≡ []
+  shown-none : (f : ℕ → List ℕ) (c : ℕ) → (LiveIn (treeOf ed b) c → ⊥) → shown ed b f c ≡ []
   unfolding shown
-  shown-none f c h = go (eqb (treeOf b .name c) 0) refl
+  shown-none f c h = go (eqb (treeOf ed b .name c) 0) refl
     where
-      go : (x : Bool) → eqb (treeOf b .name c) 0 ≡ x → cond x [] (f c) ≡ []
+      go : (x : Bool) → eqb (treeOf ed b .name c) 0 ≡ x → cond x [] (f c) ≡ []
       go true q = refl
-      go false q = absurd (h (eqb-false (treeOf b .name c) 0 q))
+      go false q = absurd (h (eqb-false (treeOf ed b .name c) 0 q))
 
   -- below a node from which no chain has more than n places, n levels are all there are
-  enough : (n m level a : ℕ) → n ≤ m → (Deep (treeOf b) (suc n) a → ⊥) → block b m level a ≡ block b n level a
+  enough : (n m level a : ℕ) → n ≤ m → (Deep (treeOf ed b) (suc n) a → ⊥) → block ed b m level a ≡ block ed b n level a
   unfolding block
   enough zero zero level a l f = refl
   enough zero (suc m) level a l f =
       rw (
-        ranged-same (shown b (block b m (level + 1))) (λ c. []) (treeOf b .first a) (treeOf b .count a)
-            (λ j h. shown-none _ _ (λ k. f (deeper (treeOf b) 0 a j h k (none-deep (treeOf b) _)))),
+        ranged-same (shown ed b (block ed b m (level + 1))) (λ c. []) (treeOf ed b .first a) (treeOf ed b .count a)
+            (λ j h. shown-none _ _ (λ k. f (deeper (treeOf ed b) 0 a j h k (none-deep (treeOf ed b) _)))),
         ranged-nil,
-      ) (append-nil (line b level (nodeOf b a)))
+      ) (append-nil (line ed b level (nodeOf ed b a)))
   enough (suc n) zero level a l f = absurd (omega arith)
   enough (suc n) (suc m) level a l f =
-      ap (λ (s : List ℕ). line b level (nodeOf b a) ++ s)
-      (ranged-same (shown b (block b m (level + 1))) (shown b (block b n (level + 1))) (treeOf b .first a) (treeOf b .count a)
-      (λ j h. shown-same _ _ _ (λ k. enough n m (level + 1) (child (treeOf b) a j) (omega arith) (λ d. f (deeper (treeOf b) (suc n) a j h k d)))))
+      ap (λ (s : List ℕ). line ed b level (nodeOf ed b a) ++ s)
+      (ranged-same (shown ed b (block ed b m (level + 1))) (shown ed b (block ed b n (level + 1))) (treeOf ed b .first a) (treeOf ed b .count a)
+      (λ j h. shown-same _ _ _ (λ k. enough n m (level + 1) (child (treeOf ed b) a j) (omega arith) (λ d. f (deeper (treeOf ed b) (suc n) a j h k d)))))
 
-pub all-levels : (b : List ℕ) → FileRules b → (n : ℕ) → block b (63 + n) 0 0 ≡ outlineOf b
+pub all-levels : (ed : Edition) (b : List ℕ) → FileRules ed b → (n : ℕ) → block ed b (63 + n) 0 0 ≡ outlineOf ed b
 unfolding outlineOf
-all-levels b r n = enough b 63 (63 + n) 0 0 (omega arith) (r .depth)
+all-levels ed b r n = enough ed b 63 (63 + n) 0 0 (omega arith) (r .depth)

@@ -7,6 +7,7 @@ use native.Mathlib.Nat.{add-zero, zero-add}
 use native.Mathlib.Omega.{arith}
 use lib.Dec.{eqb}
 use lib.ListN.{length}
+use Rattle.layout.specs.declared.Edition.{Edition}
 use Rattle.tree.specs.Chain.{child, ranged}
 use Rattle.tree.specs.File.{nodeOf, treeOf}
 use Rattle.accept.specs.Rules.{FileRules}
@@ -41,47 +42,47 @@ module _ (f : List ℕ → List ℕ) where
       let e : a + (i + 1) ≡ a + i + 1 = omega arith in
       flat-append (r i) (row r (i + 1) n) ∙ rw (h i, flat-row r g a (i + 1) n h, e)
 
-module _ (b : List ℕ) where
+module _ (ed : Edition) (b : List ℕ) where
   -- the line of the chain of places ps, from node a at a level on
   abbrev lineOf : ℕ → ℕ → List ℕ → List ℕ
-  lineOf level a ps = line b (level + length ps) (nodeOf b (leads (treeOf b) a ps))
+  lineOf level a ps = line ed b (level + length ps) (nodeOf ed b (leads (treeOf ed b) a ps))
 
   -- those through place j are the child's, where it is live
   flat-through : (n level a j : ℕ)
-      → flatMap (lineOf (level + 1) (child (treeOf b) a j)) (chains (treeOf b) n (child (treeOf b) a j)) ≡ block b n (level + 1) (child (treeOf b) a j)
-      → flatMap (lineOf level a) (through (treeOf b) n a j) ≡ shown b (block b n (level + 1)) (child (treeOf b) a j)
+      → flatMap (lineOf (level + 1) (child (treeOf ed b) a j)) (chains (treeOf ed b) n (child (treeOf ed b) a j)) ≡ block ed b n (level + 1) (child (treeOf ed b) a j)
+      → flatMap (lineOf level a) (through (treeOf ed b) n a j) ≡ shown ed b (block ed b n (level + 1)) (child (treeOf ed b) a j)
   unfolding shown flatMap leads
-  flat-through n level a j h = go (eqb (treeOf b .name (child (treeOf b) a j)) 0)
+  flat-through n level a j h = go (eqb (treeOf ed b .name (child (treeOf ed b) a j)) 0)
     where
-      under : (ps : List ℕ) → lineOf level a (j ∷ ps) ≡ lineOf (level + 1) (child (treeOf b) a j) ps
+      under : (ps : List ℕ) → lineOf level a (j ∷ ps) ≡ lineOf (level + 1) (child (treeOf ed b) a j) ps
       under ps = let e : level + suc (length ps) ≡ level + 1 + length ps = omega arith in rw e
 
-      go : (x : Bool) → flatMap (lineOf level a) (cond x [] (map (_∷_ j) (chains (treeOf b) n (child (treeOf b) a j))))
-          ≡ cond x [] (block b n (level + 1) (child (treeOf b) a j))
+      go : (x : Bool) → flatMap (lineOf level a) (cond x [] (map (_∷_ j) (chains (treeOf ed b) n (child (treeOf ed b) a j))))
+          ≡ cond x [] (block ed b n (level + 1) (child (treeOf ed b) a j))
       go true = refl
       go false =
-          flat-map (lineOf level a) j (chains (treeOf b) n (child (treeOf b) a j))
-          ∙ flat-same (λ ps. lineOf level a (j ∷ ps)) (lineOf (level + 1) (child (treeOf b) a j)) (chains (treeOf b) n (child (treeOf b) a j)) under
+          flat-map (lineOf level a) j (chains (treeOf ed b) n (child (treeOf ed b) a j))
+          ∙ flat-same (λ ps. lineOf level a (j ∷ ps)) (lineOf (level + 1) (child (treeOf ed b) a j)) (chains (treeOf ed b) n (child (treeOf ed b) a j)) under
           ∙ h
 
   -- the lines of the chains from a node are its block
-  lines-block : (n level a : ℕ) → flatMap (lineOf level a) (chains (treeOf b) n a) ≡ block b n level a
+  lines-block : (n level a : ℕ) → flatMap (lineOf level a) (chains (treeOf ed b) n a) ≡ block ed b n level a
   unfolding block chains flatMap leads
-  lines-block zero level a = rw add-zero (append-nil (line b level (nodeOf b a)))
+  lines-block zero level a = rw add-zero (append-nil (line ed b level (nodeOf ed b a)))
   lines-block (suc n) level a =
-      let q = flat-row (lineOf level a) (through (treeOf b) n a) (shown b (block b n (level + 1))) (treeOf b .first a) 0 (treeOf b .count a)
-      (λ j. flat-through n level a j (lines-block n (level + 1) (child (treeOf b) a j))) in
-      rw (q, add-zero level, add-zero (treeOf b .first a))
+      let q = flat-row (lineOf level a) (through (treeOf ed b) n a) (shown ed b (block ed b n (level + 1))) (treeOf ed b .first a) 0 (treeOf ed b .count a)
+      (λ j. flat-through n level a j (lines-block n (level + 1) (child (treeOf ed b) a j))) in
+      rw (q, add-zero level, add-zero (treeOf ed b .first a))
 
-module _ (b : List ℕ) where
-  pub outline-rows : outlineOf b ≡ flatMap (λ ps. line b (length ps) (nodeOf b (leads (treeOf b) 0 ps))) (chains (treeOf b) 63 0)
+module _ (ed : Edition) (b : List ℕ) where
+  pub outline-rows : outlineOf ed b ≡ flatMap (λ ps. line ed b (length ps) (nodeOf ed b (leads (treeOf ed b) 0 ps))) (chains (treeOf ed b) 63 0)
   unfolding outlineOf
-  outline-rows = sym (lines-block b 63 0 0) ∙ flat-same _ _ (chains (treeOf b) 63 0) (λ ps. rw zero-add)
+  outline-rows = sym (lines-block ed b 63 0 0) ∙ flat-same _ _ (chains (treeOf ed b) 63 0) (λ ps. rw zero-add)
 
-  pub outline-lines : FileRules b → Lined b (chains (treeOf b) 63 0)
+  pub outline-lines : FileRules ed b → Lined ed b (chains (treeOf ed b) 63 0)
   outline-lines r = record {
-    sound = λ ps m. chains-sound (treeOf b) 63 0 ps m .1;
-    complete = λ ps e c. (chains-complete (treeOf b) 63 0 ps e (no-longer (treeOf b) 63 0 ps e (r .depth) c) c, chain-leads (treeOf b) ps 0 e c);
-    ordered = chains-rising (treeOf b) 63 0;
+    sound = λ ps m. chains-sound (treeOf ed b) 63 0 ps m .1;
+    complete = λ ps e c. (chains-complete (treeOf ed b) 63 0 ps e (no-longer (treeOf ed b) 63 0 ps e (r .depth) c) c, chain-leads (treeOf ed b) ps 0 e c);
+    ordered = chains-rising (treeOf ed b) 63 0;
     lines = outline-rows;
   }

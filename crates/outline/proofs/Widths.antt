@@ -17,6 +17,7 @@ use Rattle.text.specs.Text.{textAt, roomAt}
 use Rattle.text.proofs.Laws.{text-length-le}
 use Rattle.layout.specs.Table.{Table, listedSegment, listedElement}
 use Rattle.layout.specs.Layout.{values, names}
+use Rattle.layout.specs.declared.Edition.{Edition}
 use Rattle.strings.specs.Texts.{textTo, listedText}
 use Rattle.strings.proofs.Accepted.{strings-iff}
 use Rattle.keys.specs.Names.{nameCount, nameText}
@@ -74,40 +75,40 @@ unfolding textTo textAt roomAt
 text-short t seg el g h =
     omega (arith, text-length-le (t .bytes) (placeOf 2 (t .bytes) (t .at) seg el) (roomAt (t .bytes) (t .at) seg el), g .used seg (h .seg-in), g .full seg (h .seg-in))
 
-module _ (b : List ℕ) (r : FileRules b) where
+module _ (ed : Edition) (b : List ℕ) (r : FileRules ed b) where
   -- a name has at most 65,535 characters
-  name-short : (i : ℕ) → 1 ≤ i → i ≤ nameCount b → length (nameText b i) ≤ 65535
+  name-short : (i : ℕ) → 1 ≤ i → i ≤ nameCount ed b → length (nameText ed b i) ≤ 65535
   unfolding nameCount nameText listedText
   name-short i l h =
-      text-short (names b) (listedSegment (names b) i) (listedElement (names b) i) (r .laid .names .characters)
-      (position-resolves (names b) (strings-iff (names b) .1 (r .name-table)) i l (omega arith))
+      text-short (names ed b) (listedSegment (names ed b) i) (listedElement (names ed b) i) (r .laid .names .characters)
+      (position-resolves (names ed b) (strings-iff (names ed b) .1 (r .name-table)) i l (omega arith))
 
   -- and so has the text of a value
-  value-text-short : (seg el : ℕ) → EntryAddress (values b) seg el → length (textTo (values b) seg el) ≤ 65535
+  value-text-short : (seg el : ℕ) → EntryAddress (values ed b) seg el → length (textTo (values ed b) seg el) ≤ 65535
   value-text-short seg el h =
-      text-short (values b) seg el (r .laid .values .characters)
+      text-short (values ed b) seg el (r .laid .values .characters)
       (rw (sym (h .2 .2 .0), sym (h .2 .2 .1)) (r .value-table .entry (h .0) (h .2 .0) (h .1) (h .2 .1) .resolved))
 
   -- ---- values, attributes, lines
 
-  truth-short : (x : Bool) → length (valueText b (Truth x)) ≤ 327677
+  truth-short : (x : Bool) → length (valueText ed b (Truth x)) ≤ 327677
   unfolding valueText truthText
   truth-short true = omega arith
   truth-short false = omega arith
 
-  whole-value : (z : ℤ) → length (valueText b (Whole z)) ≤ 327677
+  whole-value : (z : ℤ) → length (valueText ed b (Whole z)) ≤ 327677
   unfolding valueText
   whole-value z = omega (arith, whole-short z)
 
-  float-value : (f : Float32) → length (valueText b (Float f)) ≤ 327677
+  float-value : (f : Float32) → length (valueText ed b (Float f)) ≤ 327677
   unfolding valueText
   float-value f = omega (arith, hex-long 8 (f .bits))
 
-  text-value : (q : ℕ) → TextRule b q → length (valueText b (Text (textSegment b q) (textElement b q))) ≤ 327677
+  text-value : (q : ℕ) → TextRule ed b q → length (valueText ed b (Text (textSegment b q) (textElement b q))) ≤ 327677
   unfolding valueText
-  text-value q h = omega (arith, escaped-short (textTo (values b) (textSegment b q) (textElement b q)), value-text-short _ _ (h .entry))
+  text-value q h = omega (arith, escaped-short (textTo (values ed b) (textSegment b q) (textElement b q)), value-text-short _ _ (h .entry))
 
-  value-short : (q : ℕ) → Typed b q → TextRight b q → length (valueText b (valueOf b q)) ≤ 327677
+  value-short : (q : ℕ) → Typed b q → TextRight ed b q → length (valueText ed b (valueOf b q)) ≤ 327677
   unfolding Typed
   value-short q t x =
       let w = typeWord b q in
@@ -120,12 +121,12 @@ module _ (b : List ℕ) (r : FileRules b) where
       (λ three. rw (sym (value-text b q w (typeOf w) refl refl more three (textSegment b q) (textElement b q) refl refl))
       (text-value q (x (⊎-elim (λ k. absurd (more (k .0))) (⊎-elim (λ k. absurd (three (k .0))) (λ k. k)) t)))))
 
-  attribute-short : (p i : ℕ) → AttributeRule b p i → TextRight b (attributeAt b p i) → length (attributeText b (attributeAt b p i)) ≤ 655354
+  attribute-short : (p i : ℕ) → AttributeRule ed b p i → TextRight ed b (attributeAt ed b p i) → length (attributeText ed b (attributeAt ed b p i)) ≤ 655354
   unfolding attributeText
   attribute-short p i h x =
-      let q = attributeAt b p i in
+      let q = attributeAt ed b p i in
       rw length-append
-      (omega (arith, escaped-short (nameText b (attributeName b q)), name-short (attributeName b q) (h .low) (h .high), value-short q (h .typed) x))
+      (omega (arith, escaped-short (nameText ed b (attributeName b q)), name-short (attributeName b q) (h .low) (h .high), value-short q (h .typed) x))
 
 -- n that are at most m long each are at most n * m long
 ranged-short : (f : ℕ → List ℕ) (a n m : ℕ) → ((j : ℕ) → j < n → length (f (a + j)) ≤ m) → length (ranged f a n) ≤ n * m
@@ -136,27 +137,27 @@ ranged-short f a (suc n) m h =
     let q = ranged-short f (a + 1) n m (λ j l. let e : a + 1 + j ≡ a + suc j = omega arith in rw e (h (suc j) (omega arith))) in
     rw length-append (omega (arith, suc-mul n m))
 
-module _ (b : List ℕ) (r : FileRules b) (seg el : ℕ) (h : NodeRules b seg el) where
+module _ (ed : Edition) (b : List ℕ) (r : FileRules ed b) (seg el : ℕ) (h : NodeRules ed b seg el) where
   -- a node has at most 65,535 attributes
-  few-attributes : attributeCount b (nodeAt b seg el) ≤ 65535
+  few-attributes : attributeCount b (nodeAt ed b seg el) ≤ 65535
   few-attributes =
       ⊎-elim
       (λ z. omega arith)
       (λ g. omega (arith, g .els-in, r .laid .attributes .used _ (g .seg-in), r .laid .attributes .full _ (g .seg-in)))
       (h .attributes)
 
-  attributes-short : length (ranged (λ i. attributeText b (attributeAt b (nodeAt b seg el) i)) 0 (attributeCount b (nodeAt b seg el))) ≤ 65535 * 655354
+  attributes-short : length (ranged (λ i. attributeText ed b (attributeAt ed b (nodeAt ed b seg el) i)) 0 (attributeCount b (nodeAt ed b seg el))) ≤ 65535 * 655354
   attributes-short =
       le-trans
-      (ranged-short (λ i. attributeText b (attributeAt b (nodeAt b seg el) i)) 0 (attributeCount b (nodeAt b seg el)) 655354
-      (λ j l. rw zero-add (attribute-short b r (nodeAt b seg el) j (h .attribute j l) (h .text j l))))
+      (ranged-short (λ i. attributeText ed b (attributeAt ed b (nodeAt ed b seg el) i)) 0 (attributeCount b (nodeAt ed b seg el)) 655354
+      (λ j l. rw zero-add (attribute-short ed b r (nodeAt ed b seg el) j (h .attribute j l) (h .text j l))))
       (mul-le-mul-right 655354 few-attributes)
 
   -- the line of a live node at most 63 levels below the root is shorter than 2 ^ 36
-  pub line-short : (level : ℕ) → level ≤ 63 → Live b (nodeAt b seg el) → length (line b level (nodeAt b seg el)) ≤ 2 ^ 36
+  pub line-short : (level : ℕ) → level ≤ 63 → Live b (nodeAt ed b seg el) → length (line ed b level (nodeAt ed b seg el)) ≤ 2 ^ 36
   unfolding line
   line-short level l live =
-      let p = nodeAt b seg el in
-      let n = name-short b r (nodeName b p) (omega arith) (h .node .name) in
+      let p = nodeAt ed b seg el in
+      let n = name-short ed b r (nodeName b p) (omega arith) (h .node .name) in
       simp length-append
-      (omega (arith, length-replicate {A = ℕ} (2 * level) 0x20, escaped-short (nameText b (nodeName b p)), n, attributes-short))
+      (omega (arith, length-replicate {A = ℕ} (2 * level) 0x20, escaped-short (nameText ed b (nodeName b p)), n, attributes-short))

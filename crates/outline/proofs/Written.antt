@@ -12,6 +12,7 @@ use Rattle.le.specs.declared.Float32.{Float32}
 use Rattle.text.specs.Text.{textIn}
 use Rattle.text.proofs.Laws.{text-none, text-more, text-stop}
 use Rattle.layout.specs.Layout.{values}
+use Rattle.layout.specs.declared.Edition.{Edition}
 use Rattle.strings.specs.Texts.{textTo}
 use Rattle.keys.specs.Names.{nameCount, nameText}
 use Rattle.nodes.specs.Node.{nodeName, attributeCount, attributeAt}
@@ -85,22 +86,22 @@ put-four l a b c k e =
 
 -- ---- values
 
-module _ (b : List ℕ) {v w : Value} (e : v ≡ w) where
-  pub whole-is : {y z : ℤ} → v ≡ Whole z → y ≡ z → (0x69 ∷ 0x3a ∷ []) ++ wholeText y ≡ valueText b w
+module _ (ed : Edition) (b : List ℕ) {v w : Value} (e : v ≡ w) where
+  pub whole-is : {y z : ℤ} → v ≡ Whole z → y ≡ z → (0x69 ∷ 0x3a ∷ []) ++ wholeText y ≡ valueText ed b w
   unfolding valueText
-  whole-is h q = ap (λ (x : ℤ). 0x69 ∷ 0x3a ∷ wholeText x) q ∙ sym (ap (valueText b) (sym e ∙ h))
+  whole-is h q = ap (λ (x : ℤ). 0x69 ∷ 0x3a ∷ wholeText x) q ∙ sym (ap (valueText ed b) (sym e ∙ h))
 
-  pub truth-is : {t : Bool} → v ≡ Truth t → truthText t ≡ valueText b w
+  pub truth-is : {t : Bool} → v ≡ Truth t → truthText t ≡ valueText ed b w
   unfolding valueText
-  truth-is h = sym (ap (valueText b) (sym e ∙ h))
+  truth-is h = sym (ap (valueText ed b) (sym e ∙ h))
 
-  pub float-is : {f : Float32} → v ≡ Float f → (0x66 ∷ 0x3a ∷ []) ++ hexOf 8 (f .bits) ≡ valueText b w
+  pub float-is : {f : Float32} → v ≡ Float f → (0x66 ∷ 0x3a ∷ []) ++ hexOf 8 (f .bits) ≡ valueText ed b w
   unfolding valueText
-  float-is h = sym (ap (valueText b) (sym e ∙ h))
+  float-is h = sym (ap (valueText ed b) (sym e ∙ h))
 
-  pub text-is : {seg el : ℕ} {s : List ℕ} → v ≡ Text seg el → s ≡ textTo (values b) seg el → (0x73 ∷ 0x3a ∷ []) ++ escaped s ≡ valueText b w
+  pub text-is : {seg el : ℕ} {s : List ℕ} → v ≡ Text seg el → s ≡ textTo (values ed b) seg el → (0x73 ∷ 0x3a ∷ []) ++ escaped s ≡ valueText ed b w
   unfolding valueText
-  text-is h q = ap (λ (x : List ℕ). 0x73 ∷ 0x3a ∷ escaped x) q ∙ sym (ap (valueText b) (sym e ∙ h))
+  text-is h q = ap (λ (x : List ℕ). 0x73 ∷ 0x3a ∷ escaped x) q ∙ sym (ap (valueText ed b) (sym e ∙ h))
 
 pub true-is : (t : Bool) → t ≡ true → 0x62 ∷ 0x3a ∷ 0x74 ∷ 0x72 ∷ 0x75 ∷ 0x65 ∷ [] ≡ truthText t
 unfolding truthText
@@ -112,21 +113,21 @@ false-is t h = rw h
 
 -- ---- attributes and lines, with the name index as it is read
 
-module _ (b : List ℕ) (q : ℕ) {i : ℕ} (e : i ≡ attributeName b q) where
-  pub attribute-is : (0x20 ∷ []) ++ (escaped (nameText b i) ++ ((0x3d ∷ []) ++ valueText b (valueOf b q))) ≡ attributeText b q
+module _ (ed : Edition) (b : List ℕ) (q : ℕ) {i : ℕ} (e : i ≡ attributeName b q) where
+  pub attribute-is : (0x20 ∷ []) ++ (escaped (nameText ed b i) ++ ((0x3d ∷ []) ++ valueText ed b (valueOf b q))) ≡ attributeText ed b q
   unfolding attributeText
   attribute-is = rw e
 
-  pub attribute-named : AttributeReady b q → (1 ≤ i) × (i ≤ nameCount b)
+  pub attribute-named : AttributeReady ed b q → (1 ≤ i) × (i ≤ nameCount ed b)
   attribute-named r = (omega (arith, r .low), omega (arith, r .high))
 
-module _ (b : List ℕ) (q : ℕ) {i : ℕ} (e : i ≡ nodeName b q) where
+module _ (ed : Edition) (b : List ℕ) (q : ℕ) {i : ℕ} (e : i ≡ nodeName b q) where
   pub line-is : (level : ℕ)
-      → replicate (2 * level) 0x20 ++ (escaped (nameText b i) ++ (ranged (λ k. attributeText b (attributeAt b q k)) 0 (attributeCount b q) ++ (0x0a ∷ []))) ≡ line b level q
+      → replicate (2 * level) 0x20 ++ (escaped (nameText ed b i) ++ (ranged (λ k. attributeText ed b (attributeAt ed b q k)) 0 (attributeCount b q) ++ (0x0a ∷ []))) ≡ line ed b level q
   unfolding line
   line-is level = rw e
 
-  pub node-named : NodeReady b q → (1 ≤ i) × (i ≤ nameCount b)
+  pub node-named : NodeReady ed b q → (1 ≤ i) × (i ≤ nameCount ed b)
   node-named r = (low i (λ z. r .live (sym e ∙ z)), omega (arith, r .name))
     where
       low : (n : ℕ) → (n ≡ 0 → ⊥) → 1 ≤ n

@@ -1,6 +1,7 @@
 // Lines and blocks. The node writer and the child-range writer call each other: a level deeper at each turn, never along the children.
 ghost use mathlib.Core.Path.{_≡_};
 ghost use Prim.Native.Nat.{_+_, _≤_};
+ghost use Rattle.layout.specs.declared.Edition.the-variants.{Bits64};
 ghost use Rattle.nodes.specs.Node.{Live};
 ghost use Rattle.tree.specs.Chain.{ranged};
 ghost use Rattle.tree.specs.File.{Used, nodeOf, treeOf};
@@ -26,8 +27,8 @@ fn put_node(
     out: &mut [u8],
     at: usize,
 ) -> usize
-    requires { ⌜ LineReady (now b) p (now «attribute_segments») (now «value_segments») (now «name_segments») × NodeReady (now b) x × (level ≤ 63) ⌝ }
-    ensures { λ r. ⌜ Put (now (out .entry)) at (line (now (b .entry)) level x) r (now (out .exit)) ⌝ }
+    requires { ⌜ LineReady Bits64 (now b) p (now «attribute_segments») (now «value_segments») (now «name_segments») × NodeReady Bits64 (now b) x × (level ≤ 63) ⌝ }
+    ensures { λ r. ⌜ Put (now (out .entry)) at (line Bits64 (now (b .entry)) level x) r (now (out .exit)) ⌝ }
 {
     let c = print::put_spaces(out, at, 2 * level);
     let d = texts::put_name(b, p, name_segments, fields::node_name(b, x), out, c);
@@ -59,9 +60,9 @@ pub fn write_node(
     out: &mut [u8],
     at: usize,
 ) -> usize
-    requires { ⌜ OutlineReady (now b) p (now «attribute_segments») (now «node_segments») (now «value_segments») (now «name_segments») ⌝ }
-    requires { ⌜ Used (now b) a × (x ≡ nodeOf (now b) a) × Live (now b) x × (level + left ≤ 63) ⌝ }
-    ensures { λ r. ⌜ Put (now (out .entry)) at (block (now (b .entry)) left level a) r (now (out .exit)) ⌝ }
+    requires { ⌜ OutlineReady Bits64 (now b) p (now «attribute_segments») (now «node_segments») (now «value_segments») (now «name_segments») ⌝ }
+    requires { ⌜ Used Bits64 (now b) a × (x ≡ nodeOf Bits64 (now b) a) × Live (now b) x × (level + left ≤ 63) ⌝ }
+    ensures { λ r. ⌜ Put (now (out .entry)) at (block Bits64 (now (b .entry)) left level a) r (now (out .exit)) ⌝ }
 {
     let e = put_node(
         b,
@@ -108,10 +109,10 @@ fn write_range(
     out: &mut [u8],
     at: usize,
 ) -> usize
-    requires { ⌜ OutlineReady (now b) p (now «attribute_segments») (now «node_segments») (now «value_segments») (now «name_segments») ⌝ }
-    requires { ⌜ Used (now b) a × (x ≡ nodeOf (now b) a) × (level + left ≤ 63) ⌝ }
-    ensures { λ r. ⌜ Put (now (out .entry)) at (ranged (shown (now (b .entry)) (block (now (b .entry)) left level))
-        (treeOf (now (b .entry)) .first a) (treeOf (now (b .entry)) .count a)) r (now (out .exit)) ⌝ }
+    requires { ⌜ OutlineReady Bits64 (now b) p (now «attribute_segments») (now «node_segments») (now «value_segments») (now «name_segments») ⌝ }
+    requires { ⌜ Used Bits64 (now b) a × (x ≡ nodeOf Bits64 (now b) a) × (level + left ≤ 63) ⌝ }
+    ensures { λ r. ⌜ Put (now (out .entry)) at (ranged (shown Bits64 (now (b .entry)) (block Bits64 (now (b .entry)) left level))
+        (treeOf Bits64 (now (b .entry)) .first a) (treeOf Bits64 (now (b .entry)) .count a)) r (now (out .exit)) ⌝ }
 {
     let k = ranges::children_of(b, p.nodes, node_segments, x);
     let mut e = at;

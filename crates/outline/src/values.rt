@@ -1,5 +1,6 @@
 // Attributes and their values.
 ghost use Rattle.layout.specs.inner.View.{PlacesFit};
+ghost use Rattle.layout.specs.declared.Edition.the-variants.{Bits64};
 ghost use Rattle.nodes.specs.Node.{attributeCount, attributeAt};
 ghost use Rattle.nodes.specs.Attribute.{valueOf};
 ghost use Rattle.tree.specs.Chain.{ranged};
@@ -34,8 +35,8 @@ fn put_value(
     out: &mut [u8],
     at: usize,
 ) -> usize
-    requires { ⌜ FileRules (now b) × PlacesFit (now b) p × ValueStarts (now b) p (now segments) × AttributeReady (now b) q ⌝ }
-    ensures { λ r. ⌜ Put (now (out .entry)) at (valueText (now (b .entry)) (valueOf (now (b .entry)) q)) r (now (out .exit)) ⌝ }
+    requires { ⌜ FileRules Bits64 (now b) × PlacesFit Bits64 (now b) p × ValueStarts Bits64 (now b) p (now segments) × AttributeReady Bits64 (now b) q ⌝ }
+    ensures { λ r. ⌜ Put (now (out .entry)) at (valueText Bits64 (now (b .entry)) (valueOf (now (b .entry)) q)) r (now (out .exit)) ⌝ }
 {
     let v = value::value_at(b, q);
     match v {
@@ -65,9 +66,9 @@ fn put_attribute(
     out: &mut [u8],
     at: usize,
 ) -> usize
-    requires { ⌜ FileRules (now b) × PlacesFit (now b) p × ValueStarts (now b) p (now «value_segments») × NameStarts (now b) p (now «name_segments»)
-        × AttributeReady (now b) q ⌝ }
-    ensures { λ r. ⌜ Put (now (out .entry)) at (attributeText (now (b .entry)) q) r (now (out .exit)) ⌝ }
+    requires { ⌜ FileRules Bits64 (now b) × PlacesFit Bits64 (now b) p × ValueStarts Bits64 (now b) p (now «value_segments») × NameStarts Bits64 (now b) p (now «name_segments»)
+        × AttributeReady Bits64 (now b) q ⌝ }
+    ensures { λ r. ⌜ Put (now (out .entry)) at (attributeText Bits64 (now (b .entry)) q) r (now (out .exit)) ⌝ }
 {
     let c = print::put(out, at, b' ');
     let d = texts::put_name(b, p, name_segments, fields::attribute_name(b, q), out, c);
@@ -86,8 +87,8 @@ pub fn put_attributes(
     out: &mut [u8],
     at: usize,
 ) -> usize
-    requires { ⌜ LineReady (now b) p (now «attribute_segments») (now «value_segments») (now «name_segments») × NodeReady (now b) x ⌝ }
-    ensures { λ r. ⌜ Put (now (out .entry)) at (ranged (λ i. attributeText (now (b .entry)) (attributeAt (now (b .entry)) x i)) 0 (attributeCount (now (b .entry)) x)) r (now (out .exit)) ⌝ }
+    requires { ⌜ LineReady Bits64 (now b) p (now «attribute_segments») (now «value_segments») (now «name_segments») × NodeReady Bits64 (now b) x ⌝ }
+    ensures { λ r. ⌜ Put (now (out .entry)) at (ranged (λ i. attributeText Bits64 (now (b .entry)) (attributeAt Bits64 (now (b .entry)) x i)) 0 (attributeCount (now (b .entry)) x)) r (now (out .exit)) ⌝ }
 {
     let n = fields::attribute_field(b, x);
     if n == 0 {

@@ -11,6 +11,7 @@ use Rattle.le.proofs.Four.{le4-front, shifted}
 use Rattle.verdict.specs.Checks.{firstFault}
 use Rattle.verdict.specs.declared.Verdict.the-variants.{Accepted, Refused}
 use Rattle.verdict.proofs.Laws.{Clean, pass, stop, fault-none, fault-append}
+use Rattle.layout.specs.declared.Edition.{Edition}
 use Rattle.accept.specs.Rules.{FileRules}
 use Rattle.path.specs.Names.{pathChecks}
 use Rattle.path.specs.Listing.{pathMatches, encode, listingChecks, listingAfter}
@@ -27,18 +28,18 @@ encoded-at (a ∷ l) t f (suc i) h =
     ∙ shifted (le4 a) (encode l ++ t) (4 * i)
     ∙ encoded-at l t (λ x m. f x (List·Memᴰ·tail m)) i (omega arith)
 
-module _ (b path list : List ℕ) where
+module _ (ed : Edition) (b path list : List ℕ) where
   -- the first places hold the matches, in order
-  pub place-holds : FileRules b → (i : ℕ) → i < length (pathMatches b path) → u32At (listingAfter b path list Accepted) (4 * i) ≡ getD (pathMatches b path) i 0
+  pub place-holds : FileRules ed b → (i : ℕ) → i < length (pathMatches ed b path) → u32At (listingAfter ed b path list Accepted) (4 * i) ≡ getD (pathMatches ed b path) i 0
   unfolding listingAfter
-  place-holds r i h = encoded-at (pathMatches b path) _ (match-low b r path) i h
+  place-holds r i h = encoded-at (pathMatches ed b path) _ (match-low ed b r path) i h
 
 -- a well-formed path: the matches fit, or they outnumber the places
-module _ (b path : List ℕ) (room : ℕ) (ok : Clean (pathChecks path)) where
-  pub room-fits : length (pathMatches b path) ≤ room / 4 → Clean (pathChecks path ++ listingChecks b path room)
+module _ (ed : Edition) (b path : List ℕ) (room : ℕ) (ok : Clean (pathChecks path)) where
+  pub room-fits : length (pathMatches ed b path) ≤ room / 4 → Clean (pathChecks path ++ listingChecks ed b path room)
   unfolding listingChecks
   room-fits h = fault-append _ _ ok ∙ pass _ _ _ _ _ h ∙ fault-none
 
-  pub room-over : room / 4 < length (pathMatches b path) → firstFault (pathChecks path ++ listingChecks b path room) ≡ Refused 25 (length (pathMatches b path))
+  pub room-over : room / 4 < length (pathMatches ed b path) → firstFault (pathChecks path ++ listingChecks ed b path room) ≡ Refused 25 (length (pathMatches ed b path))
   unfolding listingChecks
   room-over h = fault-append _ _ ok ∙ stop _ _ _ _ _ (λ l. omega arith)

@@ -5,6 +5,7 @@ use Prim.Native.Nat.{ℕ, _^_, _≤_, _<_}
 use native.Mathlib.Omega.{arith}
 use lib.ListN.{length}
 use Rattle.laws.proofs.Pigeon.{Once, once-none, once-more, pigeon}
+use Rattle.layout.specs.declared.Edition.{Edition}
 use Rattle.keys.specs.Names.{nameText}
 use Rattle.tree.specs.Chain.{Pairs}
 use Rattle.tree.specs.File.{Used, treeOf}
@@ -20,15 +21,15 @@ unfolding Pairs
 pairs-once [] p = once-none
 pairs-once (x ∷ l) p = once-more x l (λ h. p .0 x h refl) (pairs-once l (p .1))
 
-module _ (b : List ℕ) (r : FileRules b) where
+module _ (ed : Edition) (b : List ℕ) (r : FileRules ed b) where
   -- a used node's number has 32 bits
-  used-low : (a : ℕ) → Used b a → a < 2 ^ 32
+  used-low : (a : ℕ) → Used ed b a → a < 2 ^ 32
   used-low a u = omega (arith, u .seg-in, r .laid .nodes .few)
 
-  pub match-low : (path : List ℕ) (e : ℕ) → List·Memᴰ e (pathMatches b path) → e < 2 ^ 32
+  pub match-low : (path : List ℕ) (e : ℕ) → List·Memᴰ e (pathMatches ed b path) → e < 2 ^ 32
   match-low path e m =
-      let q = listed b r path .sound e m in
-      used-low e (chain-within (treeOf b) (Used b) (parents b r) (q .0) 0 e (r .nodes .root) (bearing-chain (treeOf b) (nameText b) (namesOf path) (q .0) 0 e (q .1)))
+      let q = listed ed b r path .sound e m in
+      used-low e (chain-within (treeOf ed b) (Used ed b) (parents ed b r) (q .0) 0 e (r .nodes .root) (bearing-chain (treeOf ed b) (nameText ed b) (namesOf path) (q .0) 0 e (q .1)))
 
-  pub few : (path : List ℕ) → length (pathMatches b path) ≤ 2 ^ 32
-  few path = pigeon (2 ^ 32) (pathMatches b path) (pairs-once _ (listed b r path .once)) (match-low path)
+  pub few : (path : List ℕ) → length (pathMatches ed b path) ≤ 2 ^ 32
+  few path = pigeon (2 ^ 32) (pathMatches ed b path) (pairs-once _ (listed ed b r path .once)) (match-low path)

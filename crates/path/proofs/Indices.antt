@@ -10,6 +10,7 @@ use native.Mathlib.Omega.{arith}
 use borrow.Author.Tests.{eq-eqb, ne-eqb}
 use lib.Dec.{eqb}
 use lib.ListN.{length, getD}
+use Rattle.layout.specs.declared.Edition.{Edition}
 use Rattle.keys.specs.Names.{nameCount, nameText, Bears}
 use Rattle.tree.specs.Chain.{LiveIn, child, ranged}
 use Rattle.tree.specs.File.{nodeOf, Used, treeOf}
@@ -37,80 +38,80 @@ empty [] f = refl
 empty (e ∷ l) f = absurd (f e (List·Memᴰ·head refl))
 
 -- as many indices as names, each the index of its name
-pub record Indexes (b : List ℕ) (xs : List (List ℕ)) (is : List ℕ) : Type 0 where
+pub record Indexes (ed : Edition) (b : List ℕ) (xs : List (List ℕ)) (is : List ℕ) : Type 0 where
   pub many : length is ≡ length xs
-  pub each : (i : ℕ) → i < length xs → Bears b (getD is i 0) (nameAt xs i)
+  pub each : (i : ℕ) → i < length xs → Bears ed b (getD is i 0) (nameAt xs i)
 
-module _ {b : List ℕ} {x : List ℕ} {xs : List (List ℕ)} {i : ℕ} {is : List ℕ} (h : Indexes b (x ∷ xs) (i ∷ is)) where
-  first-index : Bears b i x
+module _ {ed : Edition} {b : List ℕ} {x : List ℕ} {xs : List (List ℕ)} {i : ℕ} {is : List ℕ} (h : Indexes ed b (x ∷ xs) (i ∷ is)) where
+  first-index : Bears ed b i x
   unfolding nameAt
   first-index = h .each 0 (omega arith)
 
-  rest-indexes : Indexes b xs is
+  rest-indexes : Indexes ed b xs is
   unfolding nameAt
   rest-indexes = record { many = omega (arith, h .many); each = λ k l. h .each (suc k) (omega arith) }
 
-module _ (b : List ℕ) (r : FileRules b) where
-  used-name : (a : ℕ) → Used b a → treeOf b .name a ≤ nameCount b
+module _ (ed : Edition) (b : List ℕ) (r : FileRules ed b) where
+  used-name : (a : ℕ) → Used ed b a → treeOf ed b .name a ≤ nameCount ed b
   unfolding treeOf nodeOf
   used-name a u = r .nodes .each (a / 65536) (a % 65536) u .node .name
 
   -- a live node's name index bears its text
-  used-bears : (a : ℕ) → Used b a → LiveIn (treeOf b) a → Bears b (treeOf b .name a) (nameText b (treeOf b .name a))
+  used-bears : (a : ℕ) → Used ed b a → LiveIn (treeOf ed b) a → Bears ed b (treeOf ed b .name a) (nameText ed b (treeOf ed b .name a))
   used-bears a u l = record { low = omega arith; high = used-name a u; text = refl }
 
   -- each name that a chain bears is a name of the file
-  chain-bears : (xs : List (List ℕ)) (ps : List ℕ) (a e : ℕ) → Used b a → BearingChain (treeOf b) (nameText b) xs ps a e
-      → (i : ℕ) → i < length xs → (k : ℕ) × Bears b k (nameAt xs i)
+  chain-bears : (xs : List (List ℕ)) (ps : List ℕ) (a e : ℕ) → Used ed b a → BearingChain (treeOf ed b) (nameText ed b) xs ps a e
+      → (i : ℕ) → i < length xs → (k : ℕ) × Bears ed b k (nameAt xs i)
   unfolding BearingChain nameAt
   chain-bears [] ps a e u h i l = absurd (not-suc-le-zero l)
   chain-bears (x ∷ xs) [] a e u h i l = absurd h
   chain-bears (x ∷ xs) (j ∷ ps) a e u h zero l =
-      let c = child (treeOf b) a j in
-      (treeOf b .name c, rw (sym (h .1 .1 .0)) (used-bears c (parents b r .within a j u (h .0)) (h .1 .0)))
+      let c = child (treeOf ed b) a j in
+      (treeOf ed b .name c, rw (sym (h .1 .1 .0)) (used-bears c (parents ed b r .within a j u (h .0)) (h .1 .0)))
   chain-bears (x ∷ xs) (j ∷ ps) a e u h (suc i) l =
-      chain-bears xs ps (child (treeOf b) a j) e (parents b r .within a j u (h .0)) (h .1 .1 .1) i (omega arith)
+      chain-bears xs ps (child (treeOf ed b) a j) e (parents ed b r .within a j u (h .0)) (h .1 .1 .1) i (omega arith)
 
   module _ (path : List ℕ) where
     -- a name that no index bears
-    pub unknown-none : (i : ℕ) → i < length (namesOf path) → ((k : ℕ) → Bears b k (nameAt (namesOf path) i) → ⊥) → pathMatches b path ≡ []
+    pub unknown-none : (i : ℕ) → i < length (namesOf path) → ((k : ℕ) → Bears ed b k (nameAt (namesOf path) i) → ⊥) → pathMatches ed b path ≡ []
     unfolding pathMatches
     unknown-none i l f =
         empty _ (λ e m.
-        let s = sound (treeOf b) (nameText b) (namesOf path) 0 e m in
+        let s = sound (treeOf ed b) (nameText ed b) (namesOf path) 0 e m in
         let w = chain-bears (namesOf path) (s .0) 0 e (r .nodes .root) (s .1) i l in
         f (w .0) (w .1))
 
     -- more names than a chain has places
-    pub long-none : 63 < length (namesOf path) → pathMatches b path ≡ []
+    pub long-none : 63 < length (namesOf path) → pathMatches ed b path ≡ []
     unfolding pathMatches
     long-none l =
         empty _ (λ e m.
-        let s = sound (treeOf b) (nameText b) (namesOf path) 0 e m in
-        let n = bearing-length (treeOf b) (nameText b) (namesOf path) (s .0) 0 e (s .1) in
-        let d = no-longer (treeOf b) 63 0 (s .0) e (r .depth) (bearing-chain (treeOf b) (nameText b) (namesOf path) (s .0) 0 e (s .1)) in omega arith)
+        let s = sound (treeOf ed b) (nameText ed b) (namesOf path) 0 e m in
+        let n = bearing-length (treeOf ed b) (nameText ed b) (namesOf path) (s .0) 0 e (s .1) in
+        let d = no-longer (treeOf ed b) 63 0 (s .0) e (r .depth) (bearing-chain (treeOf ed b) (nameText ed b) (namesOf path) (s .0) 0 e (s .1)) in omega arith)
 
-  module _ (one : (i k : ℕ) (x : List ℕ) → Bears b i x → Bears b k x → i ≡ k) where
+  module _ (one : (i k : ℕ) (x : List ℕ) → Bears ed b i x → Bears ed b k x → i ≡ k) where
     -- a child bears a name exactly when it has its index
-    below-at : (x : List ℕ) (xs : List (List ℕ)) (i : ℕ) (is : List ℕ) (c : ℕ) → Bears b i x → Used b c
-        → matches (treeOf b) (nameText b) xs c ≡ matchesAt (treeOf b) is c
-        → matchesBelow (treeOf b) (nameText b) x xs c ≡ cond (eqb (treeOf b .name c) i) (matchesAt (treeOf b) is c) []
+    below-at : (x : List ℕ) (xs : List (List ℕ)) (i : ℕ) (is : List ℕ) (c : ℕ) → Bears ed b i x → Used ed b c
+        → matches (treeOf ed b) (nameText ed b) xs c ≡ matchesAt (treeOf ed b) is c
+        → matchesBelow (treeOf ed b) (nameText ed b) x xs c ≡ cond (eqb (treeOf ed b .name c) i) (matchesAt (treeOf ed b) is c) []
     below-at x xs i is c h u q =
-        by-cases (ℕ-discrete (treeOf b .name c) i)
+        by-cases (ℕ-discrete (treeOf ed b .name c) i)
         (λ e. let z = h .low in
-        rw (bearing-yes (treeOf b) (nameText b) x c (λ w. omega arith) (ap (nameText b) e ∙ h .text), eq-eqb (treeOf b .name c) i e) q)
+        rw (bearing-yes (treeOf ed b) (nameText ed b) x c (λ w. omega arith) (ap (nameText ed b) e ∙ h .text), eq-eqb (treeOf ed b .name c) i e) q)
         (λ f.
-        rw (bearing-no (treeOf b) (nameText b) x c (λ l t. f (one _ i x (rw (sym t) (used-bears c u l)) h)), ne-eqb (treeOf b .name c) i f))
+        rw (bearing-no (treeOf ed b) (nameText ed b) x c (λ l t. f (one _ i x (rw (sym t) (used-bears c u l)) h)), ne-eqb (treeOf ed b .name c) i f))
 
     -- the matches by name are the matches by name index
-    pub matches-by-index : (xs : List (List ℕ)) (is : List ℕ) → Indexes b xs is → (a : ℕ) → Used b a
-        → matches (treeOf b) (nameText b) xs a ≡ matchesAt (treeOf b) is a
+    pub matches-by-index : (xs : List (List ℕ)) (is : List ℕ) → Indexes ed b xs is → (a : ℕ) → Used ed b a
+        → matches (treeOf ed b) (nameText ed b) xs a ≡ matchesAt (treeOf ed b) is a
     unfolding matches matchesAt
     matches-by-index [] [] h a u = refl
     matches-by-index [] (i ∷ is) h a u = absurd (omega (arith, h .many))
     matches-by-index (x ∷ xs) [] h a u = absurd (omega (arith, h .many))
     matches-by-index (x ∷ xs) (i ∷ is) h a u =
-        ranged-same _ _ (treeOf b .first a) (treeOf b .count a)
+        ranged-same _ _ (treeOf ed b .first a) (treeOf ed b .count a)
         (λ j l.
-        let v = parents b r .within a j u l in
+        let v = parents ed b r .within a j u l in
         below-at x xs i is _ (first-index h) v (matches-by-index xs is (rest-indexes h) _ v))

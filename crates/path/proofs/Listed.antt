@@ -2,6 +2,7 @@
 use mathlib.Core.Path.{_≡_, subst}
 use mathlib.Core.List.{List}
 use Prim.Native.Nat.{ℕ}
+use Rattle.layout.specs.declared.Edition.{Edition}
 use Rattle.keys.specs.Names.{nameText}
 use Rattle.tree.specs.Chain.{Tree, Chain, Before}
 use Rattle.tree.specs.File.{Used, treeOf}
@@ -31,11 +32,11 @@ module _ (t : Tree) (text : ℕ → List ℕ) (xs : List (List ℕ)) (u : (ps qs
     ordered = pairs-mono _ _ _ document (ordered t text xs 0);
   }
 
-module _ (b : List ℕ) (r : FileRules b) where
+module _ (ed : Edition) (b : List ℕ) (r : FileRules ed b) where
   -- the used nodes have one parent each
-  pub parents : OneParent (treeOf b) (Used b)
-  parents = one-parent b (r .laid .nodes) (r .nodes) (r .range)
+  pub parents : OneParent (treeOf ed b) (Used ed b)
+  parents = one-parent ed b (r .laid .nodes) (r .nodes) (r .range)
 
-  pub listed : (path : List ℕ) → Listed (treeOf b) (nameText b) (namesOf path) (pathMatches b path)
+  pub listed : (path : List ℕ) → Listed (treeOf ed b) (nameText ed b) (namesOf path) (pathMatches ed b path)
   unfolding pathMatches
-  listed path = listed-in (treeOf b) (nameText b) (namesOf path) (one-chain (treeOf b) (Used b) parents)
+  listed path = listed-in (treeOf ed b) (nameText ed b) (namesOf path) (one-chain (treeOf ed b) (Used ed b) parents)

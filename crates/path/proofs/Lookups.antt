@@ -11,6 +11,7 @@ use lib.ListN.{length, getD, set, replicate, length-set}
 use lib.Seq.{getD-set-same, getD-set-other}
 use Rattle.verdict.proofs.Laws.{Clean}
 use Rattle.text.specs.Text.{chars}
+use Rattle.layout.specs.declared.Edition.{Edition}
 use Rattle.keys.specs.Names.{Bears}
 use Rattle.path.specs.Names.{namesOf, nameAt, pathChecks}
 use Rattle.path.specs.inner.Indices.{NameEnd, WantedIs}
@@ -18,14 +19,14 @@ use Rattle.path.proofs.Split.{namesFrom, names-start, names-end, names-
 use Rattle.path.proofs.Formed.{formed-inv}
 
 -- the first n names are those of the indices, and the names left start at offset `at`
-pub record Sofar (b path : List ℕ) (n at : ℕ) (indices : List ℕ) : Type 0 where
+pub record Sofar (ed : Edition) (b path : List ℕ) (n at : ℕ) (indices : List ℕ) : Type 0 where
   pub long : length indices ≡ 64
   pub few : n ≤ 63
   pub even : at % 2 ≡ 0
   pub within : at ≤ length path
   pub left : n + length (namesFrom path at) ≡ length (namesOf path)
   pub same : (i : ℕ) → nameAt (namesOf path) (n + i) ≡ nameAt (namesFrom path at) i
-  pub index : (i : ℕ) → i < n → Bears b (getD indices i 0) (nameAt (namesOf path) i)
+  pub index : (i : ℕ) → i < n → Bears ed b (getD indices i 0) (nameAt (namesOf path) i)
   pub rest : (i : ℕ) → n ≤ i → getD indices i 0 ≡ 0
 
 zeros : (n i : ℕ) → getD {A = ℕ} (replicate n 0) i 0 ≡ 0
@@ -33,8 +34,8 @@ zeros zero i = refl
 zeros (suc n) zero = refl
 zeros (suc n) (suc i) = zeros n i
 
-pub sofar-start : (b path : List ℕ) → Sofar b path 0 0 (replicate 64 0)
-sofar-start b path = record {
+pub sofar-start : (ed : Edition) (b path : List ℕ) → Sofar ed b path 0 0 (replicate 64 0)
+sofar-start ed b path = record {
   long = refl;
   few = omega arith;
   even = refl;
@@ -45,7 +46,7 @@ sofar-start b path = record {
   rest = λ i h. zeros 64 i;
 }
 
-module _ {b path : List ℕ} {n at : ℕ} {indices : List ℕ} (ok : Clean (pathChecks path)) (w : Sofar b path n at indices) where
+module _ {ed : Edition} {b path : List ℕ} {n at : ℕ} {indices : List ℕ} (ok : Clean (pathChecks path)) (w : Sofar ed b path n at indices) where
   module _ {e : ℕ} (h : NameEnd path at e) where
     next-names : namesFrom path at ≡ chars path at ((e - at) / 2) ∷ namesFrom path (e + 2)
     next-names = names-more path at e (formed-inv path ok .0) (w .even) h
@@ -54,7 +55,7 @@ module _ {b path : List ℕ} {n at : ℕ} {indices : List ℕ} (ok : Clean (path
     unfolding nameAt
     next-name = ap (nameAt (namesOf path)) (sym (add-zero n)) ∙ w .same 0 ∙ ap (λ (xs : List (List ℕ)). nameAt xs 0) next-names
 
-    pub sofar-more : (n ≡ 63 → ⊥) → (i : ℕ) → Bears b i (chars path at ((e - at) / 2)) → Sofar b path (n + 1) (e + 2) (set indices n i)
+    pub sofar-more : (n ≡ 63 → ⊥) → (i : ℕ) → Bears ed b i (chars path at ((e - at) / 2)) → Sofar ed b path (n + 1) (e + 2) (set indices n i)
     unfolding nameAt
     sofar-more f i g = record {
       long = simp length-set (w .long);
@@ -74,21 +75,21 @@ module _ {b path : List ℕ} {n at : ℕ} {indices : List ℕ} (ok : Clean (path
 
   -- what is known so far, as an answer
   wanted-is : (known : Bool) → (known ≡ true → n ≡ length (namesOf path))
-      → (known ≡ false → ((n ≡ 63) × (63 < length (namesOf path))) ⊎ ((n < length (namesOf path)) × ((k : ℕ) → Bears b k (nameAt (namesOf path) n) → ⊥)))
-      → WantedIs b path (record { known = known; count = n; indices = indices })
+      → (known ≡ false → ((n ≡ 63) × (63 < length (namesOf path))) ⊎ ((n < length (namesOf path)) × ((k : ℕ) → Bears ed b k (nameAt (namesOf path) n) → ⊥)))
+      → WantedIs ed b path (record { known = known; count = n; indices = indices })
   wanted-is known f g = record { long = w .long; few = w .few; index = w .index; rest = w .rest; many = f; none = g }
 
   -- all names
-  pub sofar-all : (known : Bool) → known ≡ true → length path ≤ at → WantedIs b path (record { known = known; count = n; indices = indices })
+  pub sofar-all : (known : Bool) → known ≡ true → length path ≤ at → WantedIs ed b path (record { known = known; count = n; indices = indices })
   sofar-all known q h = wanted-is known (λ z. omega (arith, w .left, ap length (names-end path at h))) (λ z. absurd (true≢false (sym q ∙ z)))
 
   -- more names than a chain can bear
-  pub sofar-long : at < length path → n ≡ 63 → WantedIs b path (record { known = false; count = n; indices = indices })
+  pub sofar-long : at < length path → n ≡ 63 → WantedIs ed b path (record { known = false; count = n; indices = indices })
   sofar-long h l = wanted-is false (λ z. absurd (false≢true z)) (λ z. inl (l, omega (arith, w .left, names-some path at ok (w .even) h)))
 
   -- a name that is no name of the file
-  pub sofar-absent : {e : ℕ} → NameEnd path at e → ((i : ℕ) → Bears b i (chars path at ((e - at) / 2)) → ⊥)
-      → WantedIs b path (record { known = false; count = n; indices = indices })
+  pub sofar-absent : {e : ℕ} → NameEnd path at e → ((i : ℕ) → Bears ed b i (chars path at ((e - at) / 2)) → ⊥)
+      → WantedIs ed b path (record { known = false; count = n; indices = indices })
   sofar-absent h f =
       wanted-is false (λ z. absurd (false≢true z))
       (λ z. inr (omega (arith, w .left, ap length (next-names h)), λ k y. f k (rw (next-name h) at y)))

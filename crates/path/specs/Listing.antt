@@ -9,6 +9,7 @@ use Rattle.verdict.specs.Checks.{Check, atMost}
 use Rattle.verdict.specs.Decide.{texts?}
 use Rattle.verdict.specs.declared.Verdict.{Verdict}
 use Rattle.verdict.specs.declared.Verdict.the-variants.{Accepted, Refused}
+use Rattle.layout.specs.declared.Edition.{Edition}
 use Rattle.keys.specs.Names.{nameText}
 use Rattle.tree.specs.Chain.{Tree, ranged}
 use Rattle.tree.specs.File.{treeOf}
@@ -26,8 +27,8 @@ matches t text (x ∷ xs) a =
     ranged (λ c. cond (not (eqb (t .name c) 0) && truthOf (texts? (text (t .name c)) x)) (matches t text xs c) []) (t .first a) (t .count a)
 
 -- The matches of a path in a file.
-unfoldable pub pathMatches : List ℕ → List ℕ → List ℕ
-pathMatches b path = matches (treeOf b) (nameText b) (namesOf path) 0
+unfoldable pub pathMatches : Edition → List ℕ → List ℕ → List ℕ
+pathMatches ed b path = matches (treeOf ed b) (nameText ed b) (namesOf path) 0
 
 -- A listing place is four bytes, low byte first.
 unfoldable pub encode : List ℕ → List ℕ
@@ -35,10 +36,10 @@ encode [] = []
 encode (a ∷ l) = le4 a ++ encode l
 
 -- 25: a listing has as many places as its length divided by four, rounded down; the place is the number of matches.
-unfoldable pub listingChecks : List ℕ → List ℕ → ℕ → List Check
-listingChecks b path room = atMost 25 (length (pathMatches b path)) (length (pathMatches b path)) (room / 4) ∷ []
+unfoldable pub listingChecks : Edition → List ℕ → List ℕ → ℕ → List Check
+listingChecks ed b path room = atMost 25 (length (pathMatches ed b path)) (length (pathMatches ed b path)) (room / 4) ∷ []
 
 -- The listing afterwards: the matches in the first places, all later bytes as they were; where anything is refused, every byte as it was.
-unfoldable pub listingAfter : List ℕ → List ℕ → List ℕ → Verdict → List ℕ
-listingAfter b path list Accepted = encode (pathMatches b path) ++ drop (length (encode (pathMatches b path))) list
-listingAfter b path list (Refused n p) = list
+unfoldable pub listingAfter : Edition → List ℕ → List ℕ → List ℕ → Verdict → List ℕ
+listingAfter ed b path list Accepted = encode (pathMatches ed b path) ++ drop (length (encode (pathMatches ed b path))) list
+listingAfter ed b path list (Refused n p) = list

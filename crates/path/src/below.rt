@@ -2,6 +2,7 @@
 ghost use mathlib.Core.Path.{_≡_};
 ghost use Prim.Native.Nat.{_+_, _≤_};
 ghost use lib.ListN.{length};
+ghost use Rattle.layout.specs.declared.Edition.the-variants.{Bits64};
 ghost use Rattle.tree.specs.File.{Used, nodeOf, treeOf};
 ghost use Rattle.tree.specs.inner.Marking.{TreeReady};
 ghost use Rattle.path.specs.inner.Indices.{matchesAt, indicesFrom};
@@ -26,10 +27,10 @@ pub fn list_below(
     list: &mut [u8],
     k: usize,
 ) -> usize
-    requires { ⌜ TreeReady (now b) nodes (now segments) × Used (now b) a × (p ≡ nodeOf (now b) a) ⌝ }
+    requires { ⌜ TreeReady Bits64 (now b) nodes (now segments) × Used Bits64 (now b) a × (p ≡ nodeOf Bits64 (now b) a) ⌝ }
     requires { ⌜ (length (now wanted) ≡ 64) × (at ≤ n) × (n ≤ 63)
-        × (k + length (matchesAt (treeOf (now b)) (indicesFrom (now wanted) n at) a) ≤ 4294967296) ⌝ }
-    ensures { λ r. ⌜ Wrote (now (list .entry)) k (matchesAt (treeOf (now (b .entry))) (indicesFrom (now (wanted .entry)) n at) a) r
+        × (k + length (matchesAt (treeOf Bits64 (now b)) (indicesFrom (now wanted) n at) a) ≤ 4294967296) ⌝ }
+    ensures { λ r. ⌜ Wrote (now (list .entry)) k (matchesAt (treeOf Bits64 (now (b .entry))) (indicesFrom (now (wanted .entry)) n at) a) r
         (now (list .exit)) ⌝ }
 {
     if at == n {

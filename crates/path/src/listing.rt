@@ -3,6 +3,7 @@ ghost use mathlib.Core.Path.{_≡_};
 ghost use lib.ListN.{length};
 ghost use Rattle.hash.specs.inner.Tables.{Tables};
 ghost use Rattle.layout.specs.Layout.{names};
+ghost use Rattle.layout.specs.declared.Edition.the-variants.{Bits64};
 ghost use Rattle.strings.specs.inner.Held.{Held, heldTable};
 ghost use Rattle.tree.specs.inner.Marking.{TreeReady};
 ghost use Rattle.accept.specs.Rules.{FileRules};
@@ -34,10 +35,10 @@ pub fn list_path(
     path: &[u8],
     list: &mut [u8],
 ) -> Listing
-    requires { ⌜ Tables (now t) × Held (now b) s (now «name_segments») (now «name_buckets») × (heldTable (now b) s (now «name_buckets») ≡ names (now b))
-        × TreeReady (now b) nodes (now «node_segments») × FileRules (now b) ⌝ }
-    ensures answer { λ r. ⌜ PathListed (now (b .entry)) (now (path .entry)) (length (now (list .entry))) r ⌝ }
-    ensures listing { λ r. ⌜ now (list .exit) ≡ listingAfter (now (b .entry)) (now (path .entry)) (now (list .entry)) (r .answer) ⌝ }
+    requires { ⌜ Tables (now t) × Held (now b) s (now «name_segments») (now «name_buckets») × (heldTable (now b) s (now «name_buckets») ≡ names Bits64 (now b))
+        × TreeReady Bits64 (now b) nodes (now «node_segments») × FileRules Bits64 (now b) ⌝ }
+    ensures answer { λ r. ⌜ PathListed Bits64 (now (b .entry)) (now (path .entry)) (length (now (list .entry))) r ⌝ }
+    ensures listing { λ r. ⌜ now (list .exit) ≡ listingAfter Bits64 (now (b .entry)) (now (path .entry)) (now (list .entry)) (r .answer) ⌝ }
 {
     let c = names::check_path(path);
     if let Verdict::Refused(num, place) = c {

@@ -1,5 +1,6 @@
 -- What the steps of a batch find out, and 19 of its attributes from that. Assumes nothing.
 use Prim.Native.Nat.{ℕ, _+_, _-_, _*_, _%_, _≤_, _<_}
+use native.Mathlib.Nat.{mul-le-mul-right}
 use native.Mathlib.Omega.{arith}
 use mathlib.Core.Path.{_≡_, ap, sym, subst, _∙_}
 use mathlib.Core.Logic.{inl, inr, ⊎-elim}
@@ -10,14 +11,16 @@ use lib.ListN.{length, getD}
 use Rattle.le.specs.Le.{u16At, u32At}
 use Rattle.words.specs.Words.{extendedOf}
 use Rattle.hash.specs.Fold.{valueHash}
-use Rattle.region.specs.Region.{Laid, countOf, startOf, usedOf, placeOf}
+use Rattle.region.specs.Region.{Laid, countOf, startOf, fullOf, usedOf, placeOf}
 use Rattle.region.specs.inner.Samples.{Mapped}
 use Rattle.region.specs.declared.Region.{Region}
 use Rattle.region.proofs.Samples.{segment-fits, used-at}
 use Rattle.text.specs.Text.{textIn}
 use Rattle.text.proofs.Laws.{room-some}
 use Rattle.layout.specs.Table.{Table, entries}
-use Rattle.layout.specs.Layout.{attributeSize, attributesAt, values}
+use Rattle.layout.specs.Edition.{attributeSize}
+use Rattle.layout.specs.Layout.{attributesAt, values}
+use Rattle.layout.specs.declared.Edition.{Edition}
 use Rattle.strings.specs.Texts.{spotAt, textTo}
 use Rattle.strings.specs.declared.spot.Spot.{Spot}
 use Rattle.strings.specs.declared.spot.Spot.the-variants.{At}
@@ -92,9 +95,9 @@ all-found b t slots at left n y p s h j l =
     p _ _ (w .0) (⊎-elim (begins-first _ _ _ _) (begins-behind _ _ _ _ _ (w .1)) (h j l))
 
 -- 19 of every attribute of the batch
-pub all-right : (b : List ℕ) (t : Table) (slots at left : List ℕ) (n : ℕ) → t .bytes ≡ b → t ≡ values b → Laid 2 (t .bytes) (t .at)
-    → AllSpots (t .bytes) (t .at) slots n at left → AllHashed (t .bytes) slots n at left → AllFound (t .bytes) t slots n → AllRight (t .bytes) slots n
-all-right b t slots at left n y e laid s h f j l k = record {
+pub all-right : (ed : Edition) (b : List ℕ) (t : Table) (slots at left : List ℕ) (n : ℕ) → t .bytes ≡ b → t ≡ values ed b → Laid 2 (t .bytes) (t .at)
+    → AllSpots (t .bytes) (t .at) slots n at left → AllHashed (t .bytes) slots n at left → AllFound (t .bytes) t slots n → AllRight ed (t .bytes) slots n
+all-right ed b t slots at left n y e laid s h f j l k = record {
   entry = there EntryAddress (f j l);
   hash = there (λ u v w. extendedOf (typeWord (t .bytes) (getD slots j 0)) ≡ valueHash (textTo u v w))
       (h j l ∙ ap valueHash (spot-text t _ _ laid (s .each j l .spot) .text));
@@ -102,44 +105,43 @@ all-right b t slots at left n y e laid s h f j l k = record {
   where
     there : (P : Table → ℕ → ℕ → Type 0)
         → P t (textSegment (t .bytes) (getD slots j 0)) (textElement (t .bytes) (getD slots j 0))
-        → P (values (t .bytes)) (textSegment (t .bytes) (getD slots j 0)) (textElement (t .bytes) (getD slots j 0))
-    there P p = subst (λ (u : Table). P u (textSegment (t .bytes) (getD slots j 0)) (textElement (t .bytes) (getD slots j 0))) (e ∙ ap values (sym y)) p
+        → P (values ed (t .bytes)) (textSegment (t .bytes) (getD slots j 0)) (textElement (t .bytes) (getD slots j 0))
+    there P p = subst (λ (u : Table). P u (textSegment (t .bytes) (getD slots j 0)) (textElement (t .bytes) (getD slots j 0))) (e ∙ ap (values ed) (sym y)) p
 
 -- ---- all used attributes: the rows of the segments
 
 -- the rows before segment seg
-abbrev pub RowsTrusted : List ℕ → List ℕ → ℕ → Type 0
-RowsTrusted b d seg = (s : ℕ) → s < seg → (e : ℕ) → e < usedOf attributeSize b (attributesAt b) s → Trusted b d (placeOf attributeSize b (attributesAt b) s e)
+abbrev pub RowsTrusted : Edition → List ℕ → List ℕ → ℕ → Type 0
+RowsTrusted ed b d seg = (s : ℕ) → s < seg → (e : ℕ) → e < usedOf (attributeSize ed) b (attributesAt b) s → Trusted ed b d (placeOf (attributeSize ed) b (attributesAt b) s e)
 
-module _ (b : List ℕ) {g : Region} (w : Mapped attributeSize b (attributesAt b) g) where
-  pub rows-start : (at : ℕ) → at ≡ g .at + 4 → at ≡ startOf attributeSize b (attributesAt b) 0
+module _ (ed : Edition) (b : List ℕ) {g : Region} (w : Mapped (attributeSize ed) b (attributesAt b) g) where
+  pub rows-start : (at : ℕ) → at ≡ g .at + 4 → at ≡ startOf (attributeSize ed) b (attributesAt b) 0
   unfolding startOf
   rows-start at e = omega (arith, w .at-is)
 
-  module _ (seg at : ℕ) (h : seg < g .count) (q : at ≡ startOf attributeSize b (attributesAt b) seg) where
-    pub segment-in : at + 8 + u32At b at * 12 ≤ length b
-    unfolding attributeSize
-    segment-in = segment-fits attributeSize _ _ w seg at h q
+  module _ (seg at : ℕ) (h : seg < g .count) (q : at ≡ startOf (attributeSize ed) b (attributesAt b) seg) where
+    pub segment-in : at + 8 + u32At b at * attributeSize ed ≤ length b
+    segment-in = segment-fits (attributeSize ed) _ _ w seg at h q
 
-    pub row-in : (used : ℕ) → used ≡ u32At b (at + 4) → at + 8 + used * 12 ≤ length b
-    unfolding attributeSize
+    pub row-in : (used : ℕ) → used ≡ u32At b (at + 4) → at + 8 + used * attributeSize ed ≤ length b
     row-in used e =
         let l : seg < countOf b (attributesAt b) = omega (arith, w .count-is) in
-        omega (arith, used-at attributeSize b (attributesAt b) seg at used q e, w .laid .used seg l, w .laid .fits seg l)
+        let m : used ≤ fullOf (attributeSize ed) b (attributesAt b) seg = omega (arith, used-at (attributeSize ed) b (attributesAt b) seg at used q e, w .laid .used seg l) in
+        omega (arith, mul-le-mul-right (attributeSize ed) m, w .laid .fits seg l)
 
-pub rows-none : (b d : List ℕ) → RowsTrusted b d 0
-rows-none b d = below-none _
+pub rows-none : (ed : Edition) (b d : List ℕ) → RowsTrusted ed b d 0
+rows-none ed b d = below-none _
 
-pub rows-still : (b d d′ : List ℕ) (seg : ℕ) → Kept d d′ → RowsTrusted b d seg → RowsTrusted b d′ seg
-rows-still b d d′ seg k r s l e h = still k (r s l e h)
+pub rows-still : (ed : Edition) (b d d′ : List ℕ) (seg : ℕ) → Kept d d′ → RowsTrusted ed b d seg → RowsTrusted ed b d′ seg
+rows-still ed b d d′ seg k r s l e h = still k (r s l e h)
 
 -- one row more, which starts at `at`
-pub rows-more : (b d : List ℕ) (seg at used el : ℕ) → RowsTrusted b d seg → at ≡ startOf attributeSize b (attributesAt b) seg → used ≡ usedOf attributeSize b (attributesAt b) seg
-    → used ≤ el → ((i : ℕ) → i < el → Trusted b d (at + 8 + i * 12)) → RowsTrusted b d (seg + 1)
-unfolding placeOf attributeSize
-rows-more b d seg at used el r p q l h =
-    below-more (λ (s : ℕ). (e : ℕ) → e < usedOf attributeSize b (attributesAt b) s → Trusted b d (placeOf attributeSize b (attributesAt b) s e)) seg r
-    (λ e g. subst (λ (x : ℕ). Trusted b d (x + 8 + e * 12)) p (h e (omega (arith, q, l))))
+pub rows-more : (ed : Edition) (b d : List ℕ) (seg at used el : ℕ) → RowsTrusted ed b d seg → at ≡ startOf (attributeSize ed) b (attributesAt b) seg → used ≡ usedOf (attributeSize ed) b (attributesAt b) seg
+    → used ≤ el → ((i : ℕ) → i < el → Trusted ed b d (at + 8 + i * attributeSize ed)) → RowsTrusted ed b d (seg + 1)
+unfolding placeOf
+rows-more ed b d seg at used el r p q l h =
+    below-more (λ (s : ℕ). (e : ℕ) → e < usedOf (attributeSize ed) b (attributesAt b) s → Trusted ed b d (placeOf (attributeSize ed) b (attributesAt b) s e)) seg r
+    (λ e g. subst (λ (x : ℕ). Trusted ed b d (x + 8 + e * attributeSize ed)) p (h e (omega (arith, q, l))))
 
-pub rows-all : (b d : List ℕ) (seg : ℕ) → RowsTrusted b d seg → countOf b (attributesAt b) ≤ seg → AllTrusted b d
-rows-all b d seg r l s e h = r s (omega (arith, h .seg-in)) e (h .el-in)
+pub rows-all : (ed : Edition) (b d : List ℕ) (seg : ℕ) → RowsTrusted ed b d seg → countOf b (attributesAt b) ≤ seg → AllTrusted ed b d
+rows-all ed b d seg r l s e h = r s (omega (arith, h .seg-in)) e (h .el-in)

@@ -8,7 +8,9 @@ ghost use Rattle.verdict.specs.declared.Verdict.the-variants.{Accepted};
 ghost use Rattle.hash.specs.inner.Tables.{Tables};
 ghost use Rattle.region.specs.inner.Samples.{Mapped};
 ghost use Rattle.memo.specs.inner.Memo.{Remembers};
-ghost use Rattle.layout.specs.Layout.{attributeSize, attributesAt, values};
+ghost use Rattle.layout.specs.Edition.{attributeSize};
+ghost use Rattle.layout.specs.Layout.{attributesAt, values};
+ghost use Rattle.layout.specs.declared.Edition.the-variants.{Bits64};
 ghost use Rattle.strings.specs.Order.{stringChecks};
 ghost use Rattle.strings.specs.inner.Held.{Held, heldTable};
 ghost use Rattle.positions.specs.inner.Packed.{Packed};
@@ -40,10 +42,10 @@ fn doubt(
     doubts: &mut [u32; 4096],
     memo: &mut [u32; 3072],
 )
-    requires { ⌜ Tables (now t) × Held (now b) s (now segments) (now buckets) × (heldTable (now b) s (now buckets) ≡ values (now b))
-        × (firstFault (stringChecks (values (now b))) ≡ Accepted) × (q + 12 ≤ length (now b)) × (length (now doubts) ≡ 4096)
+    requires { ⌜ Tables (now t) × Held (now b) s (now segments) (now buckets) × (heldTable (now b) s (now buckets) ≡ values Bits64 (now b))
+        × (firstFault (stringChecks (values Bits64 (now b))) ≡ Accepted) × (q + attributeSize Bits64 ≤ length (now b)) × (length (now doubts) ≡ 4096)
         × Remembers (noted (now b)) (now memo) ⌝ }
-    ensures doubts { λ _. ⌜ Trusted (now (b .entry)) (now (doubts .exit)) q × Kept (now (doubts .entry)) (now (doubts .exit)) ⌝ }
+    ensures doubts { λ _. ⌜ Trusted Bits64 (now (b .entry)) (now (doubts .exit)) q × Kept (now (doubts .entry)) (now (doubts .exit)) ⌝ }
     ensures memo { λ _. ⌜ Remembers (noted (now (b .entry))) (now (memo .exit)) ⌝ }
 {
     if attribute::text_right(b, t, s, segments, buckets, q, memo) {
@@ -64,10 +66,10 @@ fn doubt_wrong(
     doubts: &mut [u32; 4096],
     memo: &mut [u32; 3072],
 )
-    requires { ⌜ Tables (now t) × Held (now b) s (now segments) (now buckets) × (heldTable (now b) s (now buckets) ≡ values (now b))
-        × (firstFault (stringChecks (values (now b))) ≡ Accepted) × (length (now slots) ≡ 64) × SlotsIn (now b) (now slots) n × (n ≤ 64)
+    requires { ⌜ Tables (now t) × Held (now b) s (now segments) (now buckets) × (heldTable (now b) s (now buckets) ≡ values Bits64 (now b))
+        × (firstFault (stringChecks (values Bits64 (now b))) ≡ Accepted) × (length (now slots) ≡ 64) × SlotsIn Bits64 (now b) (now slots) n × (n ≤ 64)
         × (length (now doubts) ≡ 4096) × Remembers (noted (now b)) (now memo) ⌝ }
-    ensures doubts { λ _. ⌜ Examined (now (b .entry)) (now (slots .entry)) n (now (doubts .entry)) (now (doubts .exit)) ⌝ }
+    ensures doubts { λ _. ⌜ Examined Bits64 (now (b .entry)) (now (slots .entry)) n (now (doubts .entry)) (now (doubts .exit)) ⌝ }
     ensures memo { λ _. ⌜ Remembers (noted (now (b .entry))) (now (memo .exit)) ⌝ }
 {
     let mut j = 0;
@@ -92,12 +94,12 @@ fn examine_batch(
     doubts: &mut [u32; 4096],
     memo: &mut [u32; 3072],
 ) -> bool
-    requires { ⌜ Tables (now t) × Held (now b) s (now segments) (now buckets) × (heldTable (now b) s (now buckets) ≡ values (now b))
-        × (firstFault (stringChecks (values (now b))) ≡ Accepted) × (length (now slots) ≡ 64) × SlotsIn (now b) (now slots) n × (n ≤ 64)
-        × Sure (Packed (values (now b))) packed × Remembers (noted (now b)) (now memo) ⌝ }
+    requires { ⌜ Tables (now t) × Held (now b) s (now segments) (now buckets) × (heldTable (now b) s (now buckets) ≡ values Bits64 (now b))
+        × (firstFault (stringChecks (values Bits64 (now b))) ≡ Accepted) × (length (now slots) ≡ 64) × SlotsIn Bits64 (now b) (now slots) n × (n ≤ 64)
+        × Sure (Packed (values Bits64 (now b))) packed × Remembers (noted (now b)) (now memo) ⌝ }
     requires { ⌜ (length (now doubts) ≡ 4096) × Sure (NoDoubt (now doubts)) known ⌝ }
     ensures answer { λ r. ⌜ Sure (NoDoubt (now (doubts .exit))) r ⌝ }
-    ensures doubts { λ _. ⌜ Examined (now (b .entry)) (now (slots .entry)) n (now (doubts .entry)) (now (doubts .exit)) ⌝ }
+    ensures doubts { λ _. ⌜ Examined Bits64 (now (b .entry)) (now (slots .entry)) n (now (doubts .entry)) (now (doubts .exit)) ⌝ }
     ensures memo { λ _. ⌜ Remembers (noted (now (b .entry))) (now (memo .exit)) ⌝ }
 {
     if steps::batch_right(b, t, s, segments, buckets, slots, n, packed, memo) {
@@ -120,12 +122,12 @@ fn find_doubts(
     doubts: &mut [u32; 4096],
     memo: &mut [u32; 3072],
 ) -> bool
-    requires { ⌜ Tables (now t) × Held (now b) s (now segments) (now buckets) × (heldTable (now b) s (now buckets) ≡ values (now b))
-        × (firstFault (stringChecks (values (now b))) ≡ Accepted) × Sure (Packed (values (now b))) packed
-        × Mapped attributeSize (now b) (attributesAt (now b)) attributes × Remembers (noted (now b)) (now memo) ⌝ }
+    requires { ⌜ Tables (now t) × Held (now b) s (now segments) (now buckets) × (heldTable (now b) s (now buckets) ≡ values Bits64 (now b))
+        × (firstFault (stringChecks (values Bits64 (now b))) ≡ Accepted) × Sure (Packed (values Bits64 (now b))) packed
+        × Mapped (attributeSize Bits64) (now b) (attributesAt (now b)) attributes × Remembers (noted (now b)) (now memo) ⌝ }
     requires { ⌜ (length (now doubts) ≡ 4096) × NoDoubt (now doubts) ⌝ }
     ensures answer { λ r. ⌜ Sure (NoDoubt (now (doubts .exit))) r ⌝ }
-    ensures doubts { λ _. ⌜ AllTrusted (now (b .entry)) (now (doubts .exit)) ⌝ }
+    ensures doubts { λ _. ⌜ AllTrusted Bits64 (now (b .entry)) (now (doubts .exit)) ⌝ }
     ensures memo { λ _. ⌜ Remembers (noted (now (b .entry))) (now (memo .exit)) ⌝ }
 {
     let mut slots = [0u32; 64];
@@ -170,9 +172,9 @@ pub fn check_nodes_in_batches(
     value_buckets: &[u32],
     packed: bool,
 ) -> Verdict
-    requires { ⌜ Tables (now t) × Ready (now b) p names (now «attribute_segments») (now «node_segments») (now «value_segments») (now «value_buckets»)
-        × Sure (Packed (values (now b))) packed ⌝ }
-    ensures { λ r. ⌜ r ≡ firstFault (allNodeChecks (now (b .entry))) ⌝ }
+    requires { ⌜ Tables (now t) × Ready Bits64 (now b) p names (now «attribute_segments») (now «node_segments») (now «value_segments») (now «value_buckets»)
+        × Sure (Packed (values Bits64 (now b))) packed ⌝ }
+    ensures { λ r. ⌜ r ≡ firstFault (allNodeChecks Bits64 (now (b .entry))) ⌝ }
 {
     let chars = p.value_chars;
     let s = Strings {

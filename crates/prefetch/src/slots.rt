@@ -2,6 +2,8 @@
 ghost use mathlib.Core.Path.{_≡_};
 ghost use Prim.Native.Nat.{_+_, _*_, _≤_, _<_, _^_};
 ghost use lib.ListN.{length};
+ghost use Rattle.layout.specs.Edition.{attributeSize};
+ghost use Rattle.layout.specs.declared.Edition.the-variants.{Bits64};
 ghost use Rattle.prefetch.specs.inner.Slots.{TakenFrom};
 use layout::ATTRIBUTE_SIZE;
 use nodes::fields;
@@ -15,8 +17,8 @@ pub struct Taken {
 // Takes the texts among the attributes of a row from element el on, until the slots are full or the row ends. A slot is written before it
 // is known whether it is kept: texts come and go too irregularly for a branch.
 pub fn take_texts(b: &[u8], first: usize, el: usize, used: usize, slots: &mut [u32; 64]) -> Taken
-    requires { ⌜ (first + used * 12 ≤ length (now b)) × (length (now b) < 2 ^ 32) × (el ≤ used) × (length (now slots) ≡ 64) ⌝ }
-    ensures { λ r. ⌜ TakenFrom (now (b .entry)) first el used r (now (slots .exit)) ⌝ }
+    requires { ⌜ (first + used * attributeSize Bits64 ≤ length (now b)) × (length (now b) < 2 ^ 32) × (el ≤ used) × (length (now slots) ≡ 64) ⌝ }
+    ensures { λ r. ⌜ TakenFrom Bits64 (now (b .entry)) first el used r (now (slots .exit)) ⌝ }
 {
     let mut n = 0;
     let mut e = el;

@@ -13,6 +13,7 @@ use Rattle.hash.specs.Hash.{hashText}
 use Rattle.layout.specs.Header.{headerOf}
 use Rattle.layout.specs.Table.{Table, indexOf, segmentOf, elementOf}
 use Rattle.layout.specs.Layout.{values, names}
+use Rattle.layout.specs.declared.Edition.{Edition}
 use Rattle.strings.proofs.Accepted.{strings-iff}
 use Rattle.tree.specs.File.{address, usedNodes}
 use Rattle.lookup.specs.Collisions.{hashCount}
@@ -37,39 +38,39 @@ use Rattle.taplinen.proofs.Refusing.{verdict-answers, verdict-refuses, 
 
 -- ---- the first sentence
 
-module _ (b : List ℕ) (room : ℕ) where
-  pub accept-zero : acceptAnswer b room .refusal ≡ 0 → verdictOf b room ≡ Accepted
+module _ (ed : Edition) (b : List ℕ) (room : ℕ) where
+  pub accept-zero : acceptAnswer ed b room .refusal ≡ 0 → verdictOf ed b room ≡ Accepted
   unfolding acceptAnswer
-  accept-zero z = zero-accepted b room 0 (usedNodes b) z
+  accept-zero z = zero-accepted ed b room 0 (usedNodes ed b) z
 
-  zero-accept : verdictOf b room ≡ Accepted → Answers (acceptAnswer b room) (usedNodes b)
+  zero-accept : verdictOf ed b room ≡ Accepted → Answers (acceptAnswer ed b room) (usedNodes ed b)
   unfolding acceptAnswer
-  zero-accept e = verdict-answers 0 (usedNodes b) e
+  zero-accept e = verdict-answers 0 (usedNodes ed b) e
 
-  pub accept-refused : (n p : ℕ) → Refuses (acceptAnswer b room) n p → verdictOf b room ≡ Refused n p
+  pub accept-refused : (n p : ℕ) → Refuses (acceptAnswer ed b room) n p → verdictOf ed b room ≡ Refused n p
   unfolding acceptAnswer
-  accept-refused n p r = refuses-verdict 0 (usedNodes b) (verdictOf b room) r
+  accept-refused n p r = refuses-verdict 0 (usedNodes ed b) (verdictOf ed b room) r
 
-  refused-accept : (n p : ℕ) → verdictOf b room ≡ Refused n p → Refuses (acceptAnswer b room) n p
+  refused-accept : (n p : ℕ) → verdictOf ed b room ≡ Refused n p → Refuses (acceptAnswer ed b room) n p
   unfolding acceptAnswer
   refused-accept n p e =
-      let f = file-number b room e in
-      verdict-refuses 0 (usedNodes b) (λ z. omega arith) e
+      let f = file-number ed b room e in
+      verdict-refuses 0 (usedNodes ed b) (λ z. omega arith) e
 
-  first-broken : (n p : ℕ) → (verdictOf b room ≡ Refused n p) ↔ FirstBroken (acceptChecks b room) n p
+  first-broken : (n p : ℕ) → (verdictOf ed b room ≡ Refused n p) ↔ FirstBroken (acceptChecks ed b room) n p
   unfolding verdictOf
-  first-broken n p = broken-iff (acceptChecks b room) n p
+  first-broken n p = broken-iff (acceptChecks ed b room) n p
 
-  pub acceptance : Acceptance b room
+  pub acceptance : Acceptance ed b room
   acceptance = record {
-    accepted = (λ z. accepted-iff b room .0 (accept-zero z), λ w. zero-accept (accepted-iff b room .1 w) .answered);
+    accepted = (λ z. accepted-iff ed b room .0 (accept-zero z), λ w. zero-accept (accepted-iff ed b room .1 w) .answered);
     refused = λ n p. (λ r. first-broken n p .0 (accept-refused n p r), λ f. refused-accept n p (first-broken n p .1 f));
-    row = λ n p r. refused-row b room (accept-refused n p r);
-    no-row = λ z n p. let w = accepted-iff b room .0 (accept-zero z) in none-broken b (w .0) (w .1);
+    row = λ n p r. refused-row ed b room (accept-refused n p r);
+    no-row = λ z n p. let w = accepted-iff ed b room .0 (accept-zero z) in none-broken ed b (w .0) (w .1);
     value = λ z. zero-accept (accept-zero z);
   }
 
-  pub reports : acceptAnswer b room .refusal ≡ 0 → Reports b (headerAnswer b room)
+  pub reports : acceptAnswer ed b room .refusal ≡ 0 → Reports b (headerAnswer ed b room)
   unfolding headerAnswer reported headerOf doubleAt
   reports z =
       let e = accept-zero z in
@@ -119,36 +120,36 @@ finds t f x l r e g c h =
       one-of-three = one-of-three t x;
     }
 
-module _ (b : List ℕ) (room : ℕ) (q : List ℕ) (z : acceptAnswer b room .refusal ≡ 0) (even : length q % 2 ≡ 0) where
-  rules : FileRules b
-  rules = accepted-iff b room .0 (accept-zero b room z) .0
+module _ (ed : Edition) (b : List ℕ) (room : ℕ) (q : List ℕ) (z : acceptAnswer ed b room .refusal ≡ 0) (even : length q % 2 ≡ 0) where
+  rules : FileRules ed b
+  rules = accepted-iff ed b room .0 (accept-zero ed b room z) .0
 
-  name-told : nameAnswer b room q ≡ answered Accepted (kindOf (indexOfText (names b) (textFrom q))) (toldNumber (indexOfText (names b) (textFrom q)))
+  name-told : nameAnswer ed b room q ≡ answered Accepted (kindOf (indexOfText (names ed b) (textFrom q))) (toldNumber (indexOfText (names ed b) (textFrom q)))
   unfolding nameAnswer textAnswer toldIn tableOf
-  name-told = text-told Name b room q (accept-zero b room z) even
+  name-told = text-told ed Name b room q (accept-zero ed b room z) even
 
-  value-told : valueAnswer b room q ≡ answered Accepted (kindOf (addressOfText (values b) (textFrom q))) (toldNumber (addressOfText (values b) (textFrom q)))
+  value-told : valueAnswer ed b room q ≡ answered Accepted (kindOf (addressOfText (values ed b) (textFrom q))) (toldNumber (addressOfText (values ed b) (textFrom q)))
   unfolding valueAnswer textAnswer toldIn tableOf
-  value-told = text-told Value b room q (accept-zero b room z) even
+  value-told = text-told ed Value b room q (accept-zero ed b room z) even
 
-  name-found : Finds (names b) (indexOf (names b)) (textFrom q) (nameAnswer b room q)
+  name-found : Finds (names ed b) (indexOf (names ed b)) (textFrom q) (nameAnswer ed b room q)
   name-found =
-      let ok = strings-iff (names b) .1 (rules .name-table) in
-      finds (names b) (indexOf (names b)) (textFrom q) _ _ name-told (index-found-iff (names b) (textFrom q) ok)
-      (index-collided-iff (names b) (textFrom q) ok) (index-absent-iff (names b) (textFrom q) ok)
+      let ok = strings-iff (names ed b) .1 (rules .name-table) in
+      finds (names ed b) (indexOf (names ed b)) (textFrom q) _ _ name-told (index-found-iff (names ed b) (textFrom q) ok)
+      (index-collided-iff (names ed b) (textFrom q) ok) (index-absent-iff (names ed b) (textFrom q) ok)
 
-  value-found : Finds (values b) (λ k j. address (segmentOf (values b) k j) (elementOf (values b) k j)) (textFrom q) (valueAnswer b room q)
+  value-found : Finds (values ed b) (λ k j. address (segmentOf (values ed b) k j) (elementOf (values ed b) k j)) (textFrom q) (valueAnswer ed b room q)
   value-found =
-      let ok = strings-iff (values b) .1 (rules .value-table) in
-      finds (values b) _ (textFrom q) _ _ value-told (address-found-iff (values b) (textFrom q) ok) (address-collided-iff (values b) (textFrom q) ok)
-      (address-absent-iff (values b) (textFrom q) ok)
+      let ok = strings-iff (values ed b) .1 (rules .value-table) in
+      finds (values ed b) _ (textFrom q) _ _ value-told (address-found-iff (values ed b) (textFrom q) ok) (address-collided-iff (values ed b) (textFrom q) ok)
+      (address-absent-iff (values ed b) (textFrom q) ok)
 
-  pub lookups : Lookups b room q
+  pub lookups : Lookups ed b room q
   lookups = record {
     name = name-found;
     value = value-found;
     zero = λ i h e. (
-      name-found .absent .1 (zero-missing (names b) (textFrom q) i h e) .0,
-      value-found .absent .1 (zero-missing (values b) (textFrom q) i h e) .0,
+      name-found .absent .1 (zero-missing (names ed b) (textFrom q) i h e) .0,
+      value-found .absent .1 (zero-missing (values ed b) (textFrom q) i h e) .0,
     );
   }

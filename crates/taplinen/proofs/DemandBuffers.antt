@@ -11,7 +11,9 @@ use Rattle.verdict.specs.Checks.{Check, check, firstFault}
 use Rattle.verdict.specs.declared.Verdict.the-variants.{Accepted, Refused}
 use Rattle.verdict.proofs.Laws.{append-inv, clean-inv}
 use Rattle.region.specs.Region.{Resolves, numberOf}
-use Rattle.layout.specs.Layout.{nodeSize, nodesAt}
+use Rattle.layout.specs.Edition.{nodeSize}
+use Rattle.layout.specs.Layout.{nodesAt}
+use Rattle.layout.specs.declared.Edition.{Edition}
 use Rattle.tree.specs.File.{address, usedNodes}
 use Rattle.tree.specs.Marks.{isChild?, markBy, cleared, marked}
 use Rattle.tree.specs.Outcome.{workspaceAfter}
@@ -36,63 +38,63 @@ use Rattle.taplinen.proofs.Refusing.{verdict-cases, accepted-0, refused
 
 -- ---- the workspace
 
-module _ (b ws : List ℕ) where
+module _ (ed : Edition) (b ws : List ℕ) where
   -- acceptance's own number
   abbrev number : ℕ
-  number = acceptAnswer b (length ws) .refusal
+  number = acceptAnswer ed b (length ws) .refusal
 
-  left-accepted : verdictOf b (length ws) ≡ Accepted → workspaceLeft b ws ≡ marked b ws
+  left-accepted : verdictOf ed b (length ws) ≡ Accepted → workspaceLeft ed b ws ≡ marked ed b ws
   unfolding workspaceLeft workspaceAfter
   left-accepted e = rw e
 
-  left-cleared : {n p : ℕ} → verdictOf b (length ws) ≡ Refused n p → (n ≡ 21) ⊎ (n ≡ 22) → workspaceLeft b ws ≡ cleared b ws
+  left-cleared : {n p : ℕ} → verdictOf ed b (length ws) ≡ Refused n p → (n ≡ 21) ⊎ (n ≡ 22) → workspaceLeft ed b ws ≡ cleared ed b ws
   unfolding workspaceLeft workspaceAfter
   left-cleared e (inl z) = rw (e, z)
   left-cleared e (inr z) = rw (e, z)
 
-  left-kept : {n p : ℕ} → verdictOf b (length ws) ≡ Refused n p → (n ≡ 21 → ⊥) → (n ≡ 22 → ⊥) → workspaceLeft b ws ≡ ws
+  left-kept : {n p : ℕ} → verdictOf ed b (length ws) ≡ Refused n p → (n ≡ 21 → ⊥) → (n ≡ 22 → ⊥) → workspaceLeft ed b ws ≡ ws
   unfolding workspaceLeft workspaceAfter
   left-kept {n} e f g = rw (e, ne-eqb n 21 f, ne-eqb n 22 g)
 
   -- the number is the verdict's
-  number-of : {n p : ℕ} → verdictOf b (length ws) ≡ Refused n p → number ≡ n
+  number-of : {n p : ℕ} → verdictOf ed b (length ws) ≡ Refused n p → number ≡ n
   unfolding acceptAnswer
-  number-of e = refused-number 0 (usedNodes b) e .0
+  number-of e = refused-number 0 (usedNodes ed b) e .0
 
-  number-zero : verdictOf b (length ws) ≡ Accepted → number ≡ 0
+  number-zero : verdictOf ed b (length ws) ≡ Accepted → number ≡ 0
   unfolding acceptAnswer
-  number-zero e = accepted-0 0 (usedNodes b) e
+  number-zero e = accepted-0 0 (usedNodes ed b) e
 
-  accepted-by : number ≡ 0 → verdictOf b (length ws) ≡ Accepted
+  accepted-by : number ≡ 0 → verdictOf ed b (length ws) ≡ Accepted
   unfolding acceptAnswer
-  accepted-by z = zero-accepted b (length ws) 0 (usedNodes b) z
+  accepted-by z = zero-accepted ed b (length ws) 0 (usedNodes ed b) z
 
   -- what a refusal or an acceptance leaves
   abbrev Way : Type 0
-  Way = (verdictOf b (length ws) ≡ Accepted) ⊎ ((n : ℕ) × (p : ℕ) × (verdictOf b (length ws) ≡ Refused n p))
+  Way = (verdictOf ed b (length ws) ≡ Accepted) ⊎ ((n : ℕ) × (p : ℕ) × (verdictOf ed b (length ws) ≡ Refused n p))
 
   way : Way
-  way = verdict-cases (verdictOf b (length ws))
+  way = verdict-cases (verdictOf ed b (length ws))
 
   -- refused: by 21 or 22, or by another number
   late? : (n : ℕ) → ((n ≡ 21) ⊎ (n ≡ 22)) ⊎ ((n ≡ 21 → ⊥) × (n ≡ 22 → ⊥))
   late? n = by-cases (ℕ-discrete n 21) (λ e. inl (inl e)) (λ f. by-cases (ℕ-discrete n 22) (λ e. inl (inr e)) (λ g. inr (f, g)))
 
-  marked-when : number ≡ 0 → (seg el : ℕ) → Resolves nodeSize b (nodesAt b) seg el
-      → getD (workspaceLeft b ws) (numberOf nodeSize b (nodesAt b) seg el) 0 ≡ markBy (isChild? b (address seg el))
+  marked-when : number ≡ 0 → (seg el : ℕ) → Resolves (nodeSize ed) b (nodesAt ed b) seg el
+      → getD (workspaceLeft ed b ws) (numberOf (nodeSize ed) b (nodesAt ed b) seg el) 0 ≡ markBy (isChild? ed b (address seg el))
   marked-when z seg el h =
       let e = accepted-by z in
-      ap (λ (w : List ℕ). getD w (numberOf nodeSize b (nodesAt b) seg el) 0) (left-accepted e)
-      ∙ marked-at b ws (accepted-iff b (length ws) .0 e .0 .laid .nodes) seg el h
+      ap (λ (w : List ℕ). getD w (numberOf (nodeSize ed) b (nodesAt ed b) seg el) 0) (left-accepted e)
+      ∙ marked-at ed b ws (accepted-iff ed b (length ws) .0 e .0 .laid .nodes) seg el h
 
-  cleared-when : (number ≡ 21) ⊎ (number ≡ 22) → workspaceLeft b ws ≡ cleared b ws
+  cleared-when : (number ≡ 21) ⊎ (number ≡ 22) → workspaceLeft ed b ws ≡ cleared ed b ws
   cleared-when c =
       ⊎-elim
       (λ e. let z = number-zero e in absurd (⊎-elim (λ q. omega arith) (λ q. omega arith) c))
       (λ w. let q = number-of (w .2) in left-cleared (w .2) (⊎-elim (λ x. inl (sym q ∙ x)) (λ x. inr (sym q ∙ x)) c))
       way
 
-  kept-when : (number ≡ 0 → ⊥) → (number ≡ 21 → ⊥) → (number ≡ 22 → ⊥) → workspaceLeft b ws ≡ ws
+  kept-when : (number ≡ 0 → ⊥) → (number ≡ 21 → ⊥) → (number ≡ 22 → ⊥) → workspaceLeft ed b ws ≡ ws
   kept-when f g h =
       ⊎-elim
       (λ e. absurd (f (number-zero e)))
@@ -100,38 +102,38 @@ module _ (b ws : List ℕ) where
       way
 
   -- what is said of each of the three is said of the workspace
-  by-ways : (P : List ℕ → Type 0) → (verdictOf b (length ws) ≡ Accepted → P (marked b ws)) → (usedNodes b ≤ length ws → P (cleared b ws)) → P ws
-      → P (workspaceLeft b ws)
+  by-ways : (P : List ℕ → Type 0) → (verdictOf ed b (length ws) ≡ Accepted → P (marked ed b ws)) → (usedNodes ed b ≤ length ws → P (cleared ed b ws)) → P ws
+      → P (workspaceLeft ed b ws)
   by-ways P f g h =
       ⊎-elim
       (λ e. subst P (sym (left-accepted e)) (f e))
       (λ w. ⊎-elim
-      (λ c. subst P (sym (left-cleared (w .2) c)) (g (late-room b (length ws) (w .2) c)))
+      (λ c. subst P (sym (left-cleared (w .2) c)) (g (late-room ed b (length ws) (w .2) c)))
       (λ k. subst P (sym (left-kept (w .2) (k .0) (k .1))) h)
       (late? (w .0)))
       way
 
-  pub workspace : Workspace b ws
+  pub workspace : Workspace ed b ws
   workspace = record {
     one = λ z seg el h.
         let m = marked-when z seg el h in
-        let d = mark-iff (isChild? b (address seg el)) in
+        let d = mark-iff (isChild? ed b (address seg el)) in
         (λ e. d .0 (sym m ∙ e), λ c. m ∙ d .1 c);
-    else-zero = λ z seg el h f. marked-when z seg el h ∙ mark-zero (isChild? b (address seg el)) f;
-    cleared = λ c i h. ap (λ (w : List ℕ). getD w i 0) (cleared-when c) ∙ cleared-at b ws i h;
+    else-zero = λ z seg el h f. marked-when z seg el h ∙ mark-zero (isChild? ed b (address seg el)) f;
+    cleared = λ c i h. ap (λ (w : List ℕ). getD w i 0) (cleared-when c) ∙ cleared-at ed b ws i h;
     untouched = kept-when;
     later =
-        by-ways (λ w. drop (usedNodes b) w ≡ drop (usedNodes b) ws)
-        (λ e. marked-rest b (accepted-iff b (length ws) .0 e .0 .laid .nodes) ws)
-        (λ l. cleared-rest b ws)
+        by-ways (λ w. drop (usedNodes ed b) w ≡ drop (usedNodes ed b) ws)
+        (λ e. marked-rest ed b (accepted-iff ed b (length ws) .0 e .0 .laid .nodes) ws)
+        (λ l. cleared-rest ed b ws)
         refl;
   }
 
-  workspace-long : length (workspaceLeft b ws) ≡ length ws
+  workspace-long : length (workspaceLeft ed b ws) ≡ length ws
   workspace-long =
       by-ways (λ w. length w ≡ length ws)
-      (λ e. let r = accepted-iff b (length ws) .0 e in marked-long b ws (r .0 .laid .nodes) (r .1))
-      (λ l. cleared-long b ws l)
+      (λ e. let r = accepted-iff ed b (length ws) .0 e in marked-long ed b ws (r .0 .laid .nodes) (r .1))
+      (λ l. cleared-long ed b ws l)
       refl
 
 -- ---- the other buffers
@@ -141,40 +143,40 @@ last-held : (xs ys : List Check) (n p : ℕ) (P : Type 0) (d : Dec P) → firstF
 last-held xs ys n p P d e = clean-inv n p P d [] (append-inv ys _ (append-inv xs _ e .1) .1) .0
 
 -- an answered question has room
-module _ (b : List ℕ) (room : ℕ) where
-  listing-room : (q d : List ℕ) → pathVerdict b room q (length d) ≡ Accepted → length (pathMatches b q) ≤ length d / 4
+module _ (ed : Edition) (b : List ℕ) (room : ℕ) where
+  listing-room : (q d : List ℕ) → pathVerdict ed b room q (length d) ≡ Accepted → length (pathMatches ed b q) ≤ length d / 4
   unfolding pathVerdict listingChecks
-  listing-room q d e = last-held (acceptChecks b room) (pathChecks q) _ _ _ _ e
+  listing-room q d e = last-held (acceptChecks ed b room) (pathChecks q) _ _ _ _ e
 
-  places-room : (q d : List ℕ) → batchVerdict b room q (length d) ≡ Accepted → length (namesOf q) ≤ length d / 8
+  places-room : (q d : List ℕ) → batchVerdict ed b room q (length d) ≡ Accepted → length (namesOf q) ≤ length d / 8
   unfolding batchVerdict placeChecks
-  places-room q d e = last-held (acceptChecks b room) (pathChecks q) _ _ _ _ e
+  places-room q d e = last-held (acceptChecks ed b room) (pathChecks q) _ _ _ _ e
 
-  outline-room : (d : List ℕ) → outlineVerdict b room (length d) ≡ Accepted → length (outlineOf b) ≤ length d
+  outline-room : (d : List ℕ) → outlineVerdict ed b room (length d) ≡ Accepted → length (outlineOf ed b) ≤ length d
   unfolding outlineVerdict outlineChecks
-  outline-room d e = clean-inv _ _ _ _ _ (append-inv (acceptChecks b room) _ e .1) .0
+  outline-room d e = clean-inv _ _ _ _ _ (append-inv (acceptChecks ed b room) _ e .1) .0
 
-  listing-long : (q d : List ℕ) → length (pathListing b room q d) ≡ length d
+  listing-long : (q d : List ℕ) → length (pathListing ed b room q d) ≡ length d
   unfolding pathListing listingAfter
   listing-long q d =
-      same-long d (listingAfter b q d) (λ n p. refl) (pathVerdict b room q (length d))
-      (λ e. let l = listing-room q d e in front-long (encode (pathMatches b q)) d (omega (arith, length-encode (pathMatches b q))))
+      same-long d (listingAfter ed b q d) (λ n p. refl) (pathVerdict ed b room q (length d))
+      (λ e. let l = listing-room q d e in front-long (encode (pathMatches ed b q)) d (omega (arith, length-encode (pathMatches ed b q))))
 
-  places-long : (f : List ℕ → Lookup) (q d : List ℕ) → length (answersAfter f q d (batchVerdict b room q (length d))) ≡ length d
+  places-long : (f : List ℕ → Lookup) (q d : List ℕ) → length (answersAfter f q d (batchVerdict ed b room q (length d))) ≡ length d
   unfolding answersAfter
   places-long f q d =
-      same-long d (answersAfter f q d) (λ n p. refl) (batchVerdict b room q (length d))
+      same-long d (answersAfter f q d) (λ n p. refl) (batchVerdict ed b room q (length d))
       (λ e. let l = places-room q d e in front-long (places f (namesOf q)) d (omega (arith, length-places f (namesOf q))))
 
-  outline-long : (d : List ℕ) → length (outlineBuffer b room d) ≡ length d
+  outline-long : (d : List ℕ) → length (outlineBuffer ed b room d) ≡ length d
   unfolding outlineBuffer outlineAfter
   outline-long d =
-      same-long d (outlineAfter b d) (λ n p. refl) (outlineVerdict b room (length d)) (λ e. front-long (outlineOf b) d (outline-room d e))
+      same-long d (outlineAfter ed b d) (λ n p. refl) (outlineVerdict ed b room (length d)) (λ e. front-long (outlineOf ed b) d (outline-room d e))
 
-  pub same-length : SameLength b room
+  pub same-length : SameLength ed b room
   unfolding namePlaces valuePlaces
   same-length = record {
-    workspace = workspace-long b;
+    workspace = workspace-long ed b;
     listing = listing-long;
     names = λ q d. places-long _ q d;
     values = λ q d. places-long _ q d;

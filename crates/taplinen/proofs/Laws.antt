@@ -9,6 +9,7 @@ use Rattle.verdict.specs.declared.Verdict.the-variants.{Accepted, Refused}
 use Rattle.verdict.proofs.Laws.{pass, stop, fault-none}
 use Rattle.layout.specs.Header.{headerOf}
 use Rattle.layout.specs.declared.Header.{Header}
+use Rattle.layout.specs.declared.Edition.{Edition}
 use Rattle.lookup.specs.Asked.{textChecks}
 use Rattle.accept.specs.Verdict.{verdictOf}
 use Rattle.taplinen.specs.Answers.{answered, reported}
@@ -30,12 +31,12 @@ pub answer-by : {w u : Verdict} {k m j n : ℕ} {r : Answer} → u ≡ w → (w 
     → r ≡ answered u j n
 answer-by {w} {j = j} {n = n} e f h = h ∙ answer-same w f ∙ sym (ap (λ (x : Verdict). answered x j n) e)
 
-module _ (b : List ℕ) (room : ℕ) {v : Verdict} (q : v ≡ verdictOf b room) where
-  pub header-refused : {n p : ℕ} {r : HeaderReport} → v ≡ Refused n p → r ≡ reported (Refused n p) (headerOf b) → r ≡ headerAnswer b room
+module _ (ed : Edition) (b : List ℕ) (room : ℕ) {v : Verdict} (q : v ≡ verdictOf ed b room) where
+  pub header-refused : {n p : ℕ} {r : HeaderReport} → v ≡ Refused n p → r ≡ reported (Refused n p) (headerOf b) → r ≡ headerAnswer ed b room
   unfolding headerAnswer
   header-refused e h = h ∙ sym (ap (λ (x : Verdict). reported x (headerOf b)) (sym q ∙ e))
 
-  pub header-told : {h : Header} {r : HeaderReport} → v ≡ Accepted → h ≡ headerOf b → r ≡ reported Accepted h → r ≡ headerAnswer b room
+  pub header-told : {h : Header} {r : HeaderReport} → v ≡ Accepted → h ≡ headerOf b → r ≡ reported Accepted h → r ≡ headerAnswer ed b room
   unfolding headerAnswer
   header-told e g h = h ∙ ap (reported Accepted) g ∙ sym (ap (λ (x : Verdict). reported x (headerOf b)) (sym q ∙ e))
 

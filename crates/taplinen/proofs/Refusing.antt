@@ -12,6 +12,7 @@ use Rattle.verdict.specs.declared.Verdict.{Verdict}
 use Rattle.verdict.specs.declared.Verdict.the-variants.{Accepted, Refused}
 use Rattle.verdict.proofs.Laws.{Clean, never, pass, stop, fault-none, fault-append, fault-keep}
 use Rattle.verdict.proofs.Broken.{AllOf, all-broken, append-refused}
+use Rattle.layout.specs.declared.Edition.{Edition}
 use Rattle.accept.specs.Verdict.{acceptChecks, verdictOf}
 use Rattle.accept.proofs.Rows.{refused-row, row-number}
 use Rattle.taplinen.specs.Answers.{answered}
@@ -49,30 +50,30 @@ module _ (k m : ℕ) where
 
 -- ---- acceptance's numbers
 
-module _ (b : List ℕ) (room : ℕ) where
-  pub file-number : {n p : ℕ} → verdictOf b room ≡ Refused n p → OfFile n
-  file-number e = row-number (refused-row b room e)
+module _ (ed : Edition) (b : List ℕ) (room : ℕ) where
+  pub file-number : {n p : ℕ} → verdictOf ed b room ≡ Refused n p → OfFile n
+  file-number e = row-number (refused-row ed b room e)
 
   -- so 0 means accepted
-  pub zero-accepted : (k m : ℕ) → answered (verdictOf b room) k m .refusal ≡ 0 → verdictOf b room ≡ Accepted
+  pub zero-accepted : (k m : ℕ) → answered (verdictOf ed b room) k m .refusal ≡ 0 → verdictOf ed b room ≡ Accepted
   zero-accepted k m z =
       ⊎-elim (λ e. e)
       (λ w. let f = file-number (w .2) in let q = refused-number k m (w .2) .0 in absurd (omega (arith, f .0)))
-      (verdict-cases (verdictOf b room))
+      (verdict-cases (verdictOf ed b room))
 
 -- ---- a question: acceptance's checks, then its own
 
-module _ (b : List ℕ) (room : ℕ) (cs : List Check) (Q : ℕ → Type 0) (a : AllOf (λ n p P. (P → ⊥) → Q n) cs) where
-  question-refused : {n p : ℕ} → firstFault (acceptChecks b room ++ cs) ≡ Refused n p → OfFile n ⊎ Q n
+module _ (ed : Edition) (b : List ℕ) (room : ℕ) (cs : List Check) (Q : ℕ → Type 0) (a : AllOf (λ n p P. (P → ⊥) → Q n) cs) where
+  question-refused : {n p : ℕ} → firstFault (acceptChecks ed b room ++ cs) ≡ Refused n p → OfFile n ⊎ Q n
   unfolding verdictOf
   question-refused e =
-      ⊎-elim (λ f. inl (file-number b room f)) (λ w. inr (all-broken (λ n p. Q n) cs a (w .1))) (append-refused (acceptChecks b room) cs e)
+      ⊎-elim (λ f. inl (file-number ed b room f)) (λ w. inr (all-broken (λ n p. Q n) cs a (w .1))) (append-refused (acceptChecks ed b room) cs e)
 
-  pub question-number : (k m : ℕ) → OneOf (λ n. OfFile n ⊎ Q n) (answered (firstFault (acceptChecks b room ++ cs)) k m .refusal)
-  question-number k m = go (verdict-cases (firstFault (acceptChecks b room ++ cs)))
+  pub question-number : (k m : ℕ) → OneOf (λ n. OfFile n ⊎ Q n) (answered (firstFault (acceptChecks ed b room ++ cs)) k m .refusal)
+  question-number k m = go (verdict-cases (firstFault (acceptChecks ed b room ++ cs)))
     where
-      go : (firstFault (acceptChecks b room ++ cs) ≡ Accepted) ⊎ ((n : ℕ) × (p : ℕ) × (firstFault (acceptChecks b room ++ cs) ≡ Refused n p))
-          → OneOf (λ n. OfFile n ⊎ Q n) (answered (firstFault (acceptChecks b room ++ cs)) k m .refusal)
+      go : (firstFault (acceptChecks ed b room ++ cs) ≡ Accepted) ⊎ ((n : ℕ) × (p : ℕ) × (firstFault (acceptChecks ed b room ++ cs) ≡ Refused n p))
+          → OneOf (λ n. OfFile n ⊎ Q n) (answered (firstFault (acceptChecks ed b room ++ cs)) k m .refusal)
       go (inl e) = inl (accepted-0 k m e)
       go (inr w) = inr (rw (refused-number k m (w .2) .0) (question-refused (w .2)))
 
@@ -114,7 +115,7 @@ outnumber v k j c m x z f g = (
 
 -- ---- where acceptance refuses, a question does
 
-pub refuses-first : (b : List ℕ) (room : ℕ) (cs : List Check) (k m : ℕ) {n p : ℕ} → (n ≡ 0 → ⊥) → verdictOf b room ≡ Refused n p
-    → Refuses (answered (firstFault (acceptChecks b room ++ cs)) k m) n p
+pub refuses-first : (ed : Edition) (b : List ℕ) (room : ℕ) (cs : List Check) (k m : ℕ) {n p : ℕ} → (n ≡ 0 → ⊥) → verdictOf ed b room ≡ Refused n p
+    → Refuses (answered (firstFault (acceptChecks ed b room ++ cs)) k m) n p
 unfolding verdictOf
-refuses-first b room cs k m z e = verdict-refuses k m z (fault-keep (acceptChecks b room) cs e)
+refuses-first ed b room cs k m z e = verdict-refuses k m z (fault-keep (acceptChecks ed b room) cs e)

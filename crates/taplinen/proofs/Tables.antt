@@ -9,6 +9,7 @@ use Rattle.layout.specs.Table.{Table}
 use Rattle.layout.specs.Layout.{values, names}
 use Rattle.layout.specs.inner.View.{Fits}
 use Rattle.layout.specs.declared.View.{View}
+use Rattle.layout.specs.declared.Edition.{Edition}
 use Rattle.strings.specs.inner.Held.{heldTable}
 use Rattle.strings.specs.Order.{stringChecks}
 use Rattle.strings.proofs.Accepted.{strings-iff}
@@ -22,21 +23,21 @@ use Rattle.accept.specs.Rules.{FileRules}
 use Rattle.accept.specs.inner.Held.{nameStrings}
 use Rattle.accept.proofs.Held.{values-table, names-table}
 
-module _ (b : List ℕ) (v : View) (f : Fits b v) where
-  pub name-table : {k : Kind} → k ≡ Name → heldTable b (nameStrings (v .places)) (v .«name_buckets») ≡ tableOf k b
+module _ (ed : Edition) (b : List ℕ) (v : View) (f : Fits ed b v) where
+  pub name-table : {k : Kind} → k ≡ Name → heldTable b (nameStrings (v .places)) (v .«name_buckets») ≡ tableOf ed k b
   unfolding tableOf
-  name-table e = rw e (names-table b v f)
+  name-table e = rw e (names-table ed b v f)
 
-  pub value-table : {k : Kind} → k ≡ Value → heldTable b (valueStrings (v .places)) (v .«value_buckets») ≡ tableOf k b
+  pub value-table : {k : Kind} → k ≡ Value → heldTable b (valueStrings (v .places)) (v .«value_buckets») ≡ tableOf ed k b
   unfolding tableOf
-  value-table e = rw e (values-table b v f)
+  value-table e = rw e (values-table ed b v f)
 
-  module _ (r : FileRules b) where
+  module _ (r : FileRules ed b) where
     pub name-table-clean : firstFault (stringChecks (heldTable b (nameStrings (v .places)) (v .«name_buckets»))) ≡ Accepted
-    name-table-clean = ap (λ (t : Table). firstFault (stringChecks t)) (names-table b v f) ∙ strings-iff (names b) .1 (r .name-table)
+    name-table-clean = ap (λ (t : Table). firstFault (stringChecks t)) (names-table ed b v f) ∙ strings-iff (names ed b) .1 (r .name-table)
 
     pub value-table-clean : firstFault (stringChecks (heldTable b (valueStrings (v .places)) (v .«value_buckets»))) ≡ Accepted
-    value-table-clean = ap (λ (t : Table). firstFault (stringChecks t)) (values-table b v f) ∙ strings-iff (values b) .1 (r .value-table)
+    value-table-clean = ap (λ (t : Table). firstFault (stringChecks t)) (values-table ed b v f) ∙ strings-iff (values ed b) .1 (r .value-table)
 
 -- what is told is that of the same table
 pub told-same : {t u : Table} (k : Kind) (x : List ℕ) {r : Lookup} → t ≡ u → r ≡ toldIn k t x → r ≡ toldIn k u x

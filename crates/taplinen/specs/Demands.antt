@@ -15,7 +15,9 @@ use Rattle.le.specs.Le.{u32At, u64At}
 use Rattle.hash.specs.Hash.{hashText}
 use Rattle.region.specs.Region.{Resolves, numberOf}
 use Rattle.layout.specs.Table.{Table, indexOf, segmentOf, elementOf}
-use Rattle.layout.specs.Layout.{nodeSize, nodesAt, values, names}
+use Rattle.layout.specs.Edition.{nodeSize}
+use Rattle.layout.specs.Layout.{nodesAt, values, names}
+use Rattle.layout.specs.declared.Edition.{Edition}
 use Rattle.keys.specs.Names.{nameText}
 use Rattle.tree.specs.Chain.{Chain}
 use Rattle.tree.specs.File.{address, treeOf, usedNodes}
@@ -60,23 +62,23 @@ OfFile n = (1 ≤ n) × (n ≤ 23)
 
 -- Every question can be refused with acceptance's numbers; a text also with 24; a path or a list of texts also with 24 or 25; the outline
 -- also with 26.
-pub record Numbers (b : List ℕ) (room : ℕ) : Type 0 where
-  pub accept : OneOf OfFile (acceptAnswer b room .refusal)
-  pub header : OneOf OfFile (headerAnswer b room .refusal)
-  pub name : (q : List ℕ) → OneOf (λ n. OfFile n ⊎ (n ≡ 24)) (nameAnswer b room q .refusal)
-  pub value : (q : List ℕ) → OneOf (λ n. OfFile n ⊎ (n ≡ 24)) (valueAnswer b room q .refusal)
-  pub path : (q : List ℕ) (list : ℕ) → OneOf (λ n. OfFile n ⊎ ((n ≡ 24) ⊎ (n ≡ 25))) (pathAnswer b room q list .refusal)
-  pub texts : (q : List ℕ) (answers : ℕ) → OneOf (λ n. OfFile n ⊎ ((n ≡ 24) ⊎ (n ≡ 25))) (batchAnswer b room q answers .refusal)
-  pub outline : (out : ℕ) → OneOf (λ n. OfFile n ⊎ (n ≡ 26)) (outlineAnswer b room out .refusal)
+pub record Numbers (ed : Edition) (b : List ℕ) (room : ℕ) : Type 0 where
+  pub accept : OneOf OfFile (acceptAnswer ed b room .refusal)
+  pub header : OneOf OfFile (headerAnswer ed b room .refusal)
+  pub name : (q : List ℕ) → OneOf (λ n. OfFile n ⊎ (n ≡ 24)) (nameAnswer ed b room q .refusal)
+  pub value : (q : List ℕ) → OneOf (λ n. OfFile n ⊎ (n ≡ 24)) (valueAnswer ed b room q .refusal)
+  pub path : (q : List ℕ) (list : ℕ) → OneOf (λ n. OfFile n ⊎ ((n ≡ 24) ⊎ (n ≡ 25))) (pathAnswer ed b room q list .refusal)
+  pub texts : (q : List ℕ) (answers : ℕ) → OneOf (λ n. OfFile n ⊎ ((n ≡ 24) ⊎ (n ≡ 25))) (batchAnswer ed b room q answers .refusal)
+  pub outline : (out : ℕ) → OneOf (λ n. OfFile n ⊎ (n ≡ 26)) (outlineAnswer ed b room out .refusal)
 
 -- Every question accepts the file first: where acceptance refuses, so does the question, with the same number and place.
-pub record AcceptsFirst (b : List ℕ) (room n p : ℕ) : Type 0 where
-  pub header : (headerAnswer b room .refusal ≡ n) × (headerAnswer b room .place ≡ p)
-  pub name : (q : List ℕ) → Refuses (nameAnswer b room q) n p
-  pub value : (q : List ℕ) → Refuses (valueAnswer b room q) n p
-  pub path : (q : List ℕ) (list : ℕ) → Refuses (pathAnswer b room q list) n p
-  pub texts : (q : List ℕ) (answers : ℕ) → Refuses (batchAnswer b room q answers) n p
-  pub outline : (out : ℕ) → Refuses (outlineAnswer b room out) n p
+pub record AcceptsFirst (ed : Edition) (b : List ℕ) (room n p : ℕ) : Type 0 where
+  pub header : (headerAnswer ed b room .refusal ≡ n) × (headerAnswer ed b room .place ≡ p)
+  pub name : (q : List ℕ) → Refuses (nameAnswer ed b room q) n p
+  pub value : (q : List ℕ) → Refuses (valueAnswer ed b room q) n p
+  pub path : (q : List ℕ) (list : ℕ) → Refuses (pathAnswer ed b room q list) n p
+  pub texts : (q : List ℕ) (answers : ℕ) → Refuses (batchAnswer ed b room q answers) n p
+  pub outline : (out : ℕ) → Refuses (outlineAnswer ed b room out) n p
 
 -- A path or a list of texts is well formed: an even number of bytes, and empty or ending in a 0 character.
 abbrev pub WellFormed : List ℕ → Type 0
@@ -84,56 +86,56 @@ WellFormed q = (length q % 2 ≡ 0) × Closed q
 
 -- On an accepted file, a text of an odd number of bytes, and a path or a list of texts that is not well formed, is refused with 24; the
 -- place is its length in bytes.
-pub record Malformed (b : List ℕ) (room : ℕ) (q : List ℕ) : Type 0 where
-  pub name : (length q % 2 ≡ 0 → ⊥) → Refuses (nameAnswer b room q) 24 (length q)
-  pub value : (length q % 2 ≡ 0 → ⊥) → Refuses (valueAnswer b room q) 24 (length q)
-  pub path : (WellFormed q → ⊥) → (list : ℕ) → Refuses (pathAnswer b room q list) 24 (length q)
-  pub texts : (WellFormed q → ⊥) → (answers : ℕ) → Refuses (batchAnswer b room q answers) 24 (length q)
+pub record Malformed (ed : Edition) (b : List ℕ) (room : ℕ) (q : List ℕ) : Type 0 where
+  pub name : (length q % 2 ≡ 0 → ⊥) → Refuses (nameAnswer ed b room q) 24 (length q)
+  pub value : (length q % 2 ≡ 0 → ⊥) → Refuses (valueAnswer ed b room q) 24 (length q)
+  pub path : (WellFormed q → ⊥) → (list : ℕ) → Refuses (pathAnswer ed b room q list) 24 (length q)
+  pub texts : (WellFormed q → ⊥) → (answers : ℕ) → Refuses (batchAnswer ed b room q answers) 24 (length q)
 
 -- Refused means that the listing, the answers and the outline's buffer are as they were.
-pub record Untouched (b : List ℕ) (room : ℕ) : Type 0 where
-  pub listing : (q d : List ℕ) → (pathAnswer b room q (length d) .refusal ≡ 0 → ⊥) → pathListing b room q d ≡ d
-  pub names : (q d : List ℕ) → (batchAnswer b room q (length d) .refusal ≡ 0 → ⊥) → namePlaces b room q d ≡ d
-  pub values : (q d : List ℕ) → (batchAnswer b room q (length d) .refusal ≡ 0 → ⊥) → valuePlaces b room q d ≡ d
-  pub outline : (d : List ℕ) → (outlineAnswer b room (length d) .refusal ≡ 0 → ⊥) → outlineBuffer b room d ≡ d
+pub record Untouched (ed : Edition) (b : List ℕ) (room : ℕ) : Type 0 where
+  pub listing : (q d : List ℕ) → (pathAnswer ed b room q (length d) .refusal ≡ 0 → ⊥) → pathListing ed b room q d ≡ d
+  pub names : (q d : List ℕ) → (batchAnswer ed b room q (length d) .refusal ≡ 0 → ⊥) → namePlaces ed b room q d ≡ d
+  pub values : (q d : List ℕ) → (batchAnswer ed b room q (length d) .refusal ≡ 0 → ⊥) → valuePlaces ed b room q d ≡ d
+  pub outline : (d : List ℕ) → (outlineAnswer ed b room (length d) .refusal ≡ 0 → ⊥) → outlineBuffer ed b room d ≡ d
 
 -- Whatever the answer, each lent buffer keeps its length.
-pub record SameLength (b : List ℕ) (room : ℕ) : Type 0 where
-  pub workspace : (ws : List ℕ) → length (workspaceLeft b ws) ≡ length ws
-  pub listing : (q d : List ℕ) → length (pathListing b room q d) ≡ length d
-  pub names : (q d : List ℕ) → length (namePlaces b room q d) ≡ length d
-  pub values : (q d : List ℕ) → length (valuePlaces b room q d) ≡ length d
-  pub outline : (d : List ℕ) → length (outlineBuffer b room d) ≡ length d
+pub record SameLength (ed : Edition) (b : List ℕ) (room : ℕ) : Type 0 where
+  pub workspace : (ws : List ℕ) → length (workspaceLeft ed b ws) ≡ length ws
+  pub listing : (q d : List ℕ) → length (pathListing ed b room q d) ≡ length d
+  pub names : (q d : List ℕ) → length (namePlaces ed b room q d) ≡ length d
+  pub values : (q d : List ℕ) → length (valuePlaces ed b room q d) ≡ length d
+  pub outline : (d : List ℕ) → length (outlineBuffer ed b room d) ≡ length d
 
 -- The workspace, byte by byte, after any question. It depends only on acceptance's answer, since 24, 25 and 26 follow an acceptance.
-pub record Workspace (b ws : List ℕ) : Type 0 where
+pub record Workspace (ed : Edition) (b ws : List ℕ) : Type 0 where
   -- Accepted: the byte of a used node is 1 exactly when the node is in some live node's child range, and 0 otherwise.
-  pub one : acceptAnswer b (length ws) .refusal ≡ 0 → (seg el : ℕ) → Resolves nodeSize b (nodesAt b) seg el
-      → (getD (workspaceLeft b ws) (numberOf nodeSize b (nodesAt b) seg el) 0 ≡ 1) ↔ IsChild b (address seg el)
-  pub else-zero : acceptAnswer b (length ws) .refusal ≡ 0 → (seg el : ℕ) → Resolves nodeSize b (nodesAt b) seg el
-      → (IsChild b (address seg el) → ⊥) → getD (workspaceLeft b ws) (numberOf nodeSize b (nodesAt b) seg el) 0 ≡ 0
+  pub one : acceptAnswer ed b (length ws) .refusal ≡ 0 → (seg el : ℕ) → Resolves (nodeSize ed) b (nodesAt ed b) seg el
+      → (getD (workspaceLeft ed b ws) (numberOf (nodeSize ed) b (nodesAt ed b) seg el) 0 ≡ 1) ↔ IsChild ed b (address seg el)
+  pub else-zero : acceptAnswer ed b (length ws) .refusal ≡ 0 → (seg el : ℕ) → Resolves (nodeSize ed) b (nodesAt ed b) seg el
+      → (IsChild ed b (address seg el) → ⊥) → getD (workspaceLeft ed b ws) (numberOf (nodeSize ed) b (nodesAt ed b) seg el) 0 ≡ 0
   -- Acceptance refused with 21 or 22: the first U bytes are 0 (U: the number of used nodes).
-  pub cleared : (acceptAnswer b (length ws) .refusal ≡ 21) ⊎ (acceptAnswer b (length ws) .refusal ≡ 22)
-      → (i : ℕ) → i < usedNodes b → getD (workspaceLeft b ws) i 0 ≡ 0
+  pub cleared : (acceptAnswer ed b (length ws) .refusal ≡ 21) ⊎ (acceptAnswer ed b (length ws) .refusal ≡ 22)
+      → (i : ℕ) → i < usedNodes ed b → getD (workspaceLeft ed b ws) i 0 ≡ 0
   -- Acceptance refused with any other number: every byte is as it was.
-  pub untouched : (acceptAnswer b (length ws) .refusal ≡ 0 → ⊥) → (acceptAnswer b (length ws) .refusal ≡ 21 → ⊥)
-      → (acceptAnswer b (length ws) .refusal ≡ 22 → ⊥) → workspaceLeft b ws ≡ ws
+  pub untouched : (acceptAnswer ed b (length ws) .refusal ≡ 0 → ⊥) → (acceptAnswer ed b (length ws) .refusal ≡ 21 → ⊥)
+      → (acceptAnswer ed b (length ws) .refusal ≡ 22 → ⊥) → workspaceLeft ed b ws ≡ ws
   -- Whatever the answer, the bytes past the used nodes are as they were.
-  pub later : drop (usedNodes b) (workspaceLeft b ws) ≡ drop (usedNodes b) ws
+  pub later : drop (usedNodes ed b) (workspaceLeft ed b ws) ≡ drop (usedNodes ed b) ws
 
 -- ---- Demand 2, first sentence
 
-pub record Acceptance (b : List ℕ) (room : ℕ) : Type 1 where
+pub record Acceptance (ed : Edition) (b : List ℕ) (room : ℕ) : Type 1 where
   -- A file is accepted exactly when every rule holds of it and the workspace has a byte for each used node.
-  pub accepted : (acceptAnswer b room .refusal ≡ 0) ↔ (FileRules b × (usedNodes b ≤ room))
+  pub accepted : (acceptAnswer ed b room .refusal ≡ 0) ↔ (FileRules ed b × (usedNodes ed b ≤ room))
   -- Otherwise it is refused for the first fault in the stated order, which is that of acceptChecks (accept/specs/Verdict): that rule is
   -- broken, and every rule before it holds.
-  pub refused : (n p : ℕ) → Refuses (acceptAnswer b room) n p ↔ FirstBroken (acceptChecks b room) n p
+  pub refused : (n p : ℕ) → Refuses (acceptAnswer ed b room) n p ↔ FirstBroken (acceptChecks ed b room) n p
   -- Every refusal is a row of the table of refusals (accept/specs/Refusals): the rule with that number is broken at that place. Of an accepted file no row is broken.
-  pub row : (n p : ℕ) → Refuses (acceptAnswer b room) n p → Broken b room n p
-  pub no-row : acceptAnswer b room .refusal ≡ 0 → (n p : ℕ) → Broken b room n p → ⊥
+  pub row : (n p : ℕ) → Refuses (acceptAnswer ed b room) n p → Broken ed b room n p
+  pub no-row : acceptAnswer ed b room .refusal ≡ 0 → (n p : ℕ) → Broken ed b room n p → ⊥
   -- Accepted: the value is the number of used nodes.
-  pub value : acceptAnswer b room .refusal ≡ 0 → Answers (acceptAnswer b room) (usedNodes b)
+  pub value : acceptAnswer ed b room .refusal ≡ 0 → Answers (acceptAnswer ed b room) (usedNodes ed b)
 
 -- The header report of an accepted file: version, timestamp with its bits unchanged, revision.
 pub record Reports (b : List ℕ) (r : HeaderReport) : Type 0 where
@@ -159,11 +161,11 @@ pub record Finds (t : Table) (f : ℕ → ℕ → ℕ) (x : List ℕ) (r : Answe
   pub one-of-three : OneOfThree (Borne t x) (Collides t x) (Missing t x)
 
 -- On an accepted file, for a text of an even number of bytes: its index among the names, its address among the values.
-pub record Lookups (b : List ℕ) (room : ℕ) (q : List ℕ) : Type 0 where
-  pub name : Finds (names b) (indexOf (names b)) (textFrom q) (nameAnswer b room q)
-  pub value : Finds (values b) (λ k j. address (segmentOf (values b) k j) (elementOf (values b) k j)) (textFrom q) (valueAnswer b room q)
+pub record Lookups (ed : Edition) (b : List ℕ) (room : ℕ) (q : List ℕ) : Type 0 where
+  pub name : Finds (names ed b) (indexOf (names ed b)) (textFrom q) (nameAnswer ed b room q)
+  pub value : Finds (values ed b) (λ k j. address (segmentOf (values ed b) k j) (elementOf (values ed b) k j)) (textFrom q) (valueAnswer ed b room q)
   -- A text holding a 0 is absent, also where an entry has its hash.
-  pub zero : (i : ℕ) → i < length (textFrom q) → getD (textFrom q) i 0 ≡ 0 → (nameAnswer b room q .kind ≡ 1) × (valueAnswer b room q .kind ≡ 1)
+  pub zero : (i : ℕ) → i < length (textFrom q) → getD (textFrom q) i 0 ≡ 0 → (nameAnswer ed b room q .kind ≡ 1) × (valueAnswer ed b room q .kind ≡ 1)
 
 -- ---- Beyond the demands: many lookups in one acceptance
 
@@ -173,66 +175,66 @@ pub record TextIs (q : List ℕ) (i : ℕ) (s : List ℕ) : Type 0 where
   pub text : textFrom s ≡ nameAt (namesOf q) i
 
 -- On an accepted file, for a well-formed list of texts q and answers d of any length.
-pub record Batch (b : List ℕ) (room : ℕ) (q d : List ℕ) : Type 0 where
+pub record Batch (ed : Edition) (b : List ℕ) (room : ℕ) (q d : List ℕ) : Type 0 where
   -- Refused for room exactly when there are more texts than places; the refusal's place is the number of texts.
-  pub room-short : Refuses (batchAnswer b room q (length d)) 25 (length (namesOf q)) ↔ (length d / 8 < length (namesOf q))
+  pub room-short : Refuses (batchAnswer ed b room q (length d)) 25 (length (namesOf q)) ↔ (length d / 8 < length (namesOf q))
   -- Otherwise it answers their number, and place i holds what the question for text i alone answers; every byte after them stays.
-  pub answered : length (namesOf q) ≤ length d / 8 → Answers (batchAnswer b room q (length d)) (length (namesOf q))
+  pub answered : length (namesOf q) ≤ length d / 8 → Answers (batchAnswer ed b room q (length d)) (length (namesOf q))
   pub text : (i : ℕ) → i < length (namesOf q) → (s : List ℕ) × TextIs q i s
   pub name : length (namesOf q) ≤ length d / 8 → (i : ℕ) → i < length (namesOf q) → (s : List ℕ) → TextIs q i s
-      → PlaceHolds (namePlaces b room q d) i (nameAnswer b room s)
+      → PlaceHolds (namePlaces ed b room q d) i (nameAnswer ed b room s)
   pub value : length (namesOf q) ≤ length d / 8 → (i : ℕ) → i < length (namesOf q) → (s : List ℕ) → TextIs q i s
-      → PlaceHolds (valuePlaces b room q d) i (valueAnswer b room s)
-  pub names-after : length (namesOf q) ≤ length d / 8 → drop (8 * length (namesOf q)) (namePlaces b room q d) ≡ drop (8 * length (namesOf q)) d
-  pub values-after : length (namesOf q) ≤ length d / 8 → drop (8 * length (namesOf q)) (valuePlaces b room q d) ≡ drop (8 * length (namesOf q)) d
+      → PlaceHolds (valuePlaces ed b room q d) i (valueAnswer ed b room s)
+  pub names-after : length (namesOf q) ≤ length d / 8 → drop (8 * length (namesOf q)) (namePlaces ed b room q d) ≡ drop (8 * length (namesOf q)) d
+  pub values-after : length (namesOf q) ≤ length d / 8 → drop (8 * length (namesOf q)) (valuePlaces ed b room q d) ≡ drop (8 * length (namesOf q)) d
 
 -- ---- Demand 3
 
 -- On an accepted file no node has two chains: any two that end at the same node are the same chain.
-abbrev pub OneChain : List ℕ → Type 0
-OneChain b = (ps qs : List ℕ) (e : ℕ) → Chain (treeOf b) ps 0 e → Chain (treeOf b) qs 0 e → ps ≡ qs
+abbrev pub OneChain : Edition → List ℕ → Type 0
+OneChain ed b = (ps qs : List ℕ) (e : ℕ) → Chain (treeOf ed b) ps 0 e → Chain (treeOf ed b) qs 0 e → ps ≡ qs
 
 -- On an accepted file, for a well-formed path q and a listing d, whatever its length.
-pub record Paths (b : List ℕ) (room : ℕ) (q d : List ℕ) : Type 0 where
+pub record Paths (ed : Edition) (b : List ℕ) (room : ℕ) (q d : List ℕ) : Type 0 where
   -- The matches: exactly the nodes whose chain from the root bears, below the root, exactly those names in that order; each once, in
   -- document order.
   pub matches : List ℕ
-  pub listed : Listed (treeOf b) (nameText b) (namesOf q) matches
+  pub listed : Listed (treeOf ed b) (nameText ed b) (namesOf q) matches
   -- Refused for room exactly when the matches outnumber the places; the refusal's place is the number of matches; the buffer keeps every byte.
-  pub room-short : Refuses (pathAnswer b room q (length d)) 25 (length matches) ↔ (length d / 4 < length matches)
-  pub kept : length d / 4 < length matches → pathListing b room q d ≡ d
+  pub room-short : Refuses (pathAnswer ed b room q (length d)) 25 (length matches) ↔ (length d / 4 < length matches)
+  pub kept : length d / 4 < length matches → pathListing ed b room q d ≡ d
   -- Otherwise it answers their number; that many places from the first hold the matches in order; every byte after them stays.
-  pub answered : length matches ≤ length d / 4 → Answers (pathAnswer b room q (length d)) (length matches)
-  pub holds : length matches ≤ length d / 4 → (i : ℕ) → i < length matches → u32At (pathListing b room q d) (4 * i) ≡ getD matches i 0
-  pub after : length matches ≤ length d / 4 → drop (4 * length matches) (pathListing b room q d) ≡ drop (4 * length matches) d
+  pub answered : length matches ≤ length d / 4 → Answers (pathAnswer ed b room q (length d)) (length matches)
+  pub holds : length matches ≤ length d / 4 → (i : ℕ) → i < length matches → u32At (pathListing ed b room q d) (4 * i) ≡ getD matches i 0
+  pub after : length matches ≤ length d / 4 → drop (4 * length matches) (pathListing ed b room q d) ≡ drop (4 * length matches) d
 
 -- ---- The outline, in the same shape
 
 -- On an accepted file, for a buffer d.
-pub record Outlines (b : List ℕ) (room : ℕ) (d : List ℕ) : Type 0 where
+pub record Outlines (ed : Edition) (b : List ℕ) (room : ℕ) (d : List ℕ) : Type 0 where
   -- A line for each chain from the root, in document order.
   pub chains : List (List ℕ)
-  pub lined : Lined b chains
+  pub lined : Lined ed b chains
   -- Refused exactly when it does not fit; the refusal's place is its length. Otherwise its length is answered, it stands in the buffer from the
   -- first byte on, and every later byte stays.
-  pub room-short : Refuses (outlineAnswer b room (length d)) 26 (length (outlineOf b)) ↔ (length d < length (outlineOf b))
-  pub answered : length (outlineOf b) ≤ length d → Answers (outlineAnswer b room (length d)) (length (outlineOf b))
-  pub holds : length (outlineOf b) ≤ length d → take (length (outlineOf b)) (outlineBuffer b room d) ≡ outlineOf b
-  pub after : length (outlineOf b) ≤ length d → drop (length (outlineOf b)) (outlineBuffer b room d) ≡ drop (length (outlineOf b)) d
+  pub room-short : Refuses (outlineAnswer ed b room (length d)) 26 (length (outlineOf ed b)) ↔ (length d < length (outlineOf ed b))
+  pub answered : length (outlineOf ed b) ≤ length d → Answers (outlineAnswer ed b room (length d)) (length (outlineOf ed b))
+  pub holds : length (outlineOf ed b) ≤ length d → take (length (outlineOf ed b)) (outlineBuffer ed b room d) ≡ outlineOf ed b
+  pub after : length (outlineOf ed b) ≤ length d → drop (length (outlineOf ed b)) (outlineBuffer ed b room d) ≡ drop (length (outlineOf ed b)) d
 
 -- ---- All of it
 
-pub record Demands : Type 1 where
-  pub numbers : (b : List ℕ) (room : ℕ) → Numbers b room
-  pub accepts-first : (b : List ℕ) (room n p : ℕ) → Refuses (acceptAnswer b room) n p → AcceptsFirst b room n p
-  pub malformed : (b : List ℕ) (room : ℕ) (q : List ℕ) → acceptAnswer b room .refusal ≡ 0 → Malformed b room q
-  pub untouched : (b : List ℕ) (room : ℕ) → Untouched b room
-  pub same-length : (b : List ℕ) (room : ℕ) → SameLength b room
-  pub workspace : (b ws : List ℕ) → Workspace b ws
-  pub acceptance : (b : List ℕ) (room : ℕ) → Acceptance b room
-  pub header : (b : List ℕ) (room : ℕ) → acceptAnswer b room .refusal ≡ 0 → Reports b (headerAnswer b room)
-  pub lookups : (b : List ℕ) (room : ℕ) (q : List ℕ) → acceptAnswer b room .refusal ≡ 0 → length q % 2 ≡ 0 → Lookups b room q
-  pub batches : (b : List ℕ) (room : ℕ) (q d : List ℕ) → acceptAnswer b room .refusal ≡ 0 → WellFormed q → Batch b room q d
-  pub one-chain : (b : List ℕ) (room : ℕ) → acceptAnswer b room .refusal ≡ 0 → OneChain b
-  pub paths : (b : List ℕ) (room : ℕ) (q d : List ℕ) → acceptAnswer b room .refusal ≡ 0 → WellFormed q → Paths b room q d
-  pub outlines : (b : List ℕ) (room : ℕ) (d : List ℕ) → acceptAnswer b room .refusal ≡ 0 → Outlines b room d
+pub record Demands (ed : Edition) : Type 1 where
+  pub numbers : (b : List ℕ) (room : ℕ) → Numbers ed b room
+  pub accepts-first : (b : List ℕ) (room n p : ℕ) → Refuses (acceptAnswer ed b room) n p → AcceptsFirst ed b room n p
+  pub malformed : (b : List ℕ) (room : ℕ) (q : List ℕ) → acceptAnswer ed b room .refusal ≡ 0 → Malformed ed b room q
+  pub untouched : (b : List ℕ) (room : ℕ) → Untouched ed b room
+  pub same-length : (b : List ℕ) (room : ℕ) → SameLength ed b room
+  pub workspace : (b ws : List ℕ) → Workspace ed b ws
+  pub acceptance : (b : List ℕ) (room : ℕ) → Acceptance ed b room
+  pub header : (b : List ℕ) (room : ℕ) → acceptAnswer ed b room .refusal ≡ 0 → Reports b (headerAnswer ed b room)
+  pub lookups : (b : List ℕ) (room : ℕ) (q : List ℕ) → acceptAnswer ed b room .refusal ≡ 0 → length q % 2 ≡ 0 → Lookups ed b room q
+  pub batches : (b : List ℕ) (room : ℕ) (q d : List ℕ) → acceptAnswer ed b room .refusal ≡ 0 → WellFormed q → Batch ed b room q d
+  pub one-chain : (b : List ℕ) (room : ℕ) → acceptAnswer ed b room .refusal ≡ 0 → OneChain ed b
+  pub paths : (b : List ℕ) (room : ℕ) (q d : List ℕ) → acceptAnswer ed b room .refusal ≡ 0 → WellFormed q → Paths ed b room q d
+  pub outlines : (b : List ℕ) (room : ℕ) (d : List ℕ) → acceptAnswer ed b room .refusal ≡ 0 → Outlines ed b room d

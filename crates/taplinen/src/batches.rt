@@ -1,6 +1,7 @@
 // Many names by text, and many values by text, in one acceptance.
 ghost use mathlib.Core.Path.{_≡_};
 ghost use lib.ListN.{length};
+ghost use Rattle.layout.specs.declared.Edition.the-variants.{Bits64};
 ghost use Rattle.taplinen.specs.Questions.{workspaceLeft};
 ghost use Rattle.taplinen.specs.Batches.{batchAnswer, batchPlaces, namePlaces, valuePlaces};
 use crate::answer;
@@ -11,9 +12,9 @@ use verdict::Verdict;
 
 // Asks for many texts in either table.
 fn ask_each(file: &[u8], ws: &mut [u8], kind: Kind, texts: &[u8], answers: &mut [u8]) -> Answer
-    ensures answer { λ r. ⌜ r ≡ batchAnswer (now (file .entry)) (length (now (ws .entry))) (now (texts .entry)) (length (now (answers .entry))) ⌝ }
-    ensures workspace { λ _. ⌜ now (ws .exit) ≡ workspaceLeft (now (file .entry)) (now (ws .entry)) ⌝ }
-    ensures answers { λ _. ⌜ now (answers .exit) ≡ batchPlaces kind (now (file .entry)) (length (now (ws .entry))) (now (texts .entry)) (now (answers .entry)) ⌝ }
+    ensures answer { λ r. ⌜ r ≡ batchAnswer Bits64 (now (file .entry)) (length (now (ws .entry))) (now (texts .entry)) (length (now (answers .entry))) ⌝ }
+    ensures workspace { λ _. ⌜ now (ws .exit) ≡ workspaceLeft Bits64 (now (file .entry)) (now (ws .entry)) ⌝ }
+    ensures answers { λ _. ⌜ now (answers .exit) ≡ batchPlaces Bits64 kind (now (file .entry)) (length (now (ws .entry))) (now (texts .entry)) (now (answers .entry)) ⌝ }
 {
     let a = accept::accept(file, ws);
     let v = a.answer;
@@ -34,9 +35,9 @@ pub extern "C" fn taplinen_names(
     texts: &[u8],
     answers: &mut [u8],
 ) -> Answer
-    ensures answer { λ r. ⌜ r ≡ batchAnswer (now (file .entry)) (length (now (ws .entry))) (now (texts .entry)) (length (now (answers .entry))) ⌝ }
-    ensures workspace { λ _. ⌜ now (ws .exit) ≡ workspaceLeft (now (file .entry)) (now (ws .entry)) ⌝ }
-    ensures answers { λ _. ⌜ now (answers .exit) ≡ namePlaces (now (file .entry)) (length (now (ws .entry))) (now (texts .entry)) (now (answers .entry)) ⌝ }
+    ensures answer { λ r. ⌜ r ≡ batchAnswer Bits64 (now (file .entry)) (length (now (ws .entry))) (now (texts .entry)) (length (now (answers .entry))) ⌝ }
+    ensures workspace { λ _. ⌜ now (ws .exit) ≡ workspaceLeft Bits64 (now (file .entry)) (now (ws .entry)) ⌝ }
+    ensures answers { λ _. ⌜ now (answers .exit) ≡ namePlaces Bits64 (now (file .entry)) (length (now (ws .entry))) (now (texts .entry)) (now (answers .entry)) ⌝ }
 {
     ask_each(file, ws, Kind::Name, texts, answers)
 }
@@ -49,9 +50,9 @@ pub extern "C" fn taplinen_values(
     texts: &[u8],
     answers: &mut [u8],
 ) -> Answer
-    ensures answer { λ r. ⌜ r ≡ batchAnswer (now (file .entry)) (length (now (ws .entry))) (now (texts .entry)) (length (now (answers .entry))) ⌝ }
-    ensures workspace { λ _. ⌜ now (ws .exit) ≡ workspaceLeft (now (file .entry)) (now (ws .entry)) ⌝ }
-    ensures answers { λ _. ⌜ now (answers .exit) ≡ valuePlaces (now (file .entry)) (length (now (ws .entry))) (now (texts .entry)) (now (answers .entry)) ⌝ }
+    ensures answer { λ r. ⌜ r ≡ batchAnswer Bits64 (now (file .entry)) (length (now (ws .entry))) (now (texts .entry)) (length (now (answers .entry))) ⌝ }
+    ensures workspace { λ _. ⌜ now (ws .exit) ≡ workspaceLeft Bits64 (now (file .entry)) (now (ws .entry)) ⌝ }
+    ensures answers { λ _. ⌜ now (answers .exit) ≡ valuePlaces Bits64 (now (file .entry)) (length (now (ws .entry))) (now (texts .entry)) (now (answers .entry)) ⌝ }
 {
     ask_each(file, ws, Kind::Value, texts, answers)
 }

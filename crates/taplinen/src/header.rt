@@ -1,6 +1,7 @@
 // The header report that crosses to C.
 ghost use mathlib.Core.Path.{_≡_};
 ghost use lib.ListN.{length};
+ghost use Rattle.layout.specs.declared.Edition.the-variants.{Bits64};
 ghost use Rattle.taplinen.specs.Questions.{headerAnswer, workspaceLeft};
 use verdict::Verdict;
 
@@ -18,8 +19,8 @@ pub struct HeaderReport {
 
 #[no_mangle]
 pub extern "C" fn taplinen_header(file: &[u8], ws: &mut [u8]) -> HeaderReport
-    ensures answer { λ r. ⌜ r ≡ headerAnswer (now (file .entry)) (length (now (ws .entry))) ⌝ }
-    ensures workspace { λ _. ⌜ now (ws .exit) ≡ workspaceLeft (now (file .entry)) (now (ws .entry)) ⌝ }
+    ensures answer { λ r. ⌜ r ≡ headerAnswer Bits64 (now (file .entry)) (length (now (ws .entry))) ⌝ }
+    ensures workspace { λ _. ⌜ now (ws .exit) ≡ workspaceLeft Bits64 (now (file .entry)) (now (ws .entry)) ⌝ }
 {
     let a = accept::accept(file, ws);
     let v = a.answer;

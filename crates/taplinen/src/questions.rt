@@ -1,6 +1,7 @@
 // Accept, name by text, value by text and path listing.
 ghost use mathlib.Core.Path.{_≡_};
 ghost use lib.ListN.{length};
+ghost use Rattle.layout.specs.declared.Edition.the-variants.{Bits64};
 ghost use Rattle.taplinen.specs.Questions.{acceptAnswer, textAnswer, nameAnswer, valueAnswer, pathAnswer, pathListing, workspaceLeft};
 use crate::answer;
 use crate::answer::Answer;
@@ -13,8 +14,8 @@ use verdict::Verdict;
 // nothing, and the answer leaves its number out.
 #[no_mangle]
 pub extern "C" fn taplinen_accept(file: &[u8], ws: &mut [u8]) -> Answer
-    ensures answer { λ r. ⌜ r ≡ acceptAnswer (now (file .entry)) (length (now (ws .entry))) ⌝ }
-    ensures workspace { λ _. ⌜ now (ws .exit) ≡ workspaceLeft (now (file .entry)) (now (ws .entry)) ⌝ }
+    ensures answer { λ r. ⌜ r ≡ acceptAnswer Bits64 (now (file .entry)) (length (now (ws .entry))) ⌝ }
+    ensures workspace { λ _. ⌜ now (ws .exit) ≡ workspaceLeft Bits64 (now (file .entry)) (now (ws .entry)) ⌝ }
 {
     let a = accept::accept(file, ws);
     let v = a.answer;
@@ -25,8 +26,8 @@ pub extern "C" fn taplinen_accept(file: &[u8], ws: &mut [u8]) -> Answer
 
 // Asks for a text in either table.
 fn ask(file: &[u8], ws: &mut [u8], kind: Kind, text: &[u8]) -> Answer
-    ensures answer { λ r. ⌜ r ≡ textAnswer kind (now (file .entry)) (length (now (ws .entry))) (now (text .entry)) ⌝ }
-    ensures workspace { λ _. ⌜ now (ws .exit) ≡ workspaceLeft (now (file .entry)) (now (ws .entry)) ⌝ }
+    ensures answer { λ r. ⌜ r ≡ textAnswer Bits64 kind (now (file .entry)) (length (now (ws .entry))) (now (text .entry)) ⌝ }
+    ensures workspace { λ _. ⌜ now (ws .exit) ≡ workspaceLeft Bits64 (now (file .entry)) (now (ws .entry)) ⌝ }
 {
     let a = accept::accept(file, ws);
     let v = a.answer;
@@ -44,8 +45,8 @@ fn ask(file: &[u8], ws: &mut [u8], kind: Kind, text: &[u8]) -> Answer
 // The index of a name.
 #[no_mangle]
 pub extern "C" fn taplinen_name(file: &[u8], ws: &mut [u8], text: &[u8]) -> Answer
-    ensures answer { λ r. ⌜ r ≡ nameAnswer (now (file .entry)) (length (now (ws .entry))) (now (text .entry)) ⌝ }
-    ensures workspace { λ _. ⌜ now (ws .exit) ≡ workspaceLeft (now (file .entry)) (now (ws .entry)) ⌝ }
+    ensures answer { λ r. ⌜ r ≡ nameAnswer Bits64 (now (file .entry)) (length (now (ws .entry))) (now (text .entry)) ⌝ }
+    ensures workspace { λ _. ⌜ now (ws .exit) ≡ workspaceLeft Bits64 (now (file .entry)) (now (ws .entry)) ⌝ }
 {
     ask(file, ws, Kind::Name, text)
 }
@@ -53,8 +54,8 @@ pub extern "C" fn taplinen_name(file: &[u8], ws: &mut [u8], text: &[u8]) -> Answ
 // The address of a value.
 #[no_mangle]
 pub extern "C" fn taplinen_value(file: &[u8], ws: &mut [u8], text: &[u8]) -> Answer
-    ensures answer { λ r. ⌜ r ≡ valueAnswer (now (file .entry)) (length (now (ws .entry))) (now (text .entry)) ⌝ }
-    ensures workspace { λ _. ⌜ now (ws .exit) ≡ workspaceLeft (now (file .entry)) (now (ws .entry)) ⌝ }
+    ensures answer { λ r. ⌜ r ≡ valueAnswer Bits64 (now (file .entry)) (length (now (ws .entry))) (now (text .entry)) ⌝ }
+    ensures workspace { λ _. ⌜ now (ws .exit) ≡ workspaceLeft Bits64 (now (file .entry)) (now (ws .entry)) ⌝ }
 {
     ask(file, ws, Kind::Value, text)
 }
@@ -62,9 +63,9 @@ pub extern "C" fn taplinen_value(file: &[u8], ws: &mut [u8], text: &[u8]) -> Ans
 // The matches of a path.
 #[no_mangle]
 pub extern "C" fn taplinen_path(file: &[u8], ws: &mut [u8], path: &[u8], list: &mut [u8]) -> Answer
-    ensures answer { λ r. ⌜ r ≡ pathAnswer (now (file .entry)) (length (now (ws .entry))) (now (path .entry)) (length (now (list .entry))) ⌝ }
-    ensures workspace { λ _. ⌜ now (ws .exit) ≡ workspaceLeft (now (file .entry)) (now (ws .entry)) ⌝ }
-    ensures listing { λ _. ⌜ now (list .exit) ≡ pathListing (now (file .entry)) (length (now (ws .entry))) (now (path .entry)) (now (list .entry)) ⌝ }
+    ensures answer { λ r. ⌜ r ≡ pathAnswer Bits64 (now (file .entry)) (length (now (ws .entry))) (now (path .entry)) (length (now (list .entry))) ⌝ }
+    ensures workspace { λ _. ⌜ now (ws .exit) ≡ workspaceLeft Bits64 (now (file .entry)) (now (ws .entry)) ⌝ }
+    ensures listing { λ _. ⌜ now (list .exit) ≡ pathListing Bits64 (now (file .entry)) (length (now (ws .entry))) (now (path .entry)) (now (list .entry)) ⌝ }
 {
     let a = accept::accept(file, ws);
     let v = a.answer;

@@ -8,7 +8,9 @@ use lib.ListN.{length, getD, drop, replicate, length-append, length-drop, length
 use lib.Seq.{drop-at}
 use Rattle.region.specs.Region.{Laid, Resolves, numberOf, allUsed}
 use Rattle.region.proofs.Laws.{number-lt, all-length, all-at}
-use Rattle.layout.specs.Layout.{nodeSize, nodesAt}
+use Rattle.layout.specs.Edition.{nodeSize}
+use Rattle.layout.specs.Layout.{nodesAt}
+use Rattle.layout.specs.declared.Edition.{Edition}
 use Rattle.tree.specs.File.{address, usedNodes}
 use Rattle.tree.specs.Marks.{isChild?, markBy, marksOf, cleared, marked}
 use Rattle.tree.proofs.Marking.{marks-at, all-marks}
@@ -27,41 +29,41 @@ mark-zero (no f) g = refl
 
 -- ---- acceptance marks
 
-module _ (b ws : List ℕ) (g : Laid nodeSize b (nodesAt b)) where
-  pub marked-at : (seg el : ℕ) → Resolves nodeSize b (nodesAt b) seg el
-      → getD (marked b ws) (numberOf nodeSize b (nodesAt b) seg el) 0 ≡ markBy (isChild? b (address seg el))
+module _ (ed : Edition) (b ws : List ℕ) (g : Laid (nodeSize ed) b (nodesAt ed b)) where
+  pub marked-at : (seg el : ℕ) → Resolves (nodeSize ed) b (nodesAt ed b) seg el
+      → getD (marked ed b ws) (numberOf (nodeSize ed) b (nodesAt ed b) seg el) 0 ≡ markBy (isChild? ed b (address seg el))
   unfolding marked usedNodes
   marked-at seg el h =
-      let n = number-lt nodeSize b (nodesAt b) seg el h in
-      let l = all-length nodeSize b (nodesAt b) in
-      let m = all-marks b g in
-      List·getD-append (marksOf b (allUsed nodeSize b (nodesAt b))) _ 0 (numberOf nodeSize b (nodesAt b) seg el) (omega arith)
-      ∙ marks-at b g (allUsed nodeSize b (nodesAt b)) (numberOf nodeSize b (nodesAt b) seg el) (omega arith)
-      ∙ ap (λ (x : ℕ). markBy (isChild? b x)) (all-at nodeSize b (nodesAt b) seg el h)
+      let n = number-lt (nodeSize ed) b (nodesAt ed b) seg el h in
+      let l = all-length (nodeSize ed) b (nodesAt ed b) in
+      let m = all-marks ed b g in
+      List·getD-append (marksOf ed b (allUsed (nodeSize ed) b (nodesAt ed b))) _ 0 (numberOf (nodeSize ed) b (nodesAt ed b) seg el) (omega arith)
+      ∙ marks-at ed b g (allUsed (nodeSize ed) b (nodesAt ed b)) (numberOf (nodeSize ed) b (nodesAt ed b) seg el) (omega arith)
+      ∙ ap (λ (x : ℕ). markBy (isChild? ed b x)) (all-at (nodeSize ed) b (nodesAt ed b) seg el h)
 
-  pub marked-long : usedNodes b ≤ length ws → length (marked b ws) ≡ length ws
+  pub marked-long : usedNodes ed b ≤ length ws → length (marked ed b ws) ≡ length ws
   unfolding marked
   marked-long h =
-      let m = all-marks b g in
-      let d = length-drop (usedNodes b) ws in
-      length-append (marksOf b (allUsed nodeSize b (nodesAt b))) (drop (usedNodes b) ws) ∙ omega arith
+      let m = all-marks ed b g in
+      let d = length-drop (usedNodes ed b) ws in
+      length-append (marksOf ed b (allUsed (nodeSize ed) b (nodesAt ed b))) (drop (usedNodes ed b) ws) ∙ omega arith
 
 -- ---- 21 and 22 clear
 
-module _ (b ws : List ℕ) where
-  pub cleared-at : (i : ℕ) → i < usedNodes b → getD (cleared b ws) i 0 ≡ 0
+module _ (ed : Edition) (b ws : List ℕ) where
+  pub cleared-at : (i : ℕ) → i < usedNodes ed b → getD (cleared ed b ws) i 0 ≡ 0
   unfolding cleared
   cleared-at i h =
-      let r = length-replicate {A = ℕ} (usedNodes b) 0 in
-      List·getD-append (replicate (usedNodes b) 0) (drop (usedNodes b) ws) 0 i (omega arith) ∙ getD-replicate (usedNodes b) i 0 0 h
+      let r = length-replicate {A = ℕ} (usedNodes ed b) 0 in
+      List·getD-append (replicate (usedNodes ed b) 0) (drop (usedNodes ed b) ws) 0 i (omega arith) ∙ getD-replicate (usedNodes ed b) i 0 0 h
 
-  pub cleared-rest : drop (usedNodes b) (cleared b ws) ≡ drop (usedNodes b) ws
+  pub cleared-rest : drop (usedNodes ed b) (cleared ed b ws) ≡ drop (usedNodes ed b) ws
   unfolding cleared
-  cleared-rest = drop-at (replicate (usedNodes b) 0) (drop (usedNodes b) ws) (usedNodes b) (length-replicate {A = ℕ} (usedNodes b) 0)
+  cleared-rest = drop-at (replicate (usedNodes ed b) 0) (drop (usedNodes ed b) ws) (usedNodes ed b) (length-replicate {A = ℕ} (usedNodes ed b) 0)
 
-  pub cleared-long : usedNodes b ≤ length ws → length (cleared b ws) ≡ length ws
+  pub cleared-long : usedNodes ed b ≤ length ws → length (cleared ed b ws) ≡ length ws
   unfolding cleared
   cleared-long h =
-      let r = length-replicate {A = ℕ} (usedNodes b) 0 in
-      let d = length-drop (usedNodes b) ws in
-      length-append (replicate (usedNodes b) 0) (drop (usedNodes b) ws) ∙ omega arith
+      let r = length-replicate {A = ℕ} (usedNodes ed b) 0 in
+      let d = length-drop (usedNodes ed b) ws in
+      length-append (replicate (usedNodes ed b) 0) (drop (usedNodes ed b) ws) ∙ omega arith

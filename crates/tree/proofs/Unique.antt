@@ -7,7 +7,9 @@ use native.Mathlib.Omega.{arith}
 use lib.ListN.{length}
 use Rattle.laws.proofs.Order.{le-or-lt}
 use Rattle.region.specs.Region.{Laid}
-use Rattle.layout.specs.Layout.{nodeSize, nodesAt}
+use Rattle.layout.specs.Edition.{nodeSize}
+use Rattle.layout.specs.Layout.{nodesAt}
+use Rattle.layout.specs.declared.Edition.{Edition}
 use Rattle.nodes.specs.Rules.{NodesRules}
 use Rattle.tree.specs.Chain.{Tree, child, Chain}
 use Rattle.tree.specs.File.{Used, treeOf}
@@ -64,11 +66,11 @@ module _ (t : Tree) (P : ℕ → Type 0) (u : OneParent t P) where
 
 -- ---- of a file that obeys 16 to 19, 21 and 23
 
-module _ (b : List ℕ) (g : Laid nodeSize b (nodesAt b)) (r : NodesRules b) (f : (a : ℕ) → Used b a → RangeRule b a) where
-  pub one-parent : OneParent (treeOf b) (Used b)
+module _ (ed : Edition) (b : List ℕ) (g : Laid (nodeSize ed) b (nodesAt ed b)) (r : NodesRules ed b) (f : (a : ℕ) → Used ed b a → RangeRule ed b a) where
+  pub one-parent : OneParent (treeOf ed b) (Used ed b)
   one-parent = record {
     root = r .root;
-    within = λ a j h l. used-child b g r a h j l;
+    within = λ a j h l. used-child ed b g r a h j l;
     rootless = λ a j h l. f a h .rootless j l;
     one = λ a c j k h m l d q.
         ⊎-elim

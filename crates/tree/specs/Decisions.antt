@@ -9,20 +9,22 @@ use lib.ListN.{length}
 use Rattle.verdict.specs.Checks.{SomeBelow}
 use Rattle.verdict.specs.Decide.{someBelow?, decBy, implies?, allBelow?}
 use Rattle.region.specs.Decisions.{resolves?}
-use Rattle.layout.specs.Layout.{nodeSize, nodesAt}
+use Rattle.layout.specs.Edition.{nodeSize}
+use Rattle.layout.specs.Layout.{nodesAt}
+use Rattle.layout.specs.declared.Edition.{Edition}
 use Rattle.tree.specs.Chain.{Tree, LiveIn, child, Chain}
 use Rattle.tree.specs.File.{Used, treeOf}
 use Rattle.tree.specs.Rules.{RangeRule, Deep, DepthRule}
 
-unfoldable pub used? : (b : List ℕ) (a : ℕ) → Dec (Used b a)
-used? b a = resolves? nodeSize b (nodesAt b) (a / 65536) (a % 65536)
+unfoldable pub used? : (ed : Edition) (b : List ℕ) (a : ℕ) → Dec (Used ed b a)
+used? ed b a = resolves? (nodeSize ed) b (nodesAt ed b) (a / 65536) (a % 65536)
 
-unfoldable pub rangeRule? : (b : List ℕ) (a : ℕ) → Dec (RangeRule b a)
-rangeRule? b a =
+unfoldable pub rangeRule? : (ed : Edition) (b : List ℕ) (a : ℕ) → Dec (RangeRule ed b a)
+rangeRule? ed b a =
     decBy (λ w. record { rootless = w .0; fresh = w .1 }) (λ r. (r .rootless, r .fresh))
-    (Dec·and (allBelow? (treeOf b .count a) (λ j. Dec·not (ℕ-discrete (child (treeOf b) a j) 0)))
-    (allBelow? a (λ c. implies? (used? b c) (allBelow? (treeOf b .count a) (λ j. allBelow? (treeOf b .count c) (λ k.
-    Dec·not (ℕ-discrete (child (treeOf b) a j) (child (treeOf b) c k))))))))
+    (Dec·and (allBelow? (treeOf ed b .count a) (λ j. Dec·not (ℕ-discrete (child (treeOf ed b) a j) 0)))
+    (allBelow? a (λ c. implies? (used? ed b c) (allBelow? (treeOf ed b .count a) (λ j. allBelow? (treeOf ed b .count c) (λ k.
+    Dec·not (ℕ-discrete (child (treeOf ed b) a j) (child (treeOf ed b) c k))))))))
 
 unfoldable pub deep? : (t : Tree) (n a : ℕ) → Dec (Deep t n a)
 unfolding Chain
@@ -39,5 +41,5 @@ deep? t (suc n) a = decBy down up (someBelow? (t .count a) (λ j. Dec·and (Dec�
     up : Deep t (suc n) a → SomeBelow (t .count a) (λ j. LiveIn t (child t a j) × Deep t n (child t a j))
     up d = from (d .0) (d .1) (d .2) (d .3)
 
-unfoldable pub depthRule? : (b : List ℕ) → Dec (DepthRule b)
-depthRule? b = Dec·not (deep? (treeOf b) 64 0)
+unfoldable pub depthRule? : (ed : Edition) (b : List ℕ) → Dec (DepthRule ed b)
+depthRule? ed b = Dec·not (deep? (treeOf ed b) 64 0)

@@ -2,7 +2,9 @@
 use Prim.Native.Nat.{ℕ, _+_, _*_, _/_, _%_}
 use mathlib.Core.List.{List}
 use Rattle.region.specs.Region.{Resolves, totalOf}
-use Rattle.layout.specs.Layout.{nodeSize, nodesAt}
+use Rattle.layout.specs.Edition.{nodeSize}
+use Rattle.layout.specs.Layout.{nodesAt}
+use Rattle.layout.specs.declared.Edition.{Edition}
 use Rattle.nodes.specs.Node.{nodeName, childSegment, childElement, childCount, nodeAt}
 use Rattle.tree.specs.Chain.{Tree}
 
@@ -11,21 +13,21 @@ abbrev pub address : ℕ → ℕ → ℕ
 address seg el = seg * 65536 + el
 
 -- Where the node with that number stands.
-unfoldable pub nodeOf : List ℕ → ℕ → ℕ
-nodeOf b a = nodeAt b (a / 65536) (a % 65536)
+unfoldable pub nodeOf : Edition → List ℕ → ℕ → ℕ
+nodeOf ed b a = nodeAt ed b (a / 65536) (a % 65536)
 
 -- It is a used node.
-abbrev pub Used : List ℕ → ℕ → Type 0
-Used b a = Resolves nodeSize b (nodesAt b) (a / 65536) (a % 65536)
+abbrev pub Used : Edition → List ℕ → ℕ → Type 0
+Used ed b a = Resolves (nodeSize ed) b (nodesAt ed b) (a / 65536) (a % 65536)
 
 -- The tree: names and child ranges as the nodes have them.
-unfoldable pub treeOf : List ℕ → Tree
-treeOf b = record {
-  name = λ a. nodeName b (nodeOf b a);
-  first = λ a. address (childSegment b (nodeOf b a)) (childElement b (nodeOf b a));
-  count = λ a. childCount b (nodeOf b a);
+unfoldable pub treeOf : Edition → List ℕ → Tree
+treeOf ed b = record {
+  name = λ a. nodeName b (nodeOf ed b a);
+  first = λ a. address (childSegment ed b (nodeOf ed b a)) (childElement ed b (nodeOf ed b a));
+  count = λ a. childCount b (nodeOf ed b a);
 }
 
 -- U, the used nodes.
-unfoldable pub usedNodes : List ℕ → ℕ
-usedNodes b = totalOf nodeSize b (nodesAt b)
+unfoldable pub usedNodes : Edition → List ℕ → ℕ
+usedNodes ed b = totalOf (nodeSize ed) b (nodesAt ed b)

@@ -7,7 +7,9 @@ use lib.ListN.{drop, replicate}
 use Rattle.verdict.specs.Checks.{SomeBelow}
 use Rattle.verdict.specs.Decide.{someBelow?}
 use Rattle.region.specs.Region.{countOf, usedOf, allUsed}
-use Rattle.layout.specs.Layout.{nodeSize, nodesAt}
+use Rattle.layout.specs.Edition.{nodeSize}
+use Rattle.layout.specs.Layout.{nodesAt}
+use Rattle.layout.specs.declared.Edition.{Edition}
 use Rattle.tree.specs.Chain.{Tree, child}
 use Rattle.tree.specs.File.{address, treeOf, usedNodes}
 
@@ -16,14 +18,14 @@ abbrev pub InRange : Tree → ℕ → ℕ → Type 0
 InRange t a c = SomeBelow (t .count a) (λ j. child t a j ≡ c)
 
 -- Node c is in some live node's child range. It is enough to look at used nodes: a nameless node's child count is 0.
-abbrev pub IsChild : List ℕ → ℕ → Type 0
-IsChild b c =
-    SomeBelow (countOf b (nodesAt b)) (λ s. SomeBelow (usedOf nodeSize b (nodesAt b) s) (λ e. InRange (treeOf b) (address s e) c))
+abbrev pub IsChild : Edition → List ℕ → ℕ → Type 0
+IsChild ed b c =
+    SomeBelow (countOf b (nodesAt ed b)) (λ s. SomeBelow (usedOf (nodeSize ed) b (nodesAt ed b) s) (λ e. InRange (treeOf ed b) (address s e) c))
 
-unfoldable pub isChild? : (b : List ℕ) (c : ℕ) → Dec (IsChild b c)
-isChild? b c =
-    someBelow? (countOf b (nodesAt b)) (λ s. someBelow? (usedOf nodeSize b (nodesAt b) s) (λ e.
-    someBelow? (treeOf b .count (address s e)) (λ j. ℕ-discrete (child (treeOf b) (address s e) j) c)))
+unfoldable pub isChild? : (ed : Edition) (b : List ℕ) (c : ℕ) → Dec (IsChild ed b c)
+isChild? ed b c =
+    someBelow? (countOf b (nodesAt ed b)) (λ s. someBelow? (usedOf (nodeSize ed) b (nodesAt ed b) s) (λ e.
+    someBelow? (treeOf ed b .count (address s e)) (λ j. ℕ-discrete (child (treeOf ed b) (address s e) j) c)))
 
 -- 1 where it is so, else 0.
 unfoldable pub markBy : {P : Type 0} → Dec P → ℕ
@@ -31,13 +33,13 @@ markBy (yes p) = 1
 markBy (no f) = 0
 
 -- The marks of some nodes.
-unfoldable pub marksOf : List ℕ → List ℕ → List ℕ
-marksOf b [] = []
-marksOf b (a ∷ l) = markBy (isChild? b a) ∷ marksOf b l
+unfoldable pub marksOf : Edition → List ℕ → List ℕ → List ℕ
+marksOf ed b [] = []
+marksOf ed b (a ∷ l) = markBy (isChild? ed b a) ∷ marksOf ed b l
 
 -- A workspace with its first U bytes 0, and with the marks of the used nodes in file order; bytes past U stay.
-unfoldable pub cleared : List ℕ → List ℕ → List ℕ
-cleared b ws = replicate (usedNodes b) 0 ++ drop (usedNodes b) ws
+unfoldable pub cleared : Edition → List ℕ → List ℕ → List ℕ
+cleared ed b ws = replicate (usedNodes ed b) 0 ++ drop (usedNodes ed b) ws
 
-unfoldable pub marked : List ℕ → List ℕ → List ℕ
-marked b ws = marksOf b (allUsed nodeSize b (nodesAt b)) ++ drop (usedNodes b) ws
+unfoldable pub marked : Edition → List ℕ → List ℕ → List ℕ
+marked ed b ws = marksOf ed b (allUsed (nodeSize ed) b (nodesAt ed b)) ++ drop (usedNodes ed b) ws

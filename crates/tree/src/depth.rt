@@ -1,6 +1,7 @@
 // Refusal 22: the first node in document order to which a chain of 65 nodes leads.
 ghost use mathlib.Core.Path.{_≡_};
 ghost use Prim.Native.Nat.{_≤_};
+ghost use Rattle.layout.specs.declared.Edition.the-variants.{Bits64};
 ghost use Rattle.tree.specs.Chain.{ends};
 ghost use Rattle.tree.specs.File.{Used, nodeOf, treeOf};
 ghost use Rattle.tree.specs.inner.Marking.{TreeReady, firstPlace};
@@ -23,8 +24,8 @@ pub fn find_deep(
     p: usize,
     left: usize,
 ) -> Found
-    requires { ⌜ TreeReady (now b) nodes (now segments) × Used (now b) a × (p ≡ nodeOf (now b) a) × (left ≤ 64) ⌝ }
-    ensures { λ r. ⌜ r ≡ firstPlace (now (b .entry)) (ends (treeOf (now (b .entry))) left a) ⌝ }
+    requires { ⌜ TreeReady Bits64 (now b) nodes (now segments) × Used Bits64 (now b) a × (p ≡ nodeOf Bits64 (now b) a) × (left ≤ 64) ⌝ }
+    ensures { λ r. ⌜ r ≡ firstPlace Bits64 (now (b .entry)) (ends (treeOf Bits64 (now (b .entry))) left a) ⌝ }
 {
     if left == 0 {
         return Found::At(p);

@@ -3,7 +3,9 @@ ghost use mathlib.Core.Path.{_≡_};
 ghost use lib.ListN.{length};
 ghost use Rattle.verdict.specs.Checks.{firstFault};
 ghost use Rattle.region.specs.inner.Samples.{Counts};
-ghost use Rattle.layout.specs.Layout.{nodeSize, nodesAt};
+ghost use Rattle.layout.specs.Edition.{nodeSize};
+ghost use Rattle.layout.specs.Layout.{nodesAt};
+ghost use Rattle.layout.specs.declared.Edition.the-variants.{Bits64};
 ghost use Rattle.tree.specs.File.{usedNodes};
 ghost use Rattle.tree.specs.Outcome.{treeChecks, workspaceAfter};
 ghost use Rattle.tree.specs.inner.Marking.{TreeReady};
@@ -31,10 +33,10 @@ pub fn check_tree(
     used: usize,
     ws: &mut [u8],
 ) -> Verdict
-    requires { ⌜ TreeReady (now b) nodes (now segments) × Counts nodeSize (now b) (nodesAt (now b)) (nodes .shift) (now counts)
-        × (used ≡ usedNodes (now b)) ⌝ }
-    ensures answer { λ r. ⌜ r ≡ firstFault (treeChecks (now (b .entry)) (length (now (ws .entry)))) ⌝ }
-    ensures workspace { λ _. ⌜ now (ws .exit) ≡ workspaceAfter (now (b .entry)) (now (ws .entry)) (firstFault (treeChecks (now (b .entry)) (length (now (ws .entry))))) ⌝ }
+    requires { ⌜ TreeReady Bits64 (now b) nodes (now segments) × Counts (nodeSize Bits64) (now b) (nodesAt Bits64 (now b)) (nodes .shift) (now counts)
+        × (used ≡ usedNodes Bits64 (now b)) ⌝ }
+    ensures answer { λ r. ⌜ r ≡ firstFault (treeChecks Bits64 (now (b .entry)) (length (now (ws .entry)))) ⌝ }
+    ensures workspace { λ _. ⌜ now (ws .exit) ≡ workspaceAfter Bits64 (now (b .entry)) (now (ws .entry)) (firstFault (treeChecks Bits64 (now (b .entry)) (length (now (ws .entry))))) ⌝ }
 {
     if ws.len() < used {
         return Verdict::Refused(20, used);

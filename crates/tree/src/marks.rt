@@ -6,7 +6,9 @@ ghost use Rattle.laws.specs.inner.Lists.{splice};
 ghost use Rattle.verdict.specs.Checks.{firstFault};
 ghost use Rattle.verdict.specs.inner.Tells.{Tells};
 ghost use Rattle.region.specs.inner.Samples.{Counts};
-ghost use Rattle.layout.specs.Layout.{nodeSize, nodesAt};
+ghost use Rattle.layout.specs.Edition.{nodeSize};
+ghost use Rattle.layout.specs.Layout.{nodesAt};
+ghost use Rattle.layout.specs.declared.Edition.the-variants.{Bits64};
 ghost use Rattle.tree.specs.File.{usedNodes};
 ghost use Rattle.tree.specs.Order.{allRangeChecks};
 ghost use Rattle.tree.specs.Outcome.{workspaceAfter};
@@ -59,10 +61,10 @@ fn mark_node(
     p: usize,
     ws: &mut [u8],
 ) -> bool
-    requires { ⌜ TreeReady (now b) nodes (now segments) × Counts nodeSize (now b) (nodesAt (now b)) (nodes .shift) (now counts)
-        × (p + 24 ≤ length (now b)) × (usedNodes (now b) ≤ length (now ws)) ⌝ }
-    requires { ⌜ Reached (now b) p ⌝ }
-    ensures { λ r. ⌜ MarkedOne (now (b .entry)) p (now (ws .entry)) r (now (ws .exit)) ⌝ }
+    requires { ⌜ TreeReady Bits64 (now b) nodes (now segments) × Counts (nodeSize Bits64) (now b) (nodesAt Bits64 (now b)) (nodes .shift) (now counts)
+        × (p + nodeSize Bits64 ≤ length (now b)) × (usedNodes Bits64 (now b) ≤ length (now ws)) ⌝ }
+    requires { ⌜ Reached Bits64 (now b) p ⌝ }
+    ensures { λ r. ⌜ MarkedOne Bits64 (now (b .entry)) p (now (ws .entry)) r (now (ws .exit)) ⌝ }
 {
     if fields::node_name(b, p) == 0 {
         return true;
@@ -96,10 +98,10 @@ pub fn mark_nodes(
     used: usize,
     ws: &mut [u8],
 ) -> Verdict
-    requires { ⌜ TreeReady (now b) nodes (now segments) × Counts nodeSize (now b) (nodesAt (now b)) (nodes .shift) (now counts)
-        × (used ≡ usedNodes (now b)) × (usedNodes (now b) ≤ length (now ws)) ⌝ }
-    ensures answer { λ r. ⌜ r ≡ firstFault (allRangeChecks (now (b .entry))) ⌝ }
-    ensures workspace { λ _. ⌜ now (ws .exit) ≡ workspaceAfter (now (b .entry)) (now (ws .entry)) (firstFault (allRangeChecks (now (b .entry)))) ⌝ }
+    requires { ⌜ TreeReady Bits64 (now b) nodes (now segments) × Counts (nodeSize Bits64) (now b) (nodesAt Bits64 (now b)) (nodes .shift) (now counts)
+        × (used ≡ usedNodes Bits64 (now b)) × (usedNodes Bits64 (now b) ≤ length (now ws)) ⌝ }
+    ensures answer { λ r. ⌜ r ≡ firstFault (allRangeChecks Bits64 (now (b .entry))) ⌝ }
+    ensures workspace { λ _. ⌜ now (ws .exit) ≡ workspaceAfter Bits64 (now (b .entry)) (now (ws .entry)) (firstFault (allRangeChecks Bits64 (now (b .entry)))) ⌝ }
 {
     set_range(ws, 0, used, 0);
     let mut fault = Verdict::Accepted;

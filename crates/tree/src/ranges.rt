@@ -2,6 +2,8 @@
 ghost use mathlib.Core.Path.{_≡_};
 ghost use Prim.Native.Nat.{_+_, _≤_, _<_, _^_};
 ghost use lib.ListN.{length};
+ghost use Rattle.layout.specs.Edition.{nodeSize};
+ghost use Rattle.layout.specs.declared.Edition.the-variants.{Bits64};
 ghost use Rattle.tree.specs.inner.Marking.{TreeReady, Reached};
 ghost use Rattle.tree.specs.inner.Children.{ChildrenOf};
 use layout::NODE_SIZE;
@@ -27,8 +29,8 @@ pub fn root_at(nodes: Region) -> usize
 
 // The children of the node at p; a nameless node has none.
 pub fn children_of(b: &[u8], nodes: Region, segments: &[u32; 1024], p: usize) -> Children
-    requires { ⌜ TreeReady (now b) nodes (now segments) × Reached (now b) p × (p + 24 ≤ length (now b)) ⌝ }
-    ensures { λ r. ⌜ ChildrenOf (now (b .entry)) p r ⌝ }
+    requires { ⌜ TreeReady Bits64 (now b) nodes (now segments) × Reached Bits64 (now b) p × (p + nodeSize Bits64 ≤ length (now b)) ⌝ }
+    ensures { λ r. ⌜ ChildrenOf Bits64 (now (b .entry)) p r ⌝ }
 {
     let seg = fields::child_segment(b, p);
     let el = fields::child_element(b, p);

@@ -14,6 +14,7 @@ use Rattle.layout.specs.Header.{headerChecks}
 use Rattle.accept.specs.Verdict.{acceptChecks, verdictOf}
 use Rattle.verdict.proofs.Laws.{fault-keep}
 use Rattle.layout.specs.Layout.{sizeChecks, frontChecks, layoutChecks}
+use Rattle.layout.specs.declared.Edition.the-variants.{Bits64}
 
 hash-none : hashText [] ≡ 0
 unfolding hashOn
@@ -79,10 +80,10 @@ type-word-0005-extended : extendedOf 0x0005 ≡ 1
 unfolding extendedOf
 type-word-0005-extended = refl
 
-layout-cut : firstFault (layoutChecks (0x05 ∷ 0x00 ∷ 0x00 ∷ 0x00 ∷ [])) ≡ Refused 3 0
+layout-cut : firstFault (layoutChecks Bits64 (0x05 ∷ 0x00 ∷ 0x00 ∷ 0x00 ∷ [])) ≡ Refused 3 0
 unfolding layoutChecks frontChecks sizeChecks headerChecks firstFault decLe ℕ-discrete u32At
 layout-cut = refl
 
-version-cut : (room : ℕ) → verdictOf (0x05 ∷ 0x00 ∷ 0x00 ∷ 0x00 ∷ []) room ≡ Refused 3 0
+version-cut : (room : ℕ) → verdictOf Bits64 (0x05 ∷ 0x00 ∷ 0x00 ∷ 0x00 ∷ []) room ≡ Refused 3 0
 unfolding verdictOf acceptChecks
-version-cut room = fault-keep (layoutChecks (0x05 ∷ 0x00 ∷ 0x00 ∷ 0x00 ∷ [])) _ layout-cut
+version-cut room = fault-keep (layoutChecks Bits64 (0x05 ∷ 0x00 ∷ 0x00 ∷ 0x00 ∷ [])) _ layout-cut

@@ -1,6 +1,7 @@
 -- `accept::accept` meets its contract: the layout first, then all else. Assumes nothing.
 use borrow.Author.Needs.{needs}
 use Rattle.verdict.proofs.Laws.{never}
+use Rattle.layout.specs.declared.Edition.the-variants.{Bits64}
 use Rattle.accept.proofs.Groups.{layout-refused}
 use Rattle.accept.proofs.accept.Statement.{statement}
 use Rattle.accept.proofs.accept.Tie as tie
@@ -8,7 +9,7 @@ use Rattle.accept.proofs.accept.Tie as tie
 returns : tie.Need-returns
 returns c =
     let k = c .before .before .before .check-layout .ensures in
-    let s = layout-refused _ _ (k .answer) (c .enum-told .given .1) in
+    let s = layout-refused Bits64 _ _ (k .answer) (c .enum-told .given .1) in
     (record { answer = s .0; view = λ a. absurd (never (c .enum-told .given .1) a) }, s .1)
 
 check-contents-requires : tie.Need-check-contents-requires

@@ -12,12 +12,13 @@ use Rattle.layout.specs.Table.{Table, bucketChecks, listAt, tableEnd, ta
 use Rattle.layout.specs.Layout.{attributesAt, nodesAt, valuesAt, frontChecks}
 use Rattle.layout.specs.declared.front.FrontScan.{FrontScan}
 use Rattle.layout.specs.declared.tables.TableScan.{TableScan}
+use Rattle.layout.specs.declared.Edition.{Edition}
 
 -- The front: the first of refusals 1 to 5, or where the nodes end with the offsets of the attributes and the nodes kept.
-pub record FrontScanned (b : List ℕ) (r : FrontScan) : Type 0 where
-  pub answer : r .answer ≡ scanned (firstFault (frontChecks b)) (valuesAt b)
+pub record FrontScanned (ed : Edition) (b : List ℕ) (r : FrontScan) : Type 0 where
+  pub answer : r .answer ≡ scanned (firstFault (frontChecks ed b)) (valuesAt ed b)
   pub attributes-at : (e : ℕ) → r .answer ≡ End e → r .attributes ≡ attributesAt b
-  pub nodes-at : (e : ℕ) → r .answer ≡ End e → r .nodes ≡ nodesAt b
+  pub nodes-at : (e : ℕ) → r .answer ≡ End e → r .nodes ≡ nodesAt ed b
 
 -- The buckets: refusal 2, or where they end with each one's start kept.
 pub record BucketsScanned (t : Table) (r : Scan) (xs : List ℕ) : Type 0 where

@@ -11,7 +11,9 @@ use Rattle.verdict.specs.declared.Verdict.the-variants.{Accepted}
 use Rattle.region.specs.Region.{Reaches, numberOf}
 use Rattle.region.specs.inner.Samples.{Mapped, Starts}
 use Rattle.region.specs.declared.Region.{Region}
-use Rattle.layout.specs.Layout.{LaidOut, nodeSize, nodesAt}
+use Rattle.layout.specs.Edition.{nodeSize}
+use Rattle.layout.specs.Layout.{LaidOut, nodesAt}
+use Rattle.layout.specs.declared.Edition.{Edition}
 use Rattle.nodes.specs.Node.{childSegment, childElement, childCount}
 use Rattle.nodes.specs.Order.{allNodeChecks}
 use Rattle.tree.specs.File.{nodeOf}
@@ -24,27 +26,27 @@ pub record Free (ws : List ℕ) (i n : ℕ) : Type 0 where
   pub unmarked : (j : ℕ) → j < n → getD ws (i + j) 0 ≡ 0
 
 -- The child range of the node at p resolves.
-abbrev pub Reached : List ℕ → ℕ → Type 0
-Reached b p = Reaches nodeSize b (nodesAt b) (childSegment b p) (childElement b p) (childCount b p)
+abbrev pub Reached : Edition → List ℕ → ℕ → Type 0
+Reached ed b p = Reaches (nodeSize ed) b (nodesAt ed b) (childSegment ed b p) (childElement ed b p) (childCount b p)
 
 -- The number in the workspace of the first child of the node at p.
-unfoldable pub firstNumber : List ℕ → ℕ → ℕ
-firstNumber b p = numberOf nodeSize b (nodesAt b) (childSegment b p) (childElement b p)
+unfoldable pub firstNumber : Edition → List ℕ → ℕ → ℕ
+firstNumber ed b p = numberOf (nodeSize ed) b (nodesAt ed b) (childSegment ed b p) (childElement ed b p)
 
 -- The child range of the node at p was free and is marked now; or it was not, and nothing changed.
-pub record MarkedOne (b : List ℕ) (p : ℕ) (ws : List ℕ) (r : Bool) (ws′ : List ℕ) : Type 0 where
-  pub free : Tells (Free ws (firstNumber b p) (childCount b p)) r
-  pub set : r ≡ true → ws′ ≡ splice ws (firstNumber b p) (replicate (childCount b p) 1)
+pub record MarkedOne (ed : Edition) (b : List ℕ) (p : ℕ) (ws : List ℕ) (r : Bool) (ws′ : List ℕ) : Type 0 where
+  pub free : Tells (Free ws (firstNumber ed b p) (childCount b p)) r
+  pub set : r ≡ true → ws′ ≡ splice ws (firstNumber ed b p) (replicate (childCount b p) 1)
   pub kept : r ≡ false → ws′ ≡ ws
 
 -- The place of the first of some nodes.
-unfoldable pub firstPlace : List ℕ → List ℕ → Found
-firstPlace b [] = Nothing
-firstPlace b (a ∷ l) = At (nodeOf b a)
+unfoldable pub firstPlace : Edition → List ℕ → List ℕ → Found
+firstPlace ed b [] = Nothing
+firstPlace ed b (a ∷ l) = At (nodeOf ed b a)
 
 -- A file that is laid out and passed 16 to 19 and 23, and the region of its nodes.
-pub record TreeReady (b : List ℕ) (r : Region) (segments : List ℕ) : Type 0 where
-  pub laid : LaidOut b
-  pub nodes : Mapped nodeSize b (nodesAt b) r
-  pub sampled : Starts nodeSize b (nodesAt b) (r .shift) segments
-  pub accepted : firstFault (allNodeChecks b) ≡ Accepted
+pub record TreeReady (ed : Edition) (b : List ℕ) (r : Region) (segments : List ℕ) : Type 0 where
+  pub laid : LaidOut ed b
+  pub nodes : Mapped (nodeSize ed) b (nodesAt ed b) r
+  pub sampled : Starts (nodeSize ed) b (nodesAt ed b) (r .shift) segments
+  pub accepted : firstFault (allNodeChecks ed b) ≡ Accepted

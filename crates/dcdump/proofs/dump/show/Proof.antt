@@ -5,6 +5,7 @@ use Rattle.outline.specs.Outlined.{outlineChecks}
 use Rattle.dcdump.specs.Output.{reportAccepted}
 use Rattle.dcdump.proofs.Written.{reported, shown-fits, shown-accepted}
 use borrow.Author.Needs.{needs}
+use Rattle.layout.specs.declared.Edition.the-variants.{Bits64}
 use Rattle.dcdump.proofs.dump.show.Statement.{statement}
 use Rattle.dcdump.proofs.dump.show.Tie as tie
 
@@ -18,7 +19,7 @@ returns : tie.Need-returns
 unfolding reportAccepted
 returns c =
     let x = c .before .before .before .before .before .before .before .before .before .before .before .before .before .before .before .before .before .before .before .before .before .before .args .b .now in
-    put-same (reported (reportAccepted x) (λ (r : ℕ). firstFault (outlineChecks x r)) (c .before .before .before .before .before .before .before .before .write-outline .ensures .0 .answer) (c .before .before .before .before .before .before .before .before .before .before .before .before .before .before .text .ensures) (c .before .before .before .before .before .a .given .1))
+    put-same (reported (reportAccepted x) (λ (r : ℕ). firstFault (outlineChecks Bits64 x r)) (c .before .before .before .before .before .before .before .before .write-outline .ensures .0 .answer) (c .before .before .before .before .before .before .before .before .before .before .before .before .before .before .text .ensures) (c .before .before .before .before .before .a .given .1))
     (c .before .before .put-refused .ensures)
 
 returns-2 : tie.Need-returns-2

@@ -1,6 +1,6 @@
 use borrow.Author.Needs.{needs}
-use Rattle.layout.specs.Layout.{attributeSize, nodeSize}
 use Rattle.layout.specs.Header.{keysAt, keyCount}
+use Rattle.layout.specs.declared.Edition.the-variants.{Bits64}
 use Rattle.layout.proofs.Laws.{keys-fit}
 use Rattle.layout.proofs.Seen.{own-mapped, own-starts, own-counts, own-total, walk-laid, walk-short, attributes-laid, nodes-laid, values-laid, names-laid, attributes-mapped, nodes-mapped, values-mapped, names-mapped}
 use Rattle.layout.proofs.whole.view_of.Statement.{statement}
@@ -39,10 +39,10 @@ header-report-requires c κs = let p = c .before .before .before .before .before
 u32-at-requires : tie.Need-u32-at-requires
 unfolding keysAt
 u32-at-requires c κs =
-    let p = c .before .before .before .before .before .before .before .before .before .before .before .before .before .before .before .before .pre in keys-fit _ (walk-laid (p .0) (p .1))
+    let p = c .before .before .before .before .before .before .before .before .before .before .before .before .before .before .before .before .pre in keys-fit Bits64 _ (walk-laid (p .0) (p .1))
 
 returns : tie.Need-returns
-unfolding keysAt keyCount attributeSize nodeSize
+unfolding keysAt keyCount
 returns c =
     let g = c .before .before .before .before .before .before .before .before .before .before .before .before .before .before .before .before .before .pre .0 in
     let a = c .before .before .before .before .before .before .before .before .before .before .before .before .before .before .before .before .before .pre .1 in

@@ -1,7 +1,9 @@
 use mathlib.Core.Path.{_≡_}
 use borrow.Author.Needs.{needs}
 use Rattle.region.specs.Region.{rangeAt}
-use Rattle.layout.specs.Layout.{nodeSize, nodesAt}
+use Rattle.layout.specs.Edition.{nodeSize}
+use Rattle.layout.specs.Layout.{nodesAt}
+use Rattle.layout.specs.declared.Edition.the-variants.{Bits64}
 use Rattle.nodes.specs.Node.{childSegment, childElement, childCount}
 use Rattle.nodes.proofs.Climbs.{children-sought, children-none, children-nowhere, children-fit, children-told}
 use Rattle.nodes.proofs.Sought.{lent}
@@ -14,24 +16,23 @@ count c = child-count _ _ (c .before .before .pre .1 .1) _ (c .child-field .ensu
 
 range : (c : tie.After-range-at)
     → let a = c .before .before .before .before .before .before .args in
-    c .range-at .result ≡ rangeAt nodeSize (a .b .now) (nodesAt (a .b .now)) (childSegment (a .b .now) (a .p)) (childElement (a .b .now) (a .p)) (c .before .before .before .before .child-field .result)
-range c = children-sought _ _ _ _ (c .before .before .before .before .before .before .pre .0 .0) _ _ (c .before .before .child-segment .ensures .0) (c .before .child-element .ensures .0) _ (c .range-at .ensures)
+    c .range-at .result ≡ rangeAt (nodeSize Bits64) (a .b .now) (nodesAt Bits64 (a .b .now)) (childSegment Bits64 (a .b .now) (a .p)) (childElement Bits64 (a .b .now) (a .p)) (c .before .before .before .before .child-field .result)
+range c = children-sought Bits64 _ _ _ _ (c .before .before .before .before .before .before .pre .0 .0) _ _ (c .before .before .child-segment .ensures .0) (c .before .child-element .ensures .0) _ (c .range-at .ensures)
 
 returns : tie.Need-returns
-returns c = children-none _ _ _ (count (c .before)) (c .if1 .taken)
+returns c = children-none Bits64 _ _ _ (count (c .before)) (c .if1 .taken)
 
 range-at-requires : tie.Need-range-at-requires
-unfolding nodeSize
 range-at-requires c κs = let w = c .before .before .before .before .before .pre .0 in (lent (w .0) (w .1), (c .child-element .ensures .1, c .before .before .before .child-field .ensures .1))
 
 rising-requires : tie.Need-rising-requires
-rising-requires c κs = children-fit _ _ _ (count (c .before .before .before .before .before .before .before)) _ (range (c .before .before .before)) _ (c .before .r .given .1) (c .before .before .before .before .before .before .before .before .before .pre .0 .0 .laid)
+rising-requires c κs = children-fit Bits64 _ _ _ (count (c .before .before .before .before .before .before .before)) _ (range (c .before .before .before)) _ (c .before .r .given .1) (c .before .before .before .before .before .before .before .before .before .pre .0 .0 .laid)
 
 returns-2 : tie.Need-returns-2
-returns-2 c = children-told _ _ _ (count (c .before .before .before .before .before .before .before .before)) _ (range (c .before .before .before .before)) _ (c .before .before .r .given .1) _ (c .rising .ensures)
+returns-2 c = children-told Bits64 _ _ _ (count (c .before .before .before .before .before .before .before .before)) _ (range (c .before .before .before .before)) _ (c .before .before .r .given .1) _ (c .rising .ensures)
 
 returns-3 : tie.Need-returns-3
-returns-3 c = children-nowhere _ _ _ (count (c .before .before .before .before .before .before)) _ (range (c .before .before)) (c .before .before .before .before .before .if1 .left) (c .enum-told .given .1)
+returns-3 c = children-nowhere Bits64 _ _ _ (count (c .before .before .before .before .before .before)) _ (range (c .before .before)) (c .before .before .before .before .before .if1 .left) (c .enum-told .given .1)
 
 pub children-right-spec : {M : Type 1} → statement M
 children-right-spec =

@@ -6,6 +6,8 @@ use borrow.Author.Needs.{needs}
 use lib.ListN.{length}
 use borrow.Fn.Kinds.{In}
 use borrow.Fn.PlainCycle.{Measures, is, falls, and}
+use Rattle.layout.specs.Edition.{nodeSize}
+use Rattle.layout.specs.declared.Edition.the-variants.{Bits64}
 use Rattle.nodes.proofs.Ways.{live-node}
 use Rattle.tree.specs.Chain.{ranged}
 use Rattle.tree.specs.File.{treeOf}
@@ -71,7 +73,7 @@ write-node-same-length t c = search needs
 write-node-returns : (t : ℕ) → write-node-lts.Need-returns (write-node-callees t) (write-node-at t) write-node.Post
 write-node-returns t c =
     let k = c .before .before .before in
-    put-same (block-leaf _ _ _ _ (k .before .before .before .before .pre .1 .1 .1) _ (c .if1 .taken)) (k .put-node .ensures)
+    put-same (block-leaf Bits64 _ _ _ _ (k .before .before .before .before .pre .1 .1 .1) _ (c .if1 .taken)) (k .put-node .ensures)
 
 write-node-add-write-range : (t : ℕ) → write-node-lts.Need-add-write-range (write-node-callees t) (write-node-at t) write-node.Post
 write-node-add-write-range t c = omega (arith, c .before .before .before .before .before .before .before .pre .1 .1 .3)
@@ -93,13 +95,13 @@ write-node-returns-2 t c =
     let k = c .before .before .before .before .before .before .before in
     let s = k .before .before .before .before in
     put-two (write-node-room t s) (k .put-node .ensures) (c .before .before .write-range .ensures)
-    (block-more _ _ _ _ (s .pre .1 .1 .1) _ (c .before .before .before .before .if1 .left))
+    (block-more Bits64 _ _ _ _ (s .pre .1 .1 .1) _ (c .before .before .before .before .if1 .left))
 
 abbrev write-range-Inv-loop : write-range-lts.InvT-loop
 write-range-Inv-loop b p attribute-starts node-starts value-starts name-starts a x level left out₀ at k e₀ j₀ out e j =
     (j ≤ k .count)
-    × Left out₀ at (ranged (shown b (block b left level)) (treeOf b .first a) (treeOf b .count a)) e
-    (rangedFrom (shown b (block b left level)) (k .first) (k .count) j) out
+    × Left out₀ at (ranged (shown Bits64 b (block Bits64 b left level)) (treeOf Bits64 b .first a) (treeOf Bits64 b .count a)) e
+    (rangedFrom (shown Bits64 b (block Bits64 b left level)) (k .first) (k .count) j) out
 
 abbrev write-range-μ-loop : write-range-lts.MeasureT-loop
 write-range-μ-loop b p attribute-starts node-starts value-starts name-starts a x level left out₀ at k e₀ j₀ out e j = k .count - j
@@ -109,7 +111,7 @@ write-range-room t s = omega (arith, s .good .1 .1 .1 .1 .1 .1 .1 .1 .1 .1 .0)
 
 -- the child lies in the file
 write-range-there : (t : ℕ) (c : write-range-lts.Then1 (write-range-callees t) (write-range-at t) write-range.Post write-range-Inv-loop write-range-μ-loop)
-    → let k = c .before .before .before in k .children-of .result .place + c .before .before .loop .j * 24 + 24
+    → let k = c .before .before .before in k .children-of .result .place + c .before .before .loop .j * nodeSize Bits64 + nodeSize Bits64
     ≤ length (k .before .before .before .args .b .now)
 write-range-there t c =
     let k = c .before .before .before in
@@ -166,8 +168,8 @@ write-range-loop-again t c =
       omega arith,
       let g = ranged-next _ _ _ (l .j) h in
           ⊎-elim
-          (λ w. left-same (left-more v (put-same (shown-live _ _ _ (λ z. w .0 .taken (n ∙ z))) (w .3 .ensures)) g) (w .7) (w .6))
-          (λ w. left-same (left-more v (put-same (shown-not _ _ _ (sym n ∙ w .0 .left)) (put-none _ _ (v .low))) g) (w .2) (w .1))
+          (λ w. left-same (left-more v (put-same (shown-live Bits64 _ _ _ (λ z. w .0 .taken (n ∙ z))) (w .3 .ensures)) g) (w .7) (w .6))
+          (λ w. left-same (left-more v (put-same (shown-not Bits64 _ _ _ (sym n ∙ w .0 .left)) (put-none _ _ (v .low))) g) (w .2) (w .1))
           (c .if2 .came),
     )
 

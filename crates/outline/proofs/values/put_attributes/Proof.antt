@@ -3,6 +3,8 @@ use native.Mathlib.Omega.{arith}
 use mathlib.Core.Path.{sym, ap, _∙_}
 use borrow.Author.Needs.{needs}
 use lib.ListN.{length}
+use Rattle.layout.specs.Edition.{attributeSize}
+use Rattle.layout.specs.declared.Edition.the-variants.{Bits64}
 use Rattle.nodes.specs.Node.{attributeCount, attributeAt}
 use Rattle.tree.specs.Chain.{ranged}
 use Rattle.tree.proofs.Ranged.{ranged-none}
@@ -15,7 +17,7 @@ use Rattle.outline.proofs.values.put_attributes.Tie as tie
 
 abbrev Inv-loop : tie.InvT-loop
 Inv-loop b p attribute-starts value-starts name-starts x out₀ at n seg el q e₀ i₀ out e i =
-    Attributes b x n q × ((i ≤ n) × Left out₀ at (ranged (λ k. attributeText b (attributeAt b x k)) 0 (attributeCount b x)) e (rangedFrom (λ k. attributeText b (attributeAt b x k)) 0 n i) out)
+    Attributes Bits64 b x n q × ((i ≤ n) × Left out₀ at (ranged (λ k. attributeText Bits64 b (attributeAt Bits64 b x k)) 0 (attributeCount b x)) e (rangedFrom (λ k. attributeText Bits64 b (attributeAt Bits64 b x k)) 0 n i) out)
 
 abbrev μ-loop : tie.MeasureT-loop
 μ-loop b p attribute-starts value-starts name-starts x out₀ at n seg el q e₀ i₀ out e i = n - i
@@ -25,7 +27,7 @@ room : (s : tie.Start Inv-loop μ-loop) → length (s .args .out .now) ≤ top
 room s = omega arith
 
 -- the attribute lies in the file
-there : (c : tie.In-loop Inv-loop μ-loop) → c .before .before .before .q .given .0 .0 + c .before .loop .i * 12 + 12 ≤ 1073741824
+there : (c : tie.In-loop Inv-loop μ-loop) → c .before .before .before .q .given .0 .0 + c .before .loop .i * attributeSize Bits64 + attributeSize Bits64 ≤ 1073741824
 there c =
     let p = c .before .before .before .before .before .before .before .before .before .before .before .before .pre in
     let l = c .before .loop in

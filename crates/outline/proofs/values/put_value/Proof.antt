@@ -5,6 +5,7 @@ use borrow.Author.Needs.{needs, sfits-of}
 use lib.ListN.{length}
 use mir.Facts.{toZ-ofZ}
 use mir.Syntax.{w32}
+use Rattle.layout.specs.declared.Edition.the-variants.{Bits64}
 use Rattle.print.proofs.Puts.{top, put-then, put-same}
 use Rattle.outline.proofs.Addressed.{value-held, value-text}
 use Rattle.outline.proofs.Written.{whole-is, truth-is, float-is, text-is}
@@ -20,21 +21,21 @@ put-text-requires c κs = let p = c .before .before .before .before .before .bef
 
 returns : tie.Need-returns
 returns c =
-    put-same (whole-is _ (c .before .before .before .before .before .before .before .before .before .before .before .before .value-at .ensures) (c .before .before .before .before .before .before .before .before .before .before .v .given .1) (toZ-ofZ {w = w32} (sfits-of (c .before .before .before .before .before .before .before .before .before .known-told .given .0 .1))))
+    put-same (whole-is Bits64 _ (c .before .before .before .before .before .before .before .before .before .before .before .before .value-at .ensures) (c .before .before .before .before .before .before .before .before .before .before .v .given .1) (toZ-ofZ {w = w32} (sfits-of (c .before .before .before .before .before .before .before .before .before .known-told .given .0 .1))))
     (put-then (room (c .before .before .before .before .before .before .before .before .before .before .before .before .before .before .before)) (c .before .before .before .before .before .before .put-bytes .ensures) (c .before .before .put-whole .ensures))
 
 returns-2 : tie.Need-returns-2
-returns-2 c = put-same (truth-is _ (c .before .before .before .before .before .before .before .value-at .ensures) (c .before .before .before .before .before .v2 .given .1)) (c .before .before .put-truth .ensures)
+returns-2 c = put-same (truth-is Bits64 _ (c .before .before .before .before .before .before .before .value-at .ensures) (c .before .before .before .before .before .v2 .given .1)) (c .before .before .put-truth .ensures)
 
 returns-3 : tie.Need-returns-3
-returns-3 c = put-same (float-is _ (c .before .before .before .before .before .before .before .before .before .before .before .before .before .value-at .ensures) (c .before .before .before .before .before .before .before .before .before .before .before .v3 .given .1)) (put-then (room (c .before .before .before .before .before .before .before .before .before .before .before .before .before .before .before .before)) (c .before .before .before .before .before .before .before .put-bytes2 .ensures) (c .before .before .put-hex .ensures))
+returns-3 c = put-same (float-is Bits64 _ (c .before .before .before .before .before .before .before .before .before .before .before .before .before .value-at .ensures) (c .before .before .before .before .before .before .before .before .before .before .before .v3 .given .1)) (put-then (room (c .before .before .before .before .before .before .before .before .before .before .before .before .before .before .before .before)) (c .before .before .before .before .before .before .before .put-bytes2 .ensures) (c .before .before .put-hex .ensures))
 
 returns-4 : tie.Need-returns-4
 returns-4 c =
     let p = c .before .before .before .before .before .before .before .before .before .before .before .before .before .before .before .pre in
     let e = c .before .before .before .before .before .before .before .before .before .before .before .before .value-at .ensures in
     let v = c .before .before .before .before .before .before .before .before .before .before .v4 .given .1 in
-    put-same (text-is _ e v (value-text (p .0) (p .1) (p .3) (sym e ∙ v))) (put-then (room (c .before .before .before .before .before .before .before .before .before .before .before .before .before .before .before)) (c .before .before .before .before .before .before .put-bytes3 .ensures) (c .before .before .put-text .ensures))
+    put-same (text-is Bits64 _ e v (value-text (p .0) (p .1) (p .3) (sym e ∙ v))) (put-then (room (c .before .before .before .before .before .before .before .before .before .before .before .before .before .before .before)) (c .before .before .before .before .before .before .put-bytes3 .ensures) (c .before .before .put-text .ensures))
 
 pub put-value-spec : {M : Type 1} → statement M
 put-value-spec =

@@ -19,6 +19,8 @@ use Rattle.path.proofs.below.+list_below.Lts-list_below as list-below-l
 use Rattle.le.proofs.put_u32.Reads as put-u32-reads
 use Rattle.nodes.proofs.fields.node_name.Reads as node-name-reads
 use Rattle.le.proofs.wide.Reads as wide-reads
+use Rattle.layout.specs.Edition.{nodeSize}
+use Rattle.layout.specs.declared.Edition.the-variants.{Bits64}
 use Rattle.tree.proofs.ranges.children_of.Reads as children-of-reads
 use Rattle.path.proofs.below.+list_below.{statement}
 use Rattle.path.proofs.below.+list_below.Tie.{close}
@@ -50,7 +52,7 @@ callees t = (
 
 abbrev list-below-Inv-loop : list-below-lts.InvT-loop
 list-below-Inv-loop b nodes segments wanted n at a p list₀ k name c m₀ j₀ list m j =
-    (j ≤ c .count) × Wrote list₀ k (passed b wanted n at (c .first) j) m list
+    (j ≤ c .count) × Wrote list₀ k (passed Bits64 b wanted n at (c .first) j) m list
 
 abbrev list-below-μ-loop : list-below-lts.MeasureT-loop
 list-below-μ-loop b nodes segments wanted n at a p list₀ k name c m₀ j₀ list m j = c .count - j
@@ -70,12 +72,12 @@ more t c = omega (arith, c .if1 .left, c .before .before .before .pre .1 .1 .1)
 
 -- the child lies in the file
 child : (t : ℕ) (c : list-below-lts.Then3 (callees t) (list-below-at t) list-below.Post list-below-Inv-loop list-below-μ-loop)
-    → c .before .before .before .children-of .result .place + c .before .before .loop .j * 24 + 24 ≤ length (c .before .before .before .before .before .before .before .before .before .args .b .now)
+    → c .before .before .before .children-of .result .place + c .before .before .loop .j * nodeSize Bits64 + nodeSize Bits64 ≤ length (c .before .before .before .before .before .before .before .before .before .args .b .now)
 child t c = child-fits (c .before .before .before .before .before .before .before .before .before .pre .1 .0 .0) (c .before .before .before .children-of .ensures) (c .before .before .loop .j) (omega arith)
 
 -- the name read is the child's
 named : (t : ℕ) (c : list-below-lts.After-node-name (callees t) (list-below-at t) list-below.Post list-below-Inv-loop list-below-μ-loop)
-    → c .node-name .result ≡ treeOf (c .before .before .before .before .before .before .before .before .before .before .before .args .b .now) .name (c .before .before .before .before .before .children-of .result .first + c .before .before .before .before .loop .j)
+    → c .node-name .result ≡ treeOf Bits64 (c .before .before .before .before .before .before .before .before .before .before .before .args .b .now) .name (c .before .before .before .before .before .children-of .result .first + c .before .before .before .before .loop .j)
 named t c = child-name (c .before .before .before .before .before .before .before .before .before .before .before .pre .1 .0 .0) (c .before .before .before .before .before .children-of .ensures) (c .before .before .before .before .loop .j) (omega arith) (c .node-name .ensures .0)
 
 list-below-mul-put-u32 : (t : ℕ) → list-below-lts.Need-mul-put-u32 (callees t) (list-below-at t) list-below.Post list-below-Inv-loop list-below-μ-loop
@@ -93,7 +95,7 @@ list-below-same-length t c = leaf t c .size
 list-below-returns : (t : ℕ) → list-below-lts.Need-returns (callees t) (list-below-at t) list-below.Post list-below-Inv-loop list-below-μ-loop
 list-below-returns t c =
     let s = c .before .before .before .before in
-    wrote-same (leaf t c) (at-end _ _ _ _ (long t s) _ (c .before .if1 .taken)) refl refl
+    wrote-same (leaf t c) (at-end Bits64 _ _ _ _ (long t s) _ (c .before .if1 .taken)) refl refl
 
 list-below-mul-wide : (t : ℕ) → list-below-lts.Need-mul-wide (callees t) (list-below-at t) list-below.Post list-below-Inv-loop list-below-μ-loop
 list-below-mul-wide t c = search needs
@@ -138,7 +140,7 @@ list-below-list-below-requires t c κs =
     let e = sym (named t (c .before .before .before)) ∙ c .before .before .if4 .taken ∙ c .before .before .before .before .before .before .before .before .before .wide .ensures .0 in
     let q = s .pre .1 .0 .2 in
     let m = more t (c .before .before .before .before .before .before .before .before .before .before .before) in
-    let h = hit-le (a .b .now) (a .wanted .now) (a .n) (a .at) (long t s) m (a .a) (first-is _ q k) (count-is _ q k) (l .j) (omega arith) e in
+    let h = hit-le Bits64 (a .b .now) (a .wanted .now) (a .n) (a .at) (long t s) m (a .a) (first-is _ q k) (count-is _ q k) (l .j) (omega arith) e in
     (omega (arith, s .pre .0), ((s .pre .1 .0 .0, w .0, w .1), (s .pre .1 .1 .0, omega arith, s .pre .1 .1 .2, omega (arith, l .inv .1 .next-is, s .pre .1 .1 .3))))
 
 list-below-add-j : (t : ℕ) → list-below-lts.Need-add-j (callees t) (list-below-at t) list-below.Post list-below-Inv-loop list-below-μ-loop
@@ -155,8 +157,8 @@ list-below-loop-again t c =
     let g = c .before .before .before .before .before .before .before .wide .ensures .0 in (
       omega arith,
       ⊎-elim
-          (λ w. wrote-same (wrote-then (l .inv .1) (w .3 .ensures)) (range-hit (a .b .now) (a .wanted .now) (a .n) (a .at) _ (l .j) (sym n ∙ w .0 .taken ∙ g)) (w .7) (w .6))
-          (λ w. wrote-same (l .inv .1) (range-skip (a .b .now) (a .wanted .now) (a .n) (a .at) _ (l .j) (λ z. w .0 .left (n ∙ z ∙ sym g))) (w .2) (w .1))
+          (λ w. wrote-same (wrote-then (l .inv .1) (w .3 .ensures)) (range-hit Bits64 (a .b .now) (a .wanted .now) (a .n) (a .at) _ (l .j) (sym n ∙ w .0 .taken ∙ g)) (w .7) (w .6))
+          (λ w. wrote-same (l .inv .1) (range-skip Bits64 (a .b .now) (a .wanted .now) (a .n) (a .at) _ (l .j) (λ z. w .0 .left (n ∙ z ∙ sym g))) (w .2) (w .1))
           (c .if4 .came),
     )
 
@@ -169,7 +171,7 @@ list-below-returns-2 t c =
     let l = c .before .before .loop in
     let k = c .before .before .before .children-of .ensures in
     let q = s .pre .1 .0 .2 in
-    wrote-same (l .inv .1) (whole _ _ _ _ (long t s) (more t (c .before .before .before .before .before .before)) _ (first-is _ q k) (count-is _ q k) (l .j) (omega arith)) refl refl
+    wrote-same (l .inv .1) (whole Bits64 _ _ _ _ (long t s) (more t (c .before .before .before .before .before .before)) _ (first-is _ q k) (count-is _ q k) (l .j) (omega arith)) refl refl
 
 pub +list-below-spec : {M : Type 1} → statement M
 +list-below-spec = close μ-list-below λ t. list-below-lts.spec (callees t)

@@ -7,6 +7,7 @@ use lib.ListN.{length}
 use Rattle.verdict.proofs.Laws.{Clean}
 use Rattle.text.specs.Text.{chars}
 use Rattle.layout.specs.Table.{Table}
+use Rattle.layout.specs.declared.Edition.the-variants.{Bits64}
 use Rattle.strings.specs.Order.{stringChecks}
 use Rattle.keys.specs.Names.{Bears}
 use Rattle.path.proofs.Bearers.{found-bears, collided-bears, absent-bears, index-low}
@@ -16,7 +17,7 @@ use Rattle.path.proofs.names.find_names.Tie as tie
 
 abbrev Inv-loop : tie.InvT-loop
 Inv-loop b t s segments buckets path indices₀ known₀ n₀ at₀ indices known n at =
-    (known ≡ true) × Sofar b path n at indices
+    (known ≡ true) × Sofar Bits64 b path n at indices
 
 abbrev μ-loop : tie.MeasureT-loop
 μ-loop b t s segments buckets path indices₀ known₀ n₀ at₀ indices known n at = length path - at
@@ -25,11 +26,11 @@ abbrev μ-loop : tie.MeasureT-loop
 bears : (c : tie.After-known-told Inv-loop μ-loop)
     → let a = c .before .before .before .before .before .before .before .before .before .before .before .args in
     let at = c .before .before .before .before .before .before .before .loop .at in
-    Bears (a .b .now) (c .before .i .given .0 .0) (chars (a .path .now) at ((c .before .before .before .before .name-end .result - at) / 2))
-bears c = let s = c .before .before .before .before .before .before .before .before .before .before .before in found-bears _ _ (s .pre .3) (s .pre .2) (c .before .before .before .find-text .ensures) (c .before .i .given .1)
+    Bears Bits64 (a .b .now) (c .before .i .given .0 .0) (chars (a .path .now) at ((c .before .before .before .before .name-end .result - at) / 2))
+bears c = let s = c .before .before .before .before .before .before .before .before .before .before .before in found-bears Bits64 _ _ (s .pre .3) (s .pre .2) (c .before .before .before .find-text .ensures) (c .before .i .given .1)
 
 loop-holds : tie.Need-loop-holds Inv-loop μ-loop
-loop-holds c = (refl, sofar-start _ _)
+loop-holds c = (refl, sofar-start Bits64 _ _)
 
 name-end-requires : tie.Need-name-end-requires Inv-loop μ-loop
 name-end-requires c κs = let l = c .before .before .loop in (c .before .before .before .before .before .before .pre .4, l .inv .1 .even, omega arith)
@@ -44,7 +45,7 @@ find-text-requires c κs =
     (s .pre .0, s .pre .1, subst (λ (t : Table). Clean (stringChecks t)) (sym (s .pre .2)) (s .pre .3), omega (arith, e .from, e .within))
 
 cast-indices : tie.Need-cast-indices Inv-loop μ-loop
-cast-indices c = let s = c .before .before .before .before .before .before .before .before .before .before .before in record { fits = index-low _ _ _ _ (s .pre .2) (s .pre .1 .laid) (bears c) }
+cast-indices c = let s = c .before .before .before .before .before .before .before .before .before .before .before in record { fits = index-low Bits64 _ _ _ _ (s .pre .2) (s .pre .1 .laid) (bears c) }
 
 array-write-indices : tie.Need-array-write-indices Inv-loop μ-loop
 array-write-indices c = omega (arith, c .before .before .before .before .before .before .before .loop .inv .1 .few)
@@ -73,13 +74,13 @@ returns-3 : tie.Need-returns-3 Inv-loop μ-loop
 returns-3 c =
     let s = c .before .before .before .before .before .before .before .before .before .before in
     sofar-absent (s .pre .4) (c .before .before .before .before .before .before .loop .inv .1) (c .before .before .before .name-end .ensures)
-    (collided-bears _ _ (s .pre .3) (s .pre .2) (c .before .before .find-text .ensures) (c .enum-told .given .1))
+    (collided-bears Bits64 _ _ (s .pre .3) (s .pre .2) (c .before .before .find-text .ensures) (c .enum-told .given .1))
 
 returns-4 : tie.Need-returns-4 Inv-loop μ-loop
 returns-4 c =
     let s = c .before .before .before .before .before .before .before .before .before .before in
     sofar-absent (s .pre .4) (c .before .before .before .before .before .before .loop .inv .1) (c .before .before .before .name-end .ensures)
-    (absent-bears _ _ (s .pre .3) (s .pre .2) (c .before .before .find-text .ensures) (c .enum-told2 .given .1))
+    (absent-bears Bits64 _ _ (s .pre .3) (s .pre .2) (c .before .before .find-text .ensures) (c .enum-told2 .given .1))
 
 pub find-names-spec : {M : Type 1} → statement M
 find-names-spec =

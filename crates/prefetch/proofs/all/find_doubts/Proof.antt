@@ -8,7 +8,9 @@ use Prim.Native.Nat.{ℕ, _+_, _-_, _*_, _≤_, _<_}
 use mathlib.Core.Path.{_≡_, refl, _∙_}
 use lib.ListN.{length}
 use Rattle.region.specs.Region.{startOf}
-use Rattle.layout.specs.Layout.{attributeSize, attributesAt}
+use Rattle.layout.specs.Edition.{attributeSize}
+use Rattle.layout.specs.Layout.{attributesAt}
+use Rattle.layout.specs.declared.Edition.the-variants.{Bits64}
 use Rattle.memo.specs.inner.Memo.{Remembers}
 use Rattle.nodes.specs.inner.Doubts.{Trusted, NoDoubt}
 use Rattle.nodes.specs.inner.Noted.{noted}
@@ -20,30 +22,30 @@ use Rattle.prefetch.proofs.all.find_doubts.Tie as tie
 
 abbrev Inv-loop2 : tie.InvT-loop2
 Inv-loop2 b t attributes s segments buckets packed doubts₀ memo₀ slots₀ known₀ at seg used el₀ doubts memo slots known el =
-    (el ≤ used) × (length slots ≡ 64) × (length doubts ≡ 4096) × Sure (NoDoubt doubts) known × RowsTrusted b doubts seg × ((i : ℕ) → i < el → Trusted b doubts (at + 8 + i * 12)) × Remembers (noted b) memo
+    (el ≤ used) × (length slots ≡ 64) × (length doubts ≡ 4096) × Sure (NoDoubt doubts) known × RowsTrusted Bits64 b doubts seg × ((i : ℕ) → i < el → Trusted Bits64 b doubts (at + 8 + i * attributeSize Bits64)) × Remembers (noted b) memo
 
 abbrev μ-loop2 : tie.MeasureT-loop2
 μ-loop2 b t attributes s segments buckets packed doubts₀ memo₀ slots₀ known₀ at seg used el₀ doubts memo slots known el = used - el
 
 abbrev Inv-loop : tie.InvT-loop
 Inv-loop b t attributes s segments buckets packed doubts₀ memo₀ slots₀ known₀ at₀ seg₀ doubts memo slots known at seg =
-    (seg ≤ attributes .count) × (at ≡ startOf attributeSize b (attributesAt b) seg) × (length slots ≡ 64) × (length doubts ≡ 4096) × Sure (NoDoubt doubts) known × RowsTrusted b doubts seg × Remembers (noted b) memo
+    (seg ≤ attributes .count) × (at ≡ startOf (attributeSize Bits64) b (attributesAt b) seg) × (length slots ≡ 64) × (length doubts ≡ 4096) × Sure (NoDoubt doubts) known × RowsTrusted Bits64 b doubts seg × Remembers (noted b) memo
 
 abbrev μ-loop : tie.MeasureT-loop
 μ-loop b t attributes s segments buckets packed doubts₀ memo₀ slots₀ known₀ at₀ seg₀ doubts memo slots known at seg = attributes .count - seg
 
 -- the segment that a turn is at lies in the file, and so does its used part
-turn : (c : tie.Then1 Inv-loop2 μ-loop2 Inv-loop μ-loop) → let at = c .before .before .loop .at in at + 8 + u32At (c .before .before .before .before .before .before .args .b .now) at * 12 ≤ length (c .before .before .before .before .before .before .args .b .now)
-turn c = segment-in _ (c .before .before .before .before .before .before .pre .0 .5) _ _ (c .if1 .taken) (c .before .before .loop .inv .1)
+turn : (c : tie.Then1 Inv-loop2 μ-loop2 Inv-loop μ-loop) → let at = c .before .before .loop .at in at + 8 + u32At (c .before .before .before .before .before .before .args .b .now) at * attributeSize Bits64 ≤ length (c .before .before .before .before .before .before .args .b .now)
+turn c = segment-in Bits64 _ (c .before .before .before .before .before .before .pre .0 .5) _ _ (c .if1 .taken) (c .before .before .loop .inv .1)
 
-row : (c : tie.After-used-count Inv-loop2 μ-loop2 Inv-loop μ-loop) → c .before .before .before .loop .at + 8 + c .used-count .result * 12 ≤ length (c .before .before .before .before .before .before .before .args .b .now)
-row c = row-in _ (c .before .before .before .before .before .before .before .pre .0 .5) _ _ (c .before .if1 .taken) (c .before .before .before .loop .inv .1) _ (c .used-count .ensures .0)
+row : (c : tie.After-used-count Inv-loop2 μ-loop2 Inv-loop μ-loop) → c .before .before .before .loop .at + 8 + c .used-count .result * attributeSize Bits64 ≤ length (c .before .before .before .before .before .before .before .args .b .now)
+row c = row-in Bits64 _ (c .before .before .before .before .before .before .before .pre .0 .5) _ _ (c .before .if1 .taken) (c .before .before .before .loop .inv .1) _ (c .used-count .ensures .0)
 
 first-start-requires : tie.Need-first-start-requires Inv-loop2 μ-loop2 Inv-loop μ-loop
 first-start-requires c κs = let w = c .before .before .pre .0 .5 in omega (arith, w .laid .head, w .at-is, w .short)
 
 loop-holds : tie.Need-loop-holds Inv-loop2 μ-loop2 Inv-loop μ-loop
-loop-holds c = let p = c .before .before .before .pre in (omega arith, rows-start _ (p .0 .5) _ (c .first-start .ensures), refl, p .1 .0, λ z. p .1 .1, rows-none _ _, p .0 .6)
+loop-holds c = let p = c .before .before .before .pre in (omega arith, rows-start Bits64 _ (p .0 .5) _ (c .first-start .ensures), refl, p .1 .0, λ z. p .1 .1, rows-none Bits64 _ _, p .0 .6)
 
 used-count-requires : tie.Need-used-count-requires Inv-loop2 μ-loop2 Inv-loop μ-loop
 used-count-requires c κs = omega (arith, turn c)
@@ -73,19 +75,18 @@ loop2-again c =
     let i = c .before .before .before .before .before .before .before .loop2 .inv in
     let e = c .examine-batch .ensures in
     let d = e .1 .0 in
-    (t .upto, t .slotted .long, d .kept .long ∙ i .2, e .0, rows-still _ _ _ _ (d .kept) (i .4), passed-trusted _ _ _ _ _ _ _ (t .slotted) (d .each) (λ n l. still (d .kept) (i .5 n l)), e .1 .1)
+    (t .upto, t .slotted .long, d .kept .long ∙ i .2, e .0, rows-still Bits64 _ _ _ _ (d .kept) (i .4), passed-trusted Bits64 _ _ _ _ _ _ _ (t .slotted) (d .each) (λ n l. still (d .kept) (i .5 n l)), e .1 .1)
 
 next-start-requires : tie.Need-next-start-requires Inv-loop2 μ-loop2 Inv-loop μ-loop
 next-start-requires c κs = turn (c .before .before .before)
 
 loop-again : tie.Need-loop-again Inv-loop2 μ-loop2 Inv-loop μ-loop
-unfolding attributeSize
 loop-again c = let i = c .before .before .before .before .before .before .loop .inv in
     let j = c .before .before .loop2 .inv in
-    (omega arith, start-more attributeSize _ _ _ _ _ _ refl (i .1) (c .next-start .ensures), j .1, j .2, j .3, rows-more _ _ _ _ _ _ (j .4) (i .1) (used-at _ _ _ _ _ _ (i .1) (c .before .before .before .used-count .ensures .0)) (c .before .loop2-test .left) (j .5), j .6)
+    (omega arith, start-more (attributeSize Bits64) _ _ _ _ _ _ refl (i .1) (c .next-start .ensures), j .1, j .2, j .3, rows-more Bits64 _ _ _ _ _ _ (j .4) (i .1) (used-at _ _ _ _ _ _ (i .1) (c .before .before .before .used-count .ensures .0)) (c .before .loop2-test .left) (j .5), j .6)
 
 returns : tie.Need-returns Inv-loop2 μ-loop2 Inv-loop μ-loop
-returns c = let i = c .before .before .loop .inv in (i .4, (rows-all _ _ _ (i .5) (omega (arith, c .if1 .left, c .before .before .before .before .before .before .pre .0 .5 .count-is)), i .6))
+returns c = let i = c .before .before .loop .inv in (i .4, (rows-all Bits64 _ _ _ (i .5) (omega (arith, c .if1 .left, c .before .before .before .before .before .before .pre .0 .5 .count-is)), i .6))
 
 pub find-doubts-spec : {M : Type 1} → statement M
 find-doubts-spec =

@@ -1,6 +1,7 @@
 use mathlib.Core.Path.{refl, ap}
 use Rattle.layout.specs.Header.{headerOf}
 use Rattle.layout.specs.declared.Header.{Header}
+use Rattle.layout.specs.declared.Edition.the-variants.{Bits64}
 use Rattle.taplinen.specs.Answers.{reported}
 use Rattle.taplinen.specs.Questions.{workspaceLeft}
 use Rattle.le.proofs.Numbers.{word-lt}
@@ -24,14 +25,14 @@ cast-t15 c =
 
 returns : tie.Need-returns
 unfolding workspaceLeft reported
-returns c = let k = c .before .before .before .before .before .accept .ensures in (header-refused _ _ (k .0 .answer) (c .before .v .given .1) refl, k .1)
+returns c = let k = c .before .before .before .before .before .accept .ensures in (header-refused Bits64 _ _ (k .0 .answer) (c .before .v .given .1) refl, k .1)
 
 returns-2 : tie.Need-returns-2
 unfolding workspaceLeft reported
 returns-2 c =
     let k = c .before .before .before .before .before .before .before .before .before .accept .ensures in
     let e = c .before .before .before .before .before .enum-told .given .1 in
-    (header-told _ _ (k .0 .answer) e (k .0 .view e .header) refl, k .1)
+    (header-told Bits64 _ _ (k .0 .answer) e (k .0 .view e .header) refl, k .1)
 
 pub taplinen-header-spec : {M : Type 1} → statement M
 taplinen-header-spec =

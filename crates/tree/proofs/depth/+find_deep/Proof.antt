@@ -12,6 +12,8 @@ use Rattle.tree.proofs.Deepest.{deepFrom, deep-here, deep-open, deep-en
 use Rattle.tree.proofs.Children.{node-fits, node-reached, child-name, child-fits, first-is, count-is}
 use borrow.Fn.Kinds.{In}
 use borrow.Fn.PlainCycle.{Measures, is, falls, and}
+use Rattle.layout.specs.Edition.{nodeSize}
+use Rattle.layout.specs.declared.Edition.the-variants.{Bits64}
 use Rattle.tree.proofs.depth.find_deep.Reads as find-deep
 use Rattle.tree.proofs.depth.find_deep.Kinds as find-deep-kinds
 use Rattle.tree.proofs.depth.+find_deep.Lts-find_deep as find-deep-lts
@@ -35,23 +37,23 @@ callees t = (children-of-reads.Asked, children-of-reads.Learnt, node-name-reads.
 
 abbrev find-deep-Inv-loop : find-deep-lts.InvT-loop
 find-deep-Inv-loop b nodes segments a p left k j₀ j =
-    (j ≤ k .count) × (firstPlace b (ends (treeOf b) left a) ≡ deepFrom b (left - 1) (k .first + j) (k .count - j))
+    (j ≤ k .count) × (firstPlace Bits64 b (ends (treeOf Bits64 b) left a) ≡ deepFrom Bits64 b (left - 1) (k .first + j) (k .count - j))
 
 abbrev find-deep-μ-loop : find-deep-lts.MeasureT-loop
 find-deep-μ-loop b nodes segments a p left k j₀ j = k .count - j
 
 -- the child lies in the file
 child : (t : ℕ) (c : find-deep-lts.Then2 (callees t) (find-deep-at t) find-deep.Post find-deep-Inv-loop find-deep-μ-loop)
-    → c .before .before .before .children-of .result .place + c .before .before .loop .j * 24 + 24 ≤ length (c .before .before .before .before .before .before .args .b .now)
+    → c .before .before .before .children-of .result .place + c .before .before .loop .j * nodeSize Bits64 + nodeSize Bits64 ≤ length (c .before .before .before .before .before .before .args .b .now)
 child t c = child-fits (c .before .before .before .before .before .before .pre .1 .0) (c .before .before .before .children-of .ensures) (c .before .before .loop .j) (omega arith)
 
 -- the name read is the child's
 named : (t : ℕ) (c : find-deep-lts.After-node-name (callees t) (find-deep-at t) find-deep.Post find-deep-Inv-loop find-deep-μ-loop)
-    → c .node-name .result ≡ treeOf (c .before .before .before .before .before .before .before .before .args .b .now) .name (c .before .before .before .before .before .children-of .result .first + c .before .before .before .before .loop .j)
+    → c .node-name .result ≡ treeOf Bits64 (c .before .before .before .before .before .before .before .before .args .b .now) .name (c .before .before .before .before .before .children-of .result .first + c .before .before .before .before .loop .j)
 named t c = child-name (c .before .before .before .before .before .before .before .before .pre .1 .0) (c .before .before .before .before .before .children-of .ensures) (c .before .before .before .before .loop .j) (omega arith) (c .node-name .ensures .0)
 
 find-deep-returns : (t : ℕ) → find-deep-lts.Need-returns (callees t) (find-deep-at t) find-deep.Post find-deep-Inv-loop find-deep-μ-loop
-find-deep-returns t c = let s = c .before .before in ap At (s .pre .1 .2) ∙ sym (deep-here _ _ _ (c .if1 .taken))
+find-deep-returns t c = let s = c .before .before in ap At (s .pre .1 .2) ∙ sym (deep-here Bits64 _ _ _ (c .if1 .taken))
 
 find-deep-children-of-requires : (t : ℕ) → find-deep-lts.Need-children-of-requires (callees t) (find-deep-at t) find-deep.Post find-deep-Inv-loop find-deep-μ-loop
 find-deep-children-of-requires t c κs =
@@ -62,7 +64,7 @@ find-deep-loop-holds : (t : ℕ) → find-deep-lts.Need-loop-holds (callees t) (
 find-deep-loop-holds t c =
     let p = c .before .before .before .pre .1 in
     let k = c .children-of .ensures in
-    (omega arith, deep-open _ _ _ _ _ (c .before .if1 .left) (first-is _ (p .2) k) (count-is _ (p .2) k))
+    (omega arith, deep-open Bits64 _ _ _ _ _ (c .before .if1 .left) (first-is _ (p .2) k) (count-is _ (p .2) k))
 
 find-deep-mul-c : (t : ℕ) → find-deep-lts.Need-mul-c (callees t) (find-deep-at t) find-deep.Post find-deep-Inv-loop find-deep-μ-loop
 find-deep-mul-c t c = search needs
@@ -93,7 +95,7 @@ find-deep-returns-2 t c =
     let l = c .before .before .before .before .before .before .before .before .before .before .loop in
     sym
     (l .inv .1
-    ∙ deep-hit _ _ _ _ (l .j) (omega arith) _ (λ z. c .before .before .before .before .before .if3 .taken (named t (c .before .before .before .before .before .before) ∙ z)) (sym (c .before .before .before .find-deep .ensures) ∙ c .before .x .given .1))
+    ∙ deep-hit Bits64 _ _ _ _ (l .j) (omega arith) _ (λ z. c .before .before .before .before .before .if3 .taken (named t (c .before .before .before .before .before .before) ∙ z)) (sym (c .before .before .before .find-deep .ensures) ∙ c .before .x .given .1))
 
 find-deep-enum-told : (t : ℕ) → find-deep-lts.Need-enum-told (callees t) (find-deep-at t) find-deep.Post find-deep-Inv-loop find-deep-μ-loop
 find-deep-enum-told t c = search needs
@@ -111,13 +113,13 @@ find-deep-loop-again t c =
       omega arith,
       l .inv .1
           ∙ ⊎-elim
-          (λ w. deep-miss _ _ _ _ (l .j) (omega arith) (λ z. w .0 .taken (n ∙ z)) (sym (w .2 .ensures) ∙ w .4 .given .1))
-          (λ w. deep-skip _ _ _ _ (l .j) (omega arith) (sym n ∙ w .left))
+          (λ w. deep-miss Bits64 _ _ _ _ (l .j) (omega arith) (λ z. w .0 .taken (n ∙ z)) (sym (w .2 .ensures) ∙ w .4 .given .1))
+          (λ w. deep-skip Bits64 _ _ _ _ (l .j) (omega arith) (sym n ∙ w .left))
           (c .if3 .came),
     )
 
 find-deep-returns-3 : (t : ℕ) → find-deep-lts.Need-returns-3 (callees t) (find-deep-at t) find-deep.Post find-deep-Inv-loop find-deep-μ-loop
-find-deep-returns-3 t c = sym (c .before .before .loop .inv .1 ∙ deep-end _ _ _ _ (omega arith))
+find-deep-returns-3 t c = sym (c .before .before .loop .inv .1 ∙ deep-end Bits64 _ _ _ _ (omega arith))
 
 pub +find-deep-spec : {M : Type 1} → statement M
 +find-deep-spec = close μ-find-deep λ t. find-deep-lts.spec (callees t)
