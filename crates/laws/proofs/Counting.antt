@@ -1,9 +1,9 @@
 -- Laws of counting. Assumes nothing.
-use Prim.Native.Nat.{ℕ, zero, suc, _-_, _≤_, _<_}
+use Prim.Native.Nat.{ℕ, zero, suc, _+_, _-_, _≤_, _<_}
 use native.Mathlib.Nat.{not-suc-le-zero}
 use native.Mathlib.Omega.{arith}
 use mathlib.Core.Path.{_≡_, refl, ap, sym}
-use mathlib.Core.Logic.{⊎-elim}
+use mathlib.Core.Logic.{_⊎_, ⊎-elim}
 use Rattle.laws.specs.Counting.{oneIf, howMany, sumBelow}
 use Rattle.laws.proofs.Order.{le-or-lt}
 
@@ -27,6 +27,16 @@ if-most : {P : Type 0} (d : Dec P) → oneIf d ≤ 1
 unfolding oneIf
 if-most (yes q) = omega arith
 if-most (no g) = omega arith
+
+if-split : {P Q R : Type 0} (d : Dec P) (e : Dec Q) (f : Dec R) → (P → Q ⊎ R) → (Q → P) → (R → P) → (Q → R → ⊥) → oneIf d ≡ oneIf e + oneIf f
+unfolding oneIf
+if-split (yes p) (yes q) (yes r) a b c x = absurd (x q r)
+if-split (yes p) (yes q) (no r) a b c x = refl
+if-split (yes p) (no q) (yes r) a b c x = refl
+if-split (yes p) (no q) (no r) a b c x = absurd (⊎-elim q r (a p))
+if-split (no p) (yes q) f a b c x = absurd (p (b q))
+if-split (no p) (no q) (yes r) a b c x = absurd (p (c r))
+if-split (no p) (no q) (no r) a b c x = refl
 
 -- ---- how many
 
@@ -60,6 +70,21 @@ module _ {P : ℕ → Type 0} (d : (i : ℕ) → Dec (P i)) where
       (le-or-lt a n))
       (le-or-lt z n)
 
+  -- one more number
+  pub count-met : (n m : ℕ) → m ≡ n + 1 → P n → howMany m d ≡ howMany n d + 1
+  unfolding howMany
+  count-met n m e p = let q : m ≡ suc n = omega arith in rw q (omega (arith, if-met (d n) p))
+
+  pub count-missed : (n m : ℕ) → m ≡ n + 1 → (P n → ⊥) → howMany m d ≡ howMany n d
+  unfolding howMany
+  count-missed n m e f = let q : m ≡ suc n = omega arith in rw q (omega (arith, if-missed (d n) f))
+
+  -- all
+  pub count-all : (n : ℕ) → ((i : ℕ) → i < n → P i) → howMany n d ≡ n
+  unfolding howMany
+  count-all zero f = refl
+  count-all (suc n) f = omega (arith, count-all n (λ i l. f i (omega arith)), if-met (d n) (f n (omega arith)))
+
   -- where some are counted, there is one
   pub count-some : (n : ℕ) → 1 ≤ howMany n d → (i : ℕ) × (i < n) × P i
   unfolding howMany
@@ -79,6 +104,16 @@ module _ {P : ℕ → Type 0} (d : (i : ℕ) → Dec (P i)) where
       (λ (h : n ≤ i). let e : i ≡ n = omega arith in omega (arith, if-met (d n) (rw (sym e) p)))
       (λ h. omega (arith, some-counted n i h p))
       (le-or-lt n i)
+
+-- a rule that one of two others says, never both
+pub count-split : {P Q R : ℕ → Type 0} (d : (i : ℕ) → Dec (P i)) (e : (i : ℕ) → Dec (Q i)) (f : (i : ℕ) → Dec (R i)) (n : ℕ)
+    → ((i : ℕ) → i < n → P i → Q i ⊎ R i) → ((i : ℕ) → i < n → Q i → P i) → ((i : ℕ) → i < n → R i → P i)
+    → ((i : ℕ) → i < n → Q i → R i → ⊥) → howMany n d ≡ howMany n e + howMany n f
+unfolding howMany
+count-split d e f zero a b c x = refl
+count-split d e f (suc n) a b c x =
+    let r = count-split d e f n (λ i l. a i (omega arith)) (λ i l. b i (omega arith)) (λ i l. c i (omega arith)) (λ i l. x i (omega arith)) in
+    omega (arith, r, if-split (d n) (e n) (f n) (a n (omega arith)) (b n (omega arith)) (c n (omega arith)) (x n (omega arith)))
 
 -- ---- sums
 
@@ -116,3 +151,36 @@ module _ (f : ℕ → ℕ) where
       (λ (h : n ≤ i). let e : i ≡ n = omega arith in omega (arith, ap f e))
       (λ h. omega (arith, some-summed n i h))
       (le-or-lt n i)
+
+  -- one more number
+  pub sum-more : (n m : ℕ) → m ≡ n + 1 → sumBelow m f ≡ sumBelow n f + f n
+  unfolding sumBelow
+  sum-more n m e = let q : m ≡ suc n = omega arith in rw q refl
+
+  -- a sum of fewer numbers
+  pub sum-fewer : (n m : ℕ) → n ≤ m → sumBelow n f ≤ sumBelow m f
+  unfolding sumBelow
+  sum-fewer n zero l = let e : n ≡ 0 = omega arith in rw e (omega arith)
+  sum-fewer n (suc m) l =
+      ⊎-elim
+      (λ (h : n ≤ m). omega (arith, sum-fewer n m h))
+      (λ (h : m < n). let e : n ≡ suc m = omega arith in rw e (omega arith))
+      (le-or-lt n m)
+
+module _ (f g : ℕ → ℕ) where
+  -- smaller numbers
+  pub sum-at-most : (n : ℕ) → ((i : ℕ) → i < n → f i ≤ g i) → sumBelow n f ≤ sumBelow n g
+  unfolding sumBelow
+  sum-at-most zero h = omega arith
+  sum-at-most (suc n) h = omega (arith, sum-at-most n (λ i l. h i (omega arith)), h n (omega arith))
+
+  pub sum-same : (n : ℕ) → ((i : ℕ) → i < n → f i ≡ g i) → sumBelow n f ≡ sumBelow n g
+  unfolding sumBelow
+  sum-same zero h = refl
+  sum-same (suc n) h = omega (arith, sum-same n (λ i l. h i (omega arith)), h n (omega arith))
+
+  -- numbers added
+  pub sum-added : (n : ℕ) (h : ℕ → ℕ) → ((i : ℕ) → i < n → h i ≡ f i + g i) → sumBelow n h ≡ sumBelow n f + sumBelow n g
+  unfolding sumBelow
+  sum-added zero h e = refl
+  sum-added (suc n) h e = omega (arith, sum-added n h (λ i l. e i (omega arith)), e n (omega arith))

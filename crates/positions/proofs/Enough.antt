@@ -4,6 +4,7 @@ use native.Mathlib.Omega.{arith}
 use mathlib.Core.Path.{_≡_, refl, sym, _∙_}
 use mathlib.Core.List.{List}
 use lib.ListN.{length, getD}
+use Rattle.laws.specs.Counting.{sumBelow}
 use Rattle.verdict.proofs.Laws.{Clean}
 use Rattle.layout.specs.Table.{Table, bucketAt, entries, indexOf, listAt, count}
 use Rattle.strings.specs.Rules.{Carried}
@@ -12,13 +13,13 @@ use Rattle.strings.specs.declared.Strings.{Strings}
 use Rattle.strings.specs.Order.{allEntryChecks, allPositionChecks}
 use Rattle.strings.proofs.Accepted.{all-good, positions-clean}
 use Rattle.strings.proofs.Only.{text-of-index, one-entry}
-use Rattle.positions.specs.inner.Total.{entriesBefore, allEntries}
+use Rattle.positions.specs.inner.Total.{allEntries}
 use Rattle.positions.proofs.Numbered.{all-taken}
 
 module _ (t : Table) where
   module _ (ok : Clean (allEntryChecks t)) where
     -- each entry carries another index
-    same-index : (k j m i : ℕ) → k < t .buckets → j < entries t k → m < t .buckets → i < entries t m → indexOf t k j ≡ indexOf t m i
+    pub same-index : (k j m i : ℕ) → k < t .buckets → j < entries t k → m < t .buckets → i < entries t m → indexOf t k j ≡ indexOf t m i
         → (k ≡ m) × (j ≡ i)
     same-index k j m i h l g n e = one-entry t ok k j m i h l g n (text-of-index t ok k j _ h l e ∙ sym (text-of-index t ok m i _ g n refl))
 
@@ -39,8 +40,8 @@ module _ (t : Table) where
 
   -- ---- how many there are, by their places
 
-  places : (n : ℕ) → bucketAt t n ≡ bucketAt t 0 + 4 * n + 16 * entriesBefore t n
-  unfolding bucketAt entriesBefore entries
+  places : (n : ℕ) → bucketAt t n ≡ bucketAt t 0 + 4 * n + 16 * sumBelow n (entries t)
+  unfolding bucketAt sumBelow entries
   places zero = omega arith
   places (suc n) = omega (arith, places n)
 

@@ -2,18 +2,15 @@
 use Prim.Native.Nat.{ℕ, _+_, _-_, _≤_, _<_}
 use native.Mathlib.Omega.{arith}
 use mathlib.Core.Path.{_≡_, refl, ap, sym, subst, _∙_}
-use mathlib.Core.Bool.{Bool, false}
 use mathlib.Core.List.{List}
 use Rattle.verdict.specs.Checks.{firstFault, each}
-use Rattle.verdict.specs.inner.Tells.{Tells}
 use Rattle.verdict.specs.declared.Verdict.{Verdict}
 use Rattle.verdict.specs.declared.Verdict.the-variants.{Accepted, Refused}
 use Rattle.verdict.proofs.Laws.{Clean, pass, stop, fault-none, fault-append, fault-keep}
 use Rattle.verdict.proofs.Scans.{each-more, each-stop, each-end}
-use Rattle.hash.specs.Hash.{hashText, bucketOf}
-use Rattle.layout.specs.Table.{Table, entries, entryIndex, hashOf, indexOf, segmentOf, elementOf, count, positionAt, listedSegment, listedElement}
+use Rattle.layout.specs.Table.{Table, entries, segmentOf, elementOf, count, positionAt, listedSegment, listedElement}
 use Rattle.region.specs.Region.{Resolves}
-use Rattle.strings.specs.Texts.{listedText, spotAt}
+use Rattle.strings.specs.Texts.{spotAt}
 use Rattle.strings.specs.Rules.{Carried}
 use Rattle.strings.specs.Order.{allEntryChecks, positionChecks, allPositionChecks, stringChecks}
 use Rattle.strings.specs.inner.Held.{Held, heldTable}
@@ -21,9 +18,7 @@ use Rattle.strings.specs.declared.Strings.{Strings}
 use Rattle.strings.specs.declared.spot.Spot.{Spot}
 use Rattle.strings.specs.declared.spot.Spot.the-variants.{At}
 use Rattle.strings.proofs.Accepted.{all-good}
-use Rattle.strings.proofs.Only.{bucket-of, hash-of, text-of-index}
 use Rattle.strings.proofs.Spots.{Spotted, spot-text}
-use Rattle.search.specs.inner.Run.{Meets}
 
 -- the spot of the address at list position i, as it is found
 pub spotted : {b : List ℕ} {s : Strings} {segments buckets : List ℕ} → Held b s segments buckets → (i : ℕ) {r : Spot}
@@ -31,7 +26,7 @@ pub spotted : {b : List ℕ} {s : Strings} {segments buckets : List ℕ} → Hel
     → Spotted (heldTable b s buckets) (listedSegment (heldTable b s buckets) i) (listedElement (heldTable b s buckets) i) p n
 spotted {b} {s} {segments} {buckets} h i f g = spot-text (heldTable b s buckets) _ _ (h .laid .characters) (sym f ∙ g)
 
--- ---- an index stands in no bucket but that of its text
+-- ---- what a carried position has of its entry
 
 module _ (t : Table) (i : ℕ) (ok : Clean (allEntryChecks t)) where
   -- what holds of each entry's address holds of that at a carried position
@@ -45,19 +40,6 @@ module _ (t : Table) (i : ℕ) (ok : Clean (allEntryChecks t)) where
 
   pub carried-in : Carried t i → Resolves 2 (t .bytes) (t .at) (listedSegment t i) (listedElement t i)
   carried-in = carried-at (Resolves 2 (t .bytes) (t .at)) (λ k j h l. all-good t ok k j h l .resolved)
-
-  pub only-there : (k h : ℕ) (r : Bool) → h ≡ hashText (listedText t i) → k ≡ bucketOf (t .buckets) h → k < t .buckets → Meets t k h 8 i r
-      → Tells (Carried t i) r
-  unfolding indexOf entryIndex
-  only-there k h r e b l f = record { so = λ w. (k, l, f .so w); not = λ w c. move w c }
-    where
-      move : r ≡ false → Carried t i → ⊥
-      move w c =
-          let q = text-of-index t ok (c .0) (c .2 .0) i (c .1) (c .2 .1) (c .2 .2) in
-          let y : c .0 ≡ k = sym (bucket-of t ok (c .0) (c .2 .0) _ (c .1) (c .2 .1) q) ∙ ap (bucketOf (t .buckets)) (sym e) ∙ sym b in
-          let z = hash-of t ok (c .0) (c .2 .0) _ (c .1) (c .2 .1) q ∙ sym e in
-          let v = subst (λ (x : ℕ). (c .2 .0 < entries t x) × (hashOf t x (c .2 .0) ≡ h) × (indexOf t x (c .2 .0) ≡ i)) y (c .2 .1, z, c .2 .2) in
-          f .not w (c .2 .0) (v .0) (v .1) (v .2)
 
 -- ---- all list positions
 

@@ -5,9 +5,10 @@ use mathlib.Core.Path.{_≡_, refl, ap, sym, _∙_}
 use mathlib.Core.Logic.{⊎-elim}
 use mathlib.Core.List.{List, [], _∷_, _++_, List·Memᴰ, List·Memᴰ·not-nil, List·Memᴰ·cases-cons, List·Memᴰ·append-cases}
 use lib.ListN.{length, length-append}
+use Rattle.laws.specs.Counting.{sumBelow}
 use Rattle.verdict.specs.Checks.{SomeBelow}
 use Rattle.layout.specs.Table.{Table, entries}
-use Rattle.positions.specs.inner.Total.{entriesBefore, allEntries}
+use Rattle.positions.specs.inner.Total.{allEntries}
 use Rattle.laws.proofs.Pigeon.{Once, once-none, once-more, once-append, pigeon-all}
 
 -- those of the first n entries of bucket k
@@ -26,8 +27,8 @@ module _ (t : Table) (f : ℕ → ℕ → ℕ) where
   in-long k zero = refl
   in-long k (suc n) = ap suc (in-long k n)
 
-  long : (n : ℕ) → length (numbers t f n) ≡ entriesBefore t n
-  unfolding numbers entriesBefore
+  long : (n : ℕ) → length (numbers t f n) ≡ sumBelow n (entries t)
+  unfolding numbers sumBelow
   long zero = refl
   long (suc n) = omega (arith, length-append (numbersIn f n (entries t n)) (numbers t f n), in-long n (entries t n), long n)
 

@@ -1,53 +1,24 @@
 // Refusal 13, and all of 7 to 13 of a string table (FORMAT, "Refusals").
 ghost use mathlib.Core.Path.{_≡_};
-ghost use Prim.Native.Nat.{_≤_, _<_, _^_};
+ghost use Prim.Native.Nat.{_<_, _^_};
 ghost use Rattle.verdict.specs.Checks.{firstFault};
-ghost use Rattle.verdict.specs.inner.Tells.{Tells, Sure};
+ghost use Rattle.verdict.specs.inner.Tells.{Sure};
 ghost use Rattle.verdict.specs.declared.Verdict.the-variants.{Accepted};
 ghost use Rattle.hash.specs.inner.Tables.{Tables};
-ghost use Rattle.layout.specs.Table.{count};
-ghost use Rattle.strings.specs.Rules.{Carried};
 ghost use Rattle.strings.specs.Order.{allEntryChecks, allPositionChecks, stringChecks};
 ghost use Rattle.strings.specs.inner.Held.{Held, heldTable};
 ghost use Rattle.positions.specs.inner.Total.{allEntries};
 ghost use Rattle.positions.specs.inner.Packed.{Packed};
 
 mod packing;
+mod uncarried;
 
 use layout::BUCKET_COUNT_SIZE;
 use layout::ENTRY_SIZE;
-use search::run;
 use strings::Strings;
 use strings::entry;
-use strings::fields;
-use strings::spot::Spot;
 use strings::table;
 use verdict::Verdict;
-
-// Whether any entry carries index i: it would stand in the bucket of the text at list position i.
-fn carried(
-    b: &[u8],
-    t: &[u32; 2048],
-    s: Strings,
-    segments: &[u32; 1024],
-    buckets: &[u32],
-    i: usize,
-) -> bool
-    requires { ⌜ Tables (now t) × Held (now b) s (now segments) (now buckets)
-        × (firstFault (allEntryChecks (heldTable (now b) s (now buckets))) ≡ Accepted)
-        × (1 ≤ i) × (i < count (heldTable (now b) s (now buckets))) ⌝ }
-    ensures { λ r. ⌜ Tells (Carried (heldTable (now (b .entry)) s (now (buckets .entry))) i) r ⌝ }
-{
-    let a = entry::listed_spot(b, s, segments, buckets, i);
-    let Spot::At(q, n) = a else {
-        return false;
-    };
-    let m = text::measure(b, t, q, n);
-    let h = m.hash;
-    let k = hash::bucket(h, buckets.len());
-    let low = search::lower_bound(b, s, segments, buckets, k, h);
-    run::run_has(b, s, segments, buckets, k, h, low, fields::INDEX_AT, i)
-}
 
 // The number of entries of all buckets, by the bytes that they take: from the first bucket's start up to the address
 // count there are only the buckets' counts and their entries.
@@ -59,31 +30,19 @@ fn entry_total(b: &[u8], s: Strings, segments: &[u32; 1024], buckets: &[u32]) ->
 }
 
 // Refusal 13 of every list position, where the entries passed 7 to 12.
-fn check_positions(
-    b: &[u8],
-    t: &[u32; 2048],
-    s: Strings,
-    segments: &[u32; 1024],
-    buckets: &[u32],
-) -> Verdict
-    requires { ⌜ Tables (now t) × Held (now b) s (now segments) (now buckets)
+fn check_positions(b: &[u8], s: Strings, segments: &[u32; 1024], buckets: &[u32]) -> Verdict
+    requires { ⌜ Held (now b) s (now segments) (now buckets)
         × (firstFault (allEntryChecks (heldTable (now b) s (now buckets))) ≡ Accepted) ⌝ }
     ensures { λ r. ⌜ r ≡ firstFault (allPositionChecks (heldTable (now (b .entry)) s (now (buckets .entry)))) ⌝ }
 {
     let n = le::u32_at(b, s.list);
     // No two entries carry one index: they would bear one text, and 12 refuses that. So where there are as many entries
     // as list positions, each position is carried, and none has to be looked for.
-    if entry_total(b, s, segments, buckets) + 1 == n {
+    if n <= entry_total(b, s, segments, buckets) + 1 {
         return Verdict::Accepted;
     }
-    let mut i = 1;
-    while i < n {
-        if !carried(b, t, s, segments, buckets, i) {
-            return Verdict::Refused(13, entry::position_at(b, s, segments, buckets, i));
-        }
-        i += 1;
-    }
-    Verdict::Accepted
+    let i = uncarried::first_uncarried(b, s, segments, buckets, n);
+    Verdict::Refused(13, entry::position_at(b, s, segments, buckets, i))
 }
 
 // What is found of a table: the first fault, and whether its texts are known to fill its characters.
@@ -113,7 +72,7 @@ pub fn check_table(
         };
     }
     CheckedTable {
-        answer: check_positions(b, t, s, segments, buckets),
+        answer: check_positions(b, s, segments, buckets),
         packed: packing::is_packed(b, s, segments, buckets, c.begun),
     }
 }

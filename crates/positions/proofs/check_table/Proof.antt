@@ -9,7 +9,7 @@ returns : tie.Need-returns
 returns c = (table-refused _ (sym (c .before .before .before .check-entries .ensures .0) ∙ c .before .found .given .1), unsure)
 
 check-positions-requires : tie.Need-check-positions-requires
-check-positions-requires c κs = let p = c .before .before .before .before .before .pre in (p .0, p .1, sym (c .before .before .check-entries .ensures .0) ∙ c .enum-told .given .1)
+check-positions-requires c κs = let p = c .before .before .before .before .before .pre in (p .1, sym (c .before .before .check-entries .ensures .0) ∙ c .enum-told .given .1)
 
 is-packed-requires : tie.Need-is-packed-requires
 is-packed-requires c κs = (c .before .before .before .before .before .before .pre .1, sym (c .before .before .before .check-entries .ensures .0) ∙ c .before .enum-told .given .1, c .before .before .before .check-entries .ensures .1)
