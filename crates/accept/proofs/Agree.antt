@@ -5,7 +5,7 @@ use mathlib.Core.Path.{_≡_}
 use mathlib.Core.List.{List}
 use Rattle.verdict.specs.declared.Verdict.the-variants.{Accepted}
 use Rattle.layout.specs.Header.{keyCount}
-use Rattle.layout.specs.Layout.{LaidOut, valuesAt, values, namesAt, names}
+use Rattle.layout.specs.Layout.{LaidOut, valuesAt, values, namesAt, names, valueBuckets, nameBuckets}
 use Rattle.layout.specs.inner.View.{Fits}
 use Rattle.layout.specs.declared.View.{View}
 use Rattle.layout.specs.declared.Edition.{Edition}
@@ -26,8 +26,8 @@ changed-right {ed} {b} g d =
     let h = inside (g .laid) d in
     record {
       laid = laid-out a h (g .laid);
-      value-table = rw (alike-file a h .values-at) (table-rules a (valuesAt ed b) 1024 (values-behind a h) (g .value-table));
-      name-table = rw (alike-file a h .names-at) (table-rules a (namesAt ed b) 512 (names-behind a h) (g .name-table));
+      value-table = rw (alike-file a h .values-at) (table-rules a (valuesAt ed b) valueBuckets (values-behind a h) (g .value-table));
+      name-table = rw (alike-file a h .names-at) (table-rules a (namesAt ed b) nameBuckets (names-behind a h) (g .name-table));
       special = special-same a h (g .special);
       key = λ k l. let m : k < keyCount b = rw (alike-file a h .keys) at l in key-same a h k m (g .key k m);
       nodes = nodes-rules (g .laid) d (g .nodes);

@@ -14,6 +14,7 @@ use Rattle.strings.specs.Rules.{TableRules, EntryAddress}
 use Rattle.strings.proofs.Accepted.{strings-iff}
 use Rattle.keys.specs.Names.{nameCount}
 use Rattle.keys.proofs.Only.{position-resolves}
+use Rattle.tree.specs.Chain.{deepestLevel}
 use Rattle.tree.specs.File.{Used, nodeOf, treeOf}
 use Rattle.tree.proofs.Depths.{no-longer}
 use Rattle.tree.proofs.Unique.{one-chain, one-parent}
@@ -63,7 +64,7 @@ module _ (ed : Edition) (b : List ℕ) (r : FileRules ed b) where
             let f = ap (treeOf ed b .first) e in
             (e, omega (arith, q, f));
         one-chain = one-chain (treeOf ed b) (Used ed b) p;
-        depth = λ ps e c. no-longer (treeOf ed b) 63 0 ps e (r .depth) c;
+        depth = λ ps e c. no-longer (treeOf ed b) deepestLevel 0 ps e (r .depth) c;
       }
 
 pub accepted-gives : (ed : Edition) (b : List ℕ) (room : ℕ) → verdictOf ed b room ≡ Accepted → Given ed b

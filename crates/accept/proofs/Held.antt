@@ -11,7 +11,7 @@ use Rattle.verdict.specs.declared.Verdict.{Verdict}
 use Rattle.verdict.specs.declared.Verdict.the-variants.{Accepted}
 use Rattle.region.specs.inner.Samples.{Mapped, Starts}
 use Rattle.layout.specs.Table.{Table, table, listAt, TableLaid, BucketStarts}
-use Rattle.layout.specs.Layout.{values, names, valuesMost, namesMost}
+use Rattle.layout.specs.Layout.{values, names, valuesMost, namesMost, valueBuckets, nameBuckets}
 use Rattle.layout.specs.inner.View.{Fits}
 use Rattle.layout.specs.declared.View.{View}
 use Rattle.layout.specs.declared.Edition.{Edition}
@@ -86,11 +86,11 @@ module _ (ed : Edition) (b : List ℕ) (v : View) (f : Fits ed b v) where
   names-told p q = sym (p ∙ ap (λ (t : Table). firstFault (stringChecks t)) names-table) ∙ q
 
   -- the arrays have a place for each bucket
-  pub values-long : 1024 ≡ length (v .«value_buckets»)
+  pub values-long : valueBuckets ≡ length (v .«value_buckets»)
   unfolding values
   values-long = sym (f .«value_buckets» .long)
 
-  pub names-long : 512 ≡ length (v .«name_buckets»)
+  pub names-long : nameBuckets ≡ length (v .«name_buckets»)
   unfolding names
   names-long = sym (f .«name_buckets» .long)
 

@@ -23,7 +23,7 @@ use Rattle.strings.specs.Order.{entryChecks, bucketEntryChecks, allEntryChecks,
 use Rattle.keys.specs.Order.{specialChecks, keyRuleChecks, allKeyChecks}
 use Rattle.nodes.specs.Node.{attributeCount, nodeAt}
 use Rattle.nodes.specs.Order.{attributeChecks, nodeAttributeChecks, attributeRangeChecks, nodeChecks, segmentNodeChecks, allNodeChecks}
-use Rattle.tree.specs.Chain.{ends, firstOr}
+use Rattle.tree.specs.Chain.{ends, firstOr, mostLevels}
 use Rattle.tree.specs.File.{nodeOf, treeOf}
 use Rattle.tree.specs.Rules.{DepthRule}
 use Rattle.tree.specs.Decisions.{depthRule?}
@@ -205,10 +205,10 @@ module _ (ed : Edition) (b : List ℕ) (room : ℕ) where
   unfolding rangeChecks
   of-range seg el u = more _ _ _ _ _ (Broken.range-taken u) none
 
-  deepest : (DepthRule ed b → ⊥) → Broken ed b room 22 (nodeOf ed b (firstOr 0 (ends (treeOf ed b) 64 0)))
+  deepest : (DepthRule ed b → ⊥) → Broken ed b room 22 (nodeOf ed b (firstOr 0 (ends (treeOf ed b) mostLevels 0)))
   unfolding depthChecks
   deepest f =
-      let w = depth-first ed b (stop 22 (nodeOf ed b (firstOr 0 (ends (treeOf ed b) 64 0))) (DepthRule ed b) (depthRule? ed b) [] f) in
+      let w = depth-first ed b (stop 22 (nodeOf ed b (firstOr 0 (ends (treeOf ed b) mostLevels 0))) (DepthRule ed b) (depthRule? ed b) [] f) in
       subst (Broken ed b room 22) (sym (w .1 .1)) (Broken.too-deep (w .1 .0) (w .1 .2))
 
   of-tree : Rows (treeChecks ed b room)

@@ -12,7 +12,7 @@ use Rattle.layout.specs.Layout.{attributesAt, values, names}
 use Rattle.layout.specs.declared.Edition.{Edition}
 use Rattle.nodes.specs.Node.{nodeName, attributeSegment, attributeElement, attributeCount, attributeAt, Live}
 use Rattle.nodes.specs.Attribute.{attributeName, typeWord, textSegment, textElement}
-use Rattle.tree.specs.Chain.{child, Chain}
+use Rattle.tree.specs.Chain.{child, Chain, deepestLevel}
 use Rattle.tree.specs.File.{Used, nodeOf, treeOf}
 
 -- An address of a string table resolves, so there is a text at it.
@@ -46,7 +46,7 @@ pub record TreeGiven (ed : Edition) (b : List ℕ) : Type 0 where
   pub one-range : (a c j k : ℕ) → Used ed b a → Used ed b c → j < treeOf ed b .count a → k < treeOf ed b .count c
       → child (treeOf ed b) a j ≡ child (treeOf ed b) c k → (a ≡ c) × (j ≡ k)
   pub one-chain : (ps qs : List ℕ) (e : ℕ) → Chain (treeOf ed b) ps 0 e → Chain (treeOf ed b) qs 0 e → ps ≡ qs
-  pub depth : (ps : List ℕ) (e : ℕ) → Chain (treeOf ed b) ps 0 e → length ps ≤ 63
+  pub depth : (ps : List ℕ) (e : ℕ) → Chain (treeOf ed b) ps 0 e → length ps ≤ deepestLevel
 
 -- All of it.
 pub record Given (ed : Edition) (b : List ℕ) : Type 0 where

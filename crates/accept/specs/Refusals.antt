@@ -16,6 +16,7 @@ use Rattle.keys.specs.Names.{Special}
 use Rattle.keys.specs.Keys.{KeyRule}
 use Rattle.nodes.specs.Node.{attributeCount, nodeAt, attributeAt}
 use Rattle.nodes.specs.Rules.{RootUsed, NodeRule, AttributesReach, AttributeRule, TextRight, ChildRule}
+use Rattle.tree.specs.Chain.{mostLevels}
 use Rattle.tree.specs.File.{address, nodeOf, treeOf, usedNodes}
 use Rattle.tree.specs.Rules.{RangeRule, FirstDeep}
 
@@ -117,4 +118,4 @@ pub data Broken (ed : Edition) (b : List ℕ) (room : ℕ) : ℕ → ℕ → Typ
   -- 21: a child range holds the root, or an element already in an earlier node's range; the range's node.
   range-taken : {seg el : ℕ} → UsedNode ed b seg el → (RangeRule ed b (address seg el) → ⊥) → Broken ed b room 21 (nodeAt ed b seg el)
   -- 22: a chain of 65 nodes; its last node, first in document order.
-  too-deep : (e : ℕ) → FirstDeep (treeOf ed b) 64 0 e → Broken ed b room 22 (nodeOf ed b e)
+  too-deep : (e : ℕ) → FirstDeep (treeOf ed b) mostLevels 0 e → Broken ed b room 22 (nodeOf ed b e)

@@ -22,7 +22,7 @@ use Rattle.strings.specs.declared.Strings.{Strings}
 use Rattle.strings.proofs.Places.{few-entries}
 use Rattle.lookup.specs.inner.PickedEntry.{PickedEntry}
 use Rattle.lookup.specs.declared.Kind.{Kind}
-use Rattle.batch.specs.inner.Groups.{TextRead, standsAt, Group, AllNear, Texts, Picked, SameLow}
+use Rattle.batch.specs.inner.Groups.{TextRead, standsAt, Group, PackedBounds, Texts, Picked, SameLow}
 
 -- ---- where the texts of a group stand
 
@@ -110,7 +110,7 @@ module _ (b : List ℕ) (s : Strings) (segments buckets : List ℕ) (h : Held b 
   unfolding bucketOf
   place-small y x w = omega (arith, w .upto, few-entries b s segments buckets h (bucketOf (length buckets) y) (mod-lt _ (h .some-bucket)))
 
-  pub near-first : (hashes low : List ℕ) (n : ℕ) → LowerBounds (heldTable b s buckets) hashes n low → AllNear (heldTable b s buckets) hashes n low
+  pub near-first : (hashes low : List ℕ) (n : ℕ) → LowerBounds (heldTable b s buckets) hashes n low → PackedBounds (heldTable b s buckets) hashes n low
   near-first hashes low n a = record {
     long = a .long;
     each = λ j l.
@@ -120,7 +120,7 @@ module _ (b : List ℕ) (s : Strings) (segments buckets : List ℕ) (h : Held b 
   }
 
 -- something above them changes nothing
-pub near-same : {t : Table} {hashes low d : List ℕ} {n : ℕ} → AllNear t hashes n low → SameLow low d → AllNear t hashes n d
+pub near-same : {t : Table} {hashes low d : List ℕ} {n : ℕ} → PackedBounds t hashes n low → SameLow low d → PackedBounds t hashes n d
 near-same a s = record { long = s .long ∙ a .long; each = λ j l. rw (s .each j) (a .each j l) }
 
 pub same-start : (low : List ℕ) → SameLow low low
@@ -185,7 +185,7 @@ pub picked-upto : {kind : Kind} {t : Table} {lengths text results : List ℕ} {j
 picked-upto {j = j} {n = n} l w = record { text-long = w .text-long; results-long = w .results-long; each = λ i h. w .each i (omega arith) }
 
 -- what is read of one slot
-pub near-read : {t : Table} {hashes low : List ℕ} {n : ℕ} → AllNear t hashes n low → (j : ℕ) → j < n → {h r : ℕ} → h ≡ getD hashes j 0 → r ≡ getD low j 0
+pub near-read : {t : Table} {hashes low : List ℕ} {n : ℕ} → PackedBounds t hashes n low → (j : ℕ) → j < n → {h r : ℕ} → h ≡ getD hashes j 0 → r ≡ getD low j 0
     → LowerBound t (bucketOf (t .buckets) h) h (r % 4294967296)
 near-read a j l e f = rw (e, f) (a .each j l)
 

@@ -10,9 +10,10 @@ ghost use Rattle.strings.specs.Order.{stringChecks};
 ghost use Rattle.strings.specs.inner.Held.{Held, heldTable};
 ghost use Rattle.path.specs.Names.{pathChecks};
 ghost use Rattle.search.specs.inner.Group.{LowerBounds, Lengths};
-ghost use Rattle.batch.specs.inner.Groups.{Group, AllNear, Texts, Picked, SameLow};
+ghost use Rattle.batch.specs.inner.Groups.{Group, PackedBounds, Texts, Picked, SameLow};
 use lookup::Kind;
 use lookup::first;
+use region::SAMPLES;
 use search::group;
 use strings::Strings;
 
@@ -47,7 +48,7 @@ pub fn measure_group(
 fn pick_each(
     b: &[u8],
     s: Strings,
-    segments: &[u32; 1024],
+    segments: &[u32; SAMPLES],
     buckets: &[u32],
     kind: Kind,
     lengths: &[usize; 64],
@@ -101,7 +102,7 @@ fn read_ends(b: &[u8], text: &[usize; 64], end: &[usize; 64], n: usize, low: &mu
 pub fn prefetch_texts(
     b: &[u8],
     s: Strings,
-    segments: &[u32; 1024],
+    segments: &[u32; SAMPLES],
     buckets: &[u32],
     kind: Kind,
     lengths: &[usize; 64],
@@ -114,7 +115,7 @@ pub fn prefetch_texts(
     requires { ⌜ Held (now b) s (now segments) (now buckets) × (firstFault (stringChecks (heldTable (now b) s (now buckets))) ≡ Accepted)
         × (n ≤ 64) × Lengths (now lengths) (now hashes) (now low) × (length (now text) ≡ 64) × (length (now results) ≡ 64)
         × LowerBounds (heldTable (now b) s (now buckets)) (now hashes) n (now low) ⌝ }
-    ensures near { λ _. ⌜ AllNear (heldTable (now (b .entry)) s (now (buckets .entry))) (now (hashes .entry)) n (now (low .exit)) ⌝ }
+    ensures near { λ _. ⌜ PackedBounds (heldTable (now (b .entry)) s (now (buckets .entry))) (now (hashes .entry)) n (now (low .exit)) ⌝ }
     ensures picked { λ _. ⌜ Picked kind (heldTable (now (b .entry)) s (now (buckets .entry))) (now (lengths .entry)) n (now (text .exit)) (now (results .exit)) ⌝ }
 {
     let mut end = [0usize; 64];

@@ -18,6 +18,7 @@ mod group;
 use lookup::Kind;
 use lookup::Lookup;
 use lookup::first;
+use region::SAMPLES;
 use strings::Strings;
 use verdict::Verdict;
 
@@ -70,7 +71,7 @@ fn put_places(
     b: &[u8],
     t: &[u32; 2048],
     s: Strings,
-    segments: &[u32; 1024],
+    segments: &[u32; SAMPLES],
     buckets: &[u32],
     kind: Kind,
     texts: &[u8],
@@ -145,7 +146,7 @@ pub fn find_each(
     b: &[u8],
     t: &[u32; 2048],
     s: Strings,
-    segments: &[u32; 1024],
+    segments: &[u32; SAMPLES],
     buckets: &[u32],
     kind: Kind,
     texts: &[u8],

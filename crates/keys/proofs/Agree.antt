@@ -7,7 +7,7 @@ use mathlib.Core.Logic.{inl}
 use mathlib.Core.List.{List}
 use Rattle.le.proofs.Agree.{Agree, u16-same}
 use Rattle.layout.specs.Header.{keyCount}
-use Rattle.layout.specs.Layout.{namesAt, names}
+use Rattle.layout.specs.Layout.{namesAt, names, nameBuckets}
 use Rattle.layout.specs.declared.Edition.{Edition}
 use Rattle.layout.proofs.Laws.{key-in}
 use Rattle.layout.proofs.Agree.{Inside, alike-file, front, names-behind}
@@ -22,7 +22,7 @@ module _ {ed : Edition} {b c : List ℕ} {x : ℕ} (a : Agree b c x) (h : Inside
 
   name-text-same : (i : ℕ) → nameText ed c i ≡ nameText ed b i
   unfolding nameText names
-  name-text-same i = rw (alike-file a h .names-at) (listed-same a (namesAt ed b) 512 (names-behind a h) i)
+  name-text-same i = rw (alike-file a h .names-at) (listed-same a (namesAt ed b) nameBuckets (names-behind a h) i)
 
   pub bears-same : {i : ℕ} {t : List ℕ} → Bears ed b i t → Bears ed c i t
   bears-same {i} g = record { low = g .low; high = rw name-count-same (g .high); text = name-text-same i ∙ g .text }

@@ -14,6 +14,7 @@ ghost use Rattle.strings.specs.Order.{stringChecks};
 ghost use Rattle.strings.specs.inner.Held.{Held, heldTable};
 ghost use Rattle.keys.specs.inner.Known.{SpecialsFound};
 use crate::Names;
+use region::SAMPLES;
 use strings::Strings;
 use strings::entry;
 use strings::spot::Spot;
@@ -29,7 +30,7 @@ pub struct Specials {
 fn listed_is(
     b: &[u8],
     s: Strings,
-    segments: &[u32; 1024],
+    segments: &[u32; SAMPLES],
     buckets: &[u32],
     i: usize,
     x: &[u8],
@@ -47,7 +48,7 @@ fn listed_is(
 }
 
 // Refusal 14 of a file whose names table passed 7 to 13.
-pub fn check_special(b: &[u8], s: Strings, segments: &[u32; 1024], buckets: &[u32]) -> Specials
+pub fn check_special(b: &[u8], s: Strings, segments: &[u32; SAMPLES], buckets: &[u32]) -> Specials
     requires { ⌜ Held (now b) s (now segments) (now buckets) × (heldTable (now b) s (now buckets) ≡ names Bits64 (now b))
         × (firstFault (stringChecks (heldTable (now b) s (now buckets))) ≡ Accepted) ⌝ }
     ensures { λ r. ⌜ SpecialsFound Bits64 (now (b .entry)) r ⌝ }

@@ -12,7 +12,7 @@ use Rattle.region.proofs.Agree.{Alike, clear-behind, clear-within, alike, end-s
 use Rattle.layout.specs.Header.{headerOf, keysAt, keyCount, keyAt}
 use Rattle.layout.specs.Table.{table, bucketAt, entries, entryHash, entryLength, entryIndex, entrySegment, entryElement, entryAt, hashOf, lengthOf, indexOf, segmentOf, elementOf, listAt, count, positionAt, listedSegment, listedElement, tableEnd, TableLaid, BucketStarts}
 use Rattle.layout.specs.Edition.{attributeSize, nodeSize}
-use Rattle.layout.specs.Layout.{attributesAt, nodesAt, valuesAt, values, namesAt, names, footerAt, LaidOut}
+use Rattle.layout.specs.Layout.{attributesAt, nodesAt, valuesAt, values, namesAt, names, footerAt, LaidOut, valueBuckets, nameBuckets}
 use Rattle.layout.specs.inner.View.{PlacesFit, Fits}
 use Rattle.layout.specs.declared.Places.{Places}
 use Rattle.layout.specs.declared.View.{View}
@@ -109,8 +109,8 @@ pub record AlikeFile (ed : Edition) (b c : List ℕ) : Type 0 where
   pub names-at : namesAt ed c ≡ namesAt ed b
   pub attributes : Alike (attributeSize ed) b c (attributesAt b)
   pub nodes : Alike (nodeSize ed) b c (nodesAt ed b)
-  pub values : AlikeTable b c (valuesAt ed b) 1024
-  pub names : AlikeTable b c (namesAt ed b) 512
+  pub values : AlikeTable b c (valuesAt ed b) valueBuckets
+  pub names : AlikeTable b c (namesAt ed b) nameBuckets
 
 module _ {ed : Edition} {b c : List ℕ} {x : ℕ} (a : Agree b c x) (h : Inside ed b x) where
   pub front : attributesAt b + 4 ≤ x
@@ -146,19 +146,19 @@ module _ {ed : Edition} {b c : List ℕ} {x : ℕ} (a : Agree b c x) (h : Inside
   unfolding valuesAt
   values-same = rw nodes-same (end-same nodes-alike)
 
-  values-alike : AlikeTable b c (valuesAt ed b) 1024
-  values-alike = alike-table a _ 1024 values-behind
+  values-alike : AlikeTable b c (valuesAt ed b) valueBuckets
+  values-alike = alike-table a _ valueBuckets values-behind
 
   pub names-behind : x + 4 ≤ namesAt ed b
   unfolding namesAt values
-  names-behind = table-behind a (valuesAt ed b) 1024 values-behind
+  names-behind = table-behind a (valuesAt ed b) valueBuckets values-behind
 
   names-same : namesAt ed c ≡ namesAt ed b
   unfolding namesAt values
   names-same = rw values-same (values-alike .ends)
 
-  names-alike : AlikeTable b c (namesAt ed b) 512
-  names-alike = alike-table a _ 512 names-behind
+  names-alike : AlikeTable b c (namesAt ed b) nameBuckets
+  names-alike = alike-table a _ nameBuckets names-behind
 
   footer-same : footerAt ed c ≡ footerAt ed b
   unfolding footerAt names
@@ -166,7 +166,7 @@ module _ {ed : Edition} {b c : List ℕ} {x : ℕ} (a : Agree b c x) (h : Inside
 
   footer-behind : x + 4 ≤ footerAt ed b
   unfolding footerAt names
-  footer-behind = table-behind a (namesAt ed b) 512 names-behind
+  footer-behind = table-behind a (namesAt ed b) nameBuckets names-behind
 
   pub alike-file : AlikeFile ed b c
   alike-file =

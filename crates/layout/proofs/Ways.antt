@@ -14,7 +14,7 @@ use Rattle.region.specs.Checks.{regionChecks}
 use Rattle.layout.specs.Header.{headerChecks, keyChecks}
 use Rattle.layout.specs.Table.{Table, table, bucketChecks, listChecks, tableEnd, tableChecks}
 use Rattle.layout.specs.Edition.{attributeSize, nodeSize}
-use Rattle.layout.specs.Layout.{attributesAt, nodesAt, valuesAt, values, valuesMost, namesAt, names, namesMost, sizeChecks, frontChecks, footerChecks, layoutChecks}
+use Rattle.layout.specs.Layout.{attributesAt, nodesAt, valuesAt, values, valuesMost, namesAt, names, namesMost, sizeChecks, frontChecks, footerChecks, layoutChecks, valueBuckets, nameBuckets}
 use Rattle.layout.specs.inner.Scanned.{FrontScanned, TableScanned}
 use Rattle.layout.specs.inner.View.{Walked}
 use Rattle.layout.specs.declared.front.FrontScan.{FrontScan}
@@ -116,14 +116,14 @@ module _ (ed : Edition) (b : List ℕ) where
       }
 
   -- a table is scanned from where the code found the part before to end, with as many buckets as it has places for
-  pub values-scanned : {e n : ℕ} {r : TableScan} {xs : List ℕ} → e ≡ valuesAt ed b → n ≡ 1024 → TableScanned (table b e n) 4294967295 r xs
+  pub values-scanned : {e n : ℕ} {r : TableScan} {xs : List ℕ} → e ≡ valuesAt ed b → n ≡ valueBuckets → TableScanned (table b e n) 4294967295 r xs
       → TableScanned (values ed b) valuesMost r xs
   unfolding values valuesMost
   values-scanned {e} {n} {r} {xs} q h s =
       subst (λ (m : ℕ). TableScanned (table b (valuesAt ed b) m) 4294967295 r xs) h
       (subst (λ (a : ℕ). TableScanned (table b a n) 4294967295 r xs) q s)
 
-  pub names-scanned : {e n : ℕ} {r : TableScan} {xs : List ℕ} → e ≡ namesAt ed b → n ≡ 512 → TableScanned (table b e n) 65536 r xs
+  pub names-scanned : {e n : ℕ} {r : TableScan} {xs : List ℕ} → e ≡ namesAt ed b → n ≡ nameBuckets → TableScanned (table b e n) 65536 r xs
       → TableScanned (names ed b) namesMost r xs
   unfolding names namesMost
   names-scanned {e} {n} {r} {xs} q h s =

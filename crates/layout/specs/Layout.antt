@@ -22,16 +22,21 @@ nodesAt ed b = endOf (attributeSize ed) b (attributesAt b)
 unfoldable pub valuesAt : Edition → List ℕ → ℕ
 valuesAt ed b = endOf (nodeSize ed) b (nodesAt ed b)
 
--- The values table has 1,024 buckets.
+-- The values table has 1,024 buckets, the names table 512.
+abbrev pub valueBuckets : ℕ
+valueBuckets = 1024
+
+abbrev pub nameBuckets : ℕ
+nameBuckets = 512
+
 unfoldable pub values : Edition → List ℕ → Table
-values ed b = table b (valuesAt ed b) 1024
+values ed b = table b (valuesAt ed b) valueBuckets
 
 unfoldable pub namesAt : Edition → List ℕ → ℕ
 namesAt ed b = tableEnd (values ed b)
 
--- The names table has 512.
 unfoldable pub names : Edition → List ℕ → Table
-names ed b = table b (namesAt ed b) 512
+names ed b = table b (namesAt ed b) nameBuckets
 
 unfoldable pub footerAt : Edition → List ℕ → ℕ
 footerAt ed b = tableEnd (names ed b)

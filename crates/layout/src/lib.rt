@@ -5,6 +5,7 @@ pub mod whole;
 
 use le::Float64;
 use region::Region;
+use region::SAMPLES;
 use verdict::Verdict;
 
 // A file has at most so many bytes.
@@ -41,6 +42,11 @@ pub const ENTRY_SIZE: usize = 16;
 
 pub const POSITION_SIZE: usize = 4;
 
+// The buckets of the two tables.
+pub const VALUE_BUCKETS: usize = 1024;
+
+pub const NAME_BUCKETS: usize = 512;
+
 // The most that the values' address count can say: the format sets it no limit of its own.
 pub const MOST_VALUES: usize = 4_294_967_295;
 
@@ -70,13 +76,13 @@ pub struct Places {
 pub struct View {
     pub header: Header,
     pub places: Places,
-    pub attribute_segments: [u32; 1024],
-    pub node_segments: [u32; 1024],
-    pub node_counts: [u32; 1024],
-    pub value_segments: [u32; 1024],
-    pub name_segments: [u32; 1024],
-    pub value_buckets: [u32; 1024],
-    pub name_buckets: [u32; 512],
+    pub attribute_segments: [u32; SAMPLES],
+    pub node_segments: [u32; SAMPLES],
+    pub node_counts: [u32; SAMPLES],
+    pub value_segments: [u32; SAMPLES],
+    pub name_segments: [u32; SAMPLES],
+    pub value_buckets: [u32; VALUE_BUCKETS],
+    pub name_buckets: [u32; NAME_BUCKETS],
 }
 
 // What layout answers: the view means something only where nothing is refused.

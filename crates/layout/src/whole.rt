@@ -3,7 +3,7 @@ ghost use mathlib.Core.Path.{_≡_};
 ghost use Prim.Native.Nat.{_≤_};
 ghost use lib.ListN.{length};
 ghost use Rattle.verdict.specs.Checks.{firstFault};
-ghost use Rattle.layout.specs.Layout.{footerAt, footerChecks};
+ghost use Rattle.layout.specs.Layout.{footerAt, footerChecks, valueBuckets, nameBuckets};
 ghost use Rattle.layout.specs.inner.View.{Walked, Fits, Viewed};
 ghost use Rattle.layout.specs.declared.Edition.the-variants.{Bits64};
 use crate::ATTRIBUTE_SIZE;
@@ -13,13 +13,16 @@ use crate::Header;
 use crate::KEYS_AT;
 use crate::MOST_NAMES;
 use crate::MOST_VALUES;
+use crate::NAME_BUCKETS;
 use crate::NODE_SIZE;
 use crate::Places;
+use crate::VALUE_BUCKETS;
 use crate::View;
 use crate::front;
 use crate::tables;
 use le::Float64;
 use region::Region;
+use region::SAMPLES;
 use verdict::Scan;
 use verdict::Verdict;
 
@@ -67,7 +70,7 @@ fn footer(b: &[u8], p: usize) -> Verdict
 
 // Refusals 1 to 6 along the file.
 fn along(b: &[u8], value_buckets: &mut [u32], name_buckets: &mut [u32]) -> Walk
-    requires { ⌜ (length (now «value_buckets») ≡ 1024) × (length (now «name_buckets») ≡ 512) ⌝ }
+    requires { ⌜ (length (now «value_buckets») ≡ valueBuckets) × (length (now «name_buckets») ≡ nameBuckets) ⌝ }
     ensures { λ r. ⌜ Walked Bits64 (now (b .entry)) r (now («value_buckets» .exit)) (now («name_buckets» .exit)) ⌝ }
 {
     let f = front::scan_front(b);
@@ -100,7 +103,12 @@ fn along(b: &[u8], value_buckets: &mut [u32], name_buckets: &mut [u32]) -> Walk
 }
 
 // The view of a file that passed.
-fn view_of(b: &[u8], w: Walk, value_buckets: [u32; 1024], name_buckets: [u32; 512]) -> View
+fn view_of(
+    b: &[u8],
+    w: Walk,
+    value_buckets: [u32; VALUE_BUCKETS],
+    name_buckets: [u32; NAME_BUCKETS],
+) -> View
     requires { ⌜ Walked Bits64 (now b) w «value_buckets» «name_buckets» × (w .answer ≡ Verdict.Accepted) ⌝ }
     ensures { λ r. ⌜ Fits Bits64 (now (b .entry)) r ⌝ }
 {
@@ -108,15 +116,15 @@ fn view_of(b: &[u8], w: Walk, value_buckets: [u32; 1024], name_buckets: [u32; 51
     let nodes = region::mapped(b, w.nodes, NODE_SIZE);
     let value_chars = region::mapped(b, w.values, CHARACTER_SIZE);
     let name_chars = region::mapped(b, w.names, CHARACTER_SIZE);
-    let mut attribute_segments = [0u32; 1024];
+    let mut attribute_segments = [0u32; SAMPLES];
     region::sample_starts(b, attributes, ATTRIBUTE_SIZE, &mut attribute_segments);
-    let mut node_segments = [0u32; 1024];
+    let mut node_segments = [0u32; SAMPLES];
     region::sample_starts(b, nodes, NODE_SIZE, &mut node_segments);
-    let mut node_counts = [0u32; 1024];
+    let mut node_counts = [0u32; SAMPLES];
     let used_nodes = region::sample_counts(b, nodes, NODE_SIZE, &mut node_counts);
-    let mut value_segments = [0u32; 1024];
+    let mut value_segments = [0u32; SAMPLES];
     region::sample_starts(b, value_chars, CHARACTER_SIZE, &mut value_segments);
-    let mut name_segments = [0u32; 1024];
+    let mut name_segments = [0u32; SAMPLES];
     region::sample_starts(b, name_chars, CHARACTER_SIZE, &mut name_segments);
     View {
         header: front::header_report(b),
@@ -167,13 +175,13 @@ fn no_view() -> View {
             name_chars: none,
             name_list: 0,
         },
-        attribute_segments: [0u32; 1024],
-        node_segments: [0u32; 1024],
-        node_counts: [0u32; 1024],
-        value_segments: [0u32; 1024],
-        name_segments: [0u32; 1024],
-        value_buckets: [0u32; 1024],
-        name_buckets: [0u32; 512],
+        attribute_segments: [0u32; SAMPLES],
+        node_segments: [0u32; SAMPLES],
+        node_counts: [0u32; SAMPLES],
+        value_segments: [0u32; SAMPLES],
+        name_segments: [0u32; SAMPLES],
+        value_buckets: [0u32; VALUE_BUCKETS],
+        name_buckets: [0u32; NAME_BUCKETS],
     }
 }
 
@@ -181,8 +189,8 @@ fn no_view() -> View {
 pub fn check_layout(b: &[u8]) -> CheckedLayout
     ensures { λ r. ⌜ Viewed Bits64 (now (b .entry)) r ⌝ }
 {
-    let mut value_buckets = [0u32; 1024];
-    let mut name_buckets = [0u32; 512];
+    let mut value_buckets = [0u32; VALUE_BUCKETS];
+    let mut name_buckets = [0u32; NAME_BUCKETS];
     let w = along(b, &mut value_buckets, &mut name_buckets);
     let answer = w.answer;
     if let Verdict::Refused(_, _) = answer {

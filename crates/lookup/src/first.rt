@@ -19,6 +19,7 @@ use crate::Kind;
 use crate::Lookup;
 use layout::CHARACTER_SIZE;
 use region::Region;
+use region::SAMPLES;
 use strings::Strings;
 use strings::entry;
 use strings::fields;
@@ -42,7 +43,7 @@ fn no_candidate() -> Candidate
 }
 
 // Where the text of the entry at e starts. Its address resolves, so no count is read.
-fn text_at(b: &[u8], chars: Region, segments: &[u32; 1024], e: usize) -> usize
+fn text_at(b: &[u8], chars: Region, segments: &[u32; SAMPLES], e: usize) -> usize
     requires { ⌜ Mapped 2 (now b) (chars .at) chars × Starts 2 (now b) (chars .at) (chars .shift) (now segments) × (e + 16 ≤ length (now b))
         × Resolves 2 (now b) (chars .at) (entrySegment (now b) e) (entryElement (now b) e) ⌝ }
     ensures { λ r. ⌜ r ≡ placeOf 2 (now (b .entry)) (chars .at) (entrySegment (now (b .entry)) e) (entryElement (now (b .entry)) e) ⌝ }
@@ -55,7 +56,7 @@ fn text_at(b: &[u8], chars: Region, segments: &[u32; 1024], e: usize) -> usize
 pub fn pick(
     b: &[u8],
     s: Strings,
-    segments: &[u32; 1024],
+    segments: &[u32; SAMPLES],
     buckets: &[u32],
     kind: Kind,
     h: usize,
@@ -90,7 +91,7 @@ pub fn pick(
 pub fn find_picked(
     b: &[u8],
     s: Strings,
-    segments: &[u32; 1024],
+    segments: &[u32; SAMPLES],
     buckets: &[u32],
     kind: Kind,
     h: usize,

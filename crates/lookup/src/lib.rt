@@ -17,6 +17,7 @@ ghost use Rattle.lookup.specs.Kinds.{toldIn, tellsAt, kindOf, toldNumber
 
 pub mod first;
 
+use region::SAMPLES;
 use strings::Strings;
 use strings::entry;
 use strings::fields;
@@ -57,7 +58,7 @@ pub enum Kind {
 fn entry_bears(
     b: &[u8],
     s: Strings,
-    segments: &[u32; 1024],
+    segments: &[u32; SAMPLES],
     buckets: &[u32],
     k: usize,
     j: usize,
@@ -100,7 +101,7 @@ fn unborne(q: &[u8], p: usize, n: usize, count: usize) -> Lookup
 fn find_entry(
     b: &[u8],
     s: Strings,
-    segments: &[u32; 1024],
+    segments: &[u32; SAMPLES],
     buckets: &[u32],
     h: usize,
     low: usize,
@@ -144,7 +145,7 @@ fn result_at(b: &[u8], kind: Kind, e: usize) -> usize
 pub(crate) fn find_from(
     b: &[u8],
     s: Strings,
-    segments: &[u32; 1024],
+    segments: &[u32; SAMPLES],
     buckets: &[u32],
     kind: Kind,
     h: usize,
@@ -170,7 +171,7 @@ pub fn find_text(
     b: &[u8],
     t: &[u32; 2048],
     s: Strings,
-    segments: &[u32; 1024],
+    segments: &[u32; SAMPLES],
     buckets: &[u32],
     kind: Kind,
     q: &[u8],

@@ -14,7 +14,7 @@ use Rattle.region.specs.Region.{Resolves, placeOf}
 use Rattle.region.proofs.Laws.{range-each, place-fits}
 use Rattle.region.proofs.Agree.{alike-back, place-same, place-from, place-within, places-apart, start-behind, resolves-same, reaches-same}
 use Rattle.layout.specs.Edition.{attributeSize, nodeSize}
-use Rattle.layout.specs.Layout.{attributesAt, nodesAt, valuesAt, values, LaidOut}
+use Rattle.layout.specs.Layout.{attributesAt, nodesAt, valuesAt, values, LaidOut, valueBuckets}
 use Rattle.layout.specs.declared.Edition.{Edition}
 use Rattle.layout.proofs.Agree.{Inside, alike-file, nodes-behind, values-behind}
 use Rattle.layout.proofs.Sizes.{attribute-least}
@@ -229,8 +229,8 @@ module _ {ed : Edition} {b c : List ℕ} {seg el : ℕ} (g : LaidOut ed b) (d : 
         (λ q. absurd (let w = d .whole in let v : typeOf (typeWord b (attributePlace ed b seg el)) ≡ 3 = rw q at y in omega arith))
         (λ q. record {
           entry = rw (segment-same q, element-same q, alike-file (d .agree) inside .values-at)
-              (address-same (d .agree) (valuesAt ed b) 1024 (values-behind (d .agree) inside) _ _ (t y .entry));
-          hash = rw (type-word-same, segment-same q, element-same q, alike-file (d .agree) inside .values-at, text-to-same (d .agree) (valuesAt ed b) 1024 (values-behind (d .agree) inside))
+              (address-same (d .agree) (valuesAt ed b) valueBuckets (values-behind (d .agree) inside) _ _ (t y .entry));
+          hash = rw (type-word-same, segment-same q, element-same q, alike-file (d .agree) inside .values-at, text-to-same (d .agree) (valuesAt ed b) valueBuckets (values-behind (d .agree) inside))
               (t y .hash);
         })
         (apart s e r)

@@ -13,6 +13,7 @@ use crate::node;
 use keys::Names;
 use layout::NODE_SIZE;
 use layout::Places;
+use region::SAMPLES;
 use region::SEGMENT_HEADER;
 use verdict::Verdict;
 
@@ -22,9 +23,9 @@ pub fn check_nodes(
     t: &[u32; 2048],
     p: Places,
     names: Names,
-    attribute_segments: &[u32; 1024],
-    node_segments: &[u32; 1024],
-    value_segments: &[u32; 1024],
+    attribute_segments: &[u32; SAMPLES],
+    node_segments: &[u32; SAMPLES],
+    value_segments: &[u32; SAMPLES],
     value_buckets: &[u32],
     known: bool,
     doubts: &[u32; 4096],

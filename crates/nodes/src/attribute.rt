@@ -23,6 +23,7 @@ use crate::fields;
 use crate::long;
 use keys::Names;
 use layout::ATTRIBUTE_SIZE;
+use region::SAMPLES;
 use search::run;
 use strings::Strings;
 use strings::entry;
@@ -82,7 +83,7 @@ pub fn text_right(
     b: &[u8],
     t: &[u32; 2048],
     s: Strings,
-    segments: &[u32; 1024],
+    segments: &[u32; SAMPLES],
     buckets: &[u32],
     q: usize,
     memo: &mut [u32; 3072],
@@ -121,7 +122,7 @@ fn text_passes(
     b: &[u8],
     t: &[u32; 2048],
     s: Strings,
-    segments: &[u32; 1024],
+    segments: &[u32; SAMPLES],
     buckets: &[u32],
     q: usize,
     known: bool,
@@ -149,7 +150,7 @@ pub fn check_attributes(
     t: &[u32; 2048],
     names: Names,
     s: Strings,
-    segments: &[u32; 1024],
+    segments: &[u32; SAMPLES],
     buckets: &[u32],
     p: usize,
     a: usize,

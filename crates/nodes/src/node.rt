@@ -31,6 +31,7 @@ use layout::NODE_SIZE;
 use layout::Places;
 use region::Place;
 use region::Region;
+use region::SAMPLES;
 use strings::Strings;
 use verdict::Verdict;
 
@@ -82,7 +83,7 @@ fn rising(b: &[u8], q: usize, n: usize) -> bool
 }
 
 // Whether refusal 23 is not due to the live node at p.
-fn children_right(b: &[u8], nodes: Region, segments: &[u32; 1024], p: usize) -> bool
+fn children_right(b: &[u8], nodes: Region, segments: &[u32; SAMPLES], p: usize) -> bool
     requires { ⌜ Mapped (nodeSize Bits64) (now b) (nodesAt Bits64 (now b)) nodes × Starts (nodeSize Bits64) (now b) (nodesAt Bits64 (now b)) (nodes .shift) (now segments) ⌝ }
     requires { ⌜ (p + nodeSize Bits64 ≤ length (now b)) × Live (now b) p ⌝ }
     ensures { λ r. ⌜ Tells (ChildRule Bits64 (now (b .entry)) p) r ⌝ }
@@ -112,9 +113,9 @@ fn check_attribute_range(
     t: &[u32; 2048],
     attributes: Region,
     names: Names,
-    attribute_segments: &[u32; 1024],
+    attribute_segments: &[u32; SAMPLES],
     s: Strings,
-    segments: &[u32; 1024],
+    segments: &[u32; SAMPLES],
     buckets: &[u32],
     x: usize,
     known: bool,
@@ -167,9 +168,9 @@ pub fn check_node(
     t: &[u32; 2048],
     p: Places,
     names: Names,
-    attribute_segments: &[u32; 1024],
-    node_segments: &[u32; 1024],
-    value_segments: &[u32; 1024],
+    attribute_segments: &[u32; SAMPLES],
+    node_segments: &[u32; SAMPLES],
+    value_segments: &[u32; SAMPLES],
     value_buckets: &[u32],
     seg: usize,
     el: usize,

@@ -9,6 +9,7 @@ use Rattle.verdict.proofs.Laws.{never, pass, stop, fault-none}
 use Rattle.layout.specs.declared.Places.{Places}
 use Rattle.layout.specs.declared.Edition.{Edition}
 use Rattle.nodes.specs.Node.{Live, nodeName}
+use Rattle.tree.specs.Chain.{deepestLevel}
 use Rattle.tree.specs.File.{nodeOf, Used}
 use Rattle.accept.specs.Rules.{FileRules}
 use Rattle.print.specs.inner.Put.{Put}
@@ -39,12 +40,12 @@ abbrev pub Answered : Edition → List ℕ → List ℕ → Outlined → List �
 Answered ed b out r out′ = OutlineWritten ed b (length out) r × (out′ ≡ outlineAfter ed b out (r .answer))
 
 module _ {ed : Edition} {b : List ℕ} (g : FileRules ed b) where
-  pub length-told : {d d′ : List ℕ} {n : ℕ} → Put d 0 (block ed b 63 0 0) n d′ → n ≡ length (outlineOf ed b)
+  pub length-told : {d d′ : List ℕ} {n : ℕ} → Put d 0 (block ed b deepestLevel 0 0) n d′ → n ≡ length (outlineOf ed b)
   unfolding outlineOf
   length-told w = put-length w (omega (arith, outline-fits ed b g))
 
   module _ (out : List ℕ) where
-    whole : {k : ℕ} {d : List ℕ} → Put out 0 (block ed b 63 0 0) k d → length (outlineOf ed b) ≤ length out → d ≡ outlineOf ed b ++ drop (length (outlineOf ed b)) out
+    whole : {k : ℕ} {d : List ℕ} → Put out 0 (block ed b deepestLevel 0 0) k d → length (outlineOf ed b) ≤ length out → d ≡ outlineOf ed b ++ drop (length (outlineOf ed b)) out
     unfolding outlineOf
     whole v l = put-front v l
 
@@ -59,7 +60,7 @@ module _ {ed : Edition} {b : List ℕ} (g : FileRules ed b) where
       refl,
     )
 
-    pub all-written : {n m : ℕ} {out′ : List ℕ} → n ≡ length (outlineOf ed b) → n ≤ length out → Put out 0 (block ed b 63 0 0) m out′
+    pub all-written : {n m : ℕ} {out′ : List ℕ} → n ≡ length (outlineOf ed b) → n ≤ length out → Put out 0 (block ed b deepestLevel 0 0) m out′
         → Answered ed b out (record { answer = Accepted; length = m }) out′
     unfolding outlineAfter outlineChecks
     all-written {n} e h w = (

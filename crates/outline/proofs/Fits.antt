@@ -13,7 +13,7 @@ use Rattle.layout.specs.Edition.{nodeSize}
 use Rattle.layout.specs.Layout.{nodesAt}
 use Rattle.layout.specs.declared.Edition.{Edition}
 use Rattle.layout.proofs.Sizes.{nodes-wide}
-use Rattle.tree.specs.Chain.{Tree, LiveIn, child, Chain, Before}
+use Rattle.tree.specs.Chain.{Tree, LiveIn, child, Chain, Before, deepestLevel}
 use Rattle.tree.specs.File.{nodeOf, Used, treeOf, usedNodes}
 use Rattle.tree.proofs.Unique.{OneParent, chain-within, one-chain, one-parent}
 use Rattle.accept.specs.Rules.{FileRules}
@@ -99,9 +99,9 @@ module _ (ed : Edition) (b : List ℕ) (r : FileRules ed b) where
   abbrev number : List ℕ → ℕ
   number ps = numberOf (nodeSize ed) b (nodesAt ed b) (at ps / 65536) (at ps % 65536)
 
-  module _ (ps : List ℕ) (m : List·Memᴰ ps (chains (treeOf ed b) 63 0)) where
+  module _ (ps : List ℕ) (m : List·Memᴰ ps (chains (treeOf ed b) deepestLevel 0)) where
     chain : Chain (treeOf ed b) ps 0 (at ps)
-    chain = chains-sound (treeOf ed b) 63 0 ps m .1
+    chain = chains-sound (treeOf ed b) deepestLevel 0 ps m .1
 
     used : Used ed b (at ps)
     used = chain-within (treeOf ed b) (Used ed b) parents ps 0 (at ps) (r .nodes .root) chain
@@ -113,17 +113,17 @@ module _ (ed : Edition) (b : List ℕ) (r : FileRules ed b) where
     shown-short : length (line ed b (length ps) (nodeOf ed b (at ps))) ≤ 2 ^ 36
     unfolding treeOf nodeOf
     shown-short =
-        line-short ed b r (at ps / 65536) (at ps % 65536) (r .nodes .each _ _ used) (length ps) (chains-sound (treeOf ed b) 63 0 ps m .0)
+        line-short ed b r (at ps / 65536) (at ps % 65536) (r .nodes .each _ _ used) (length ps) (chains-sound (treeOf ed b) deepestLevel 0 ps m .0)
         (chain-live (treeOf ed b) ps 0 (at ps) root-live chain)
 
-  number-one : (ps qs : List ℕ) → List·Memᴰ ps (chains (treeOf ed b) 63 0) → List·Memᴰ qs (chains (treeOf ed b) 63 0) → number ps ≡ number qs → ps ≡ qs
+  number-one : (ps qs : List ℕ) → List·Memᴰ ps (chains (treeOf ed b) deepestLevel 0) → List·Memᴰ qs (chains (treeOf ed b) deepestLevel 0) → number ps ≡ number qs → ps ≡ qs
   number-one ps qs m k q =
       let w = number-same (nodeSize ed) b (nodesAt ed b) _ _ _ _ (used ps m) (used qs k) q in
       let e : at ps ≡ at qs = omega (arith, w .0, w .1) in
       one-chain (treeOf ed b) (Used ed b) parents ps qs (at qs) (subst (Chain (treeOf ed b) ps 0) e (chain ps m)) (chain qs k)
 
-  few-lines : length (chains (treeOf ed b) 63 0) ≤ usedNodes ed b
-  few-lines = few-chains number (usedNodes ed b) (chains (treeOf ed b) 63 0) number-low number-one (chains-rising (treeOf ed b) 63 0)
+  few-lines : length (chains (treeOf ed b) deepestLevel 0) ≤ usedNodes ed b
+  few-lines = few-chains number (usedNodes ed b) (chains (treeOf ed b) deepestLevel 0) number-low number-one (chains-rising (treeOf ed b) deepestLevel 0)
 
   few-nodes : usedNodes ed b ≤ 67108864
   unfolding usedNodes
@@ -133,7 +133,7 @@ module _ (ed : Edition) (b : List ℕ) (r : FileRules ed b) where
   outline-short =
       rw (outline-rows ed)
       (le-trans
-      (flat-short (λ ps. line ed b (length ps) (nodeOf ed b (at ps))) (2 ^ 36) (chains (treeOf ed b) 63 0) shown-short)
+      (flat-short (λ ps. line ed b (length ps) (nodeOf ed b (at ps))) (2 ^ 36) (chains (treeOf ed b) deepestLevel 0) shown-short)
       (mul-le-mul-right (2 ^ 36) (le-trans few-lines few-nodes)))
 
   pub outline-fits : length (outlineOf ed b) < 2 ^ 64

@@ -8,7 +8,7 @@ use native.Mathlib.Omega.{arith}
 use borrow.Author.Tests.{eqb-false}
 use lib.Dec.{eqb}
 use Rattle.layout.specs.declared.Edition.{Edition}
-use Rattle.tree.specs.Chain.{LiveIn, child, ranged}
+use Rattle.tree.specs.Chain.{LiveIn, child, ranged, deepestLevel}
 use Rattle.tree.specs.File.{nodeOf, treeOf}
 use Rattle.tree.specs.Rules.{Deep}
 use Rattle.accept.specs.Rules.{FileRules}
@@ -63,6 +63,6 @@ module _ (ed : Edition) (b : List ℕ) where
       (ranged-same (shown ed b (block ed b m (level + 1))) (shown ed b (block ed b n (level + 1))) (treeOf ed b .first a) (treeOf ed b .count a)
       (λ j h. shown-same _ _ _ (λ k. enough n m (level + 1) (child (treeOf ed b) a j) (omega arith) (λ d. f (deeper (treeOf ed b) (suc n) a j h k d)))))
 
-pub all-levels : (ed : Edition) (b : List ℕ) → FileRules ed b → (n : ℕ) → block ed b (63 + n) 0 0 ≡ outlineOf ed b
+pub all-levels : (ed : Edition) (b : List ℕ) → FileRules ed b → (n : ℕ) → block ed b (deepestLevel + n) 0 0 ≡ outlineOf ed b
 unfolding outlineOf
-all-levels ed b r n = enough ed b 63 (63 + n) 0 0 (omega arith) (r .depth)
+all-levels ed b r n = enough ed b deepestLevel (deepestLevel + n) 0 0 (omega arith) (r .depth)

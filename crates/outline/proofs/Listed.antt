@@ -8,7 +8,7 @@ use native.Mathlib.Omega.{arith}
 use lib.Dec.{eqb}
 use lib.ListN.{length}
 use Rattle.layout.specs.declared.Edition.{Edition}
-use Rattle.tree.specs.Chain.{child, ranged}
+use Rattle.tree.specs.Chain.{child, ranged, deepestLevel}
 use Rattle.tree.specs.File.{nodeOf, treeOf}
 use Rattle.accept.specs.Rules.{FileRules}
 use Rattle.outline.specs.Outline.{line, shown, block, outlineOf}
@@ -75,14 +75,14 @@ module _ (ed : Edition) (b : List ℕ) where
       rw (q, add-zero level, add-zero (treeOf ed b .first a))
 
 module _ (ed : Edition) (b : List ℕ) where
-  pub outline-rows : outlineOf ed b ≡ flatMap (λ ps. line ed b (length ps) (nodeOf ed b (leads (treeOf ed b) 0 ps))) (chains (treeOf ed b) 63 0)
+  pub outline-rows : outlineOf ed b ≡ flatMap (λ ps. line ed b (length ps) (nodeOf ed b (leads (treeOf ed b) 0 ps))) (chains (treeOf ed b) deepestLevel 0)
   unfolding outlineOf
-  outline-rows = sym (lines-block ed b 63 0 0) ∙ flat-same _ _ (chains (treeOf ed b) 63 0) (λ ps. rw zero-add)
+  outline-rows = sym (lines-block ed b deepestLevel 0 0) ∙ flat-same _ _ (chains (treeOf ed b) deepestLevel 0) (λ ps. rw zero-add)
 
-  pub outline-lines : FileRules ed b → Lined ed b (chains (treeOf ed b) 63 0)
+  pub outline-lines : FileRules ed b → Lined ed b (chains (treeOf ed b) deepestLevel 0)
   outline-lines r = record {
-    sound = λ ps m. chains-sound (treeOf ed b) 63 0 ps m .1;
-    complete = λ ps e c. (chains-complete (treeOf ed b) 63 0 ps e (no-longer (treeOf ed b) 63 0 ps e (r .depth) c) c, chain-leads (treeOf ed b) ps 0 e c);
-    ordered = chains-rising (treeOf ed b) 63 0;
+    sound = λ ps m. chains-sound (treeOf ed b) deepestLevel 0 ps m .1;
+    complete = λ ps e c. (chains-complete (treeOf ed b) deepestLevel 0 ps e (no-longer (treeOf ed b) deepestLevel 0 ps e (r .depth) c) c, chain-leads (treeOf ed b) ps 0 e c);
+    ordered = chains-rising (treeOf ed b) deepestLevel 0;
     lines = outline-rows;
   }

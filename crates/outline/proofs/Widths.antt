@@ -28,7 +28,7 @@ use Rattle.strings.specs.Rules.{EntryAddress}
 use Rattle.nodes.specs.Rules.{TextRule, TextRight, AttributeRule, NodeRules}
 use Rattle.nodes.specs.declared.value.Value.the-variants.{Whole, Truth, Float, Text}
 use Rattle.nodes.proofs.Values.{value-whole, value-truth, value-float, value-text}
-use Rattle.tree.specs.Chain.{ranged}
+use Rattle.tree.specs.Chain.{ranged, deepestLevel}
 use Rattle.print.specs.Text.{hexOf, plain, escape, escaped, decimalIn, decimal, wholeText}
 use Rattle.accept.specs.Rules.{FileRules}
 use Rattle.outline.specs.Outline.{truthText, valueText, attributeText, line}
@@ -154,7 +154,7 @@ module _ (ed : Edition) (b : List ℕ) (r : FileRules ed b) (seg el : ℕ) (h : 
       (mul-le-mul-right 655354 few-attributes)
 
   -- the line of a live node at most 63 levels below the root is shorter than 2 ^ 36
-  pub line-short : (level : ℕ) → level ≤ 63 → Live b (nodeAt ed b seg el) → length (line ed b level (nodeAt ed b seg el)) ≤ 2 ^ 36
+  pub line-short : (level : ℕ) → level ≤ deepestLevel → Live b (nodeAt ed b seg el) → length (line ed b level (nodeAt ed b seg el)) ≤ 2 ^ 36
   unfolding line
   line-short level l live =
       let p = nodeAt ed b seg el in

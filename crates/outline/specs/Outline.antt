@@ -12,7 +12,7 @@ use Rattle.nodes.specs.Node.{nodeName, attributeCount, attributeAt}
 use Rattle.nodes.specs.Attribute.{attributeName, valueOf}
 use Rattle.nodes.specs.declared.value.Value.{Value}
 use Rattle.nodes.specs.declared.value.Value.the-variants.{Whole, Truth, Float, Text}
-use Rattle.tree.specs.Chain.{ranged}
+use Rattle.tree.specs.Chain.{ranged, deepestLevel}
 use Rattle.tree.specs.File.{nodeOf, treeOf}
 use Rattle.print.specs.Text.{hexOf, escaped, wholeText}
 
@@ -50,4 +50,4 @@ block ed b (suc left) level a =
 
 -- The root's block: no chain has more than 64 nodes, so at most 63 levels are below the root.
 unfoldable pub outlineOf : Edition → List ℕ → List ℕ
-outlineOf ed b = block ed b 63 0 0
+outlineOf ed b = block ed b deepestLevel 0 0

@@ -3,7 +3,7 @@ ghost use mathlib.Core.Path.{_≡_};
 ghost use Prim.Native.Nat.{_+_, _≤_};
 ghost use Rattle.layout.specs.declared.Edition.the-variants.{Bits64};
 ghost use Rattle.nodes.specs.Node.{Live};
-ghost use Rattle.tree.specs.Chain.{ranged};
+ghost use Rattle.tree.specs.Chain.{ranged, deepestLevel};
 ghost use Rattle.tree.specs.File.{Used, nodeOf, treeOf};
 ghost use Rattle.print.specs.inner.Put.{Put};
 ghost use Rattle.outline.specs.Outline.{line, shown, block};
@@ -13,21 +13,22 @@ use crate::values;
 use layout::NODE_SIZE;
 use layout::Places;
 use nodes::fields;
+use region::SAMPLES;
 use tree::ranges;
 
 // The line of the live node at x.
 fn put_node(
     b: &[u8],
     p: Places,
-    attribute_segments: &[u32; 1024],
-    value_segments: &[u32; 1024],
-    name_segments: &[u32; 1024],
+    attribute_segments: &[u32; SAMPLES],
+    value_segments: &[u32; SAMPLES],
+    name_segments: &[u32; SAMPLES],
     level: usize,
     x: usize,
     out: &mut [u8],
     at: usize,
 ) -> usize
-    requires { ⌜ LineReady Bits64 (now b) p (now «attribute_segments») (now «value_segments») (now «name_segments») × NodeReady Bits64 (now b) x × (level ≤ 63) ⌝ }
+    requires { ⌜ LineReady Bits64 (now b) p (now «attribute_segments») (now «value_segments») (now «name_segments») × NodeReady Bits64 (now b) x × (level ≤ deepestLevel) ⌝ }
     ensures { λ r. ⌜ Put (now (out .entry)) at (line Bits64 (now (b .entry)) level x) r (now (out .exit)) ⌝ }
 {
     let c = print::put_spaces(out, at, 2 * level);
@@ -49,10 +50,10 @@ fn put_node(
 pub fn write_node(
     b: &[u8],
     p: Places,
-    attribute_segments: &[u32; 1024],
-    node_segments: &[u32; 1024],
-    value_segments: &[u32; 1024],
-    name_segments: &[u32; 1024],
+    attribute_segments: &[u32; SAMPLES],
+    node_segments: &[u32; SAMPLES],
+    value_segments: &[u32; SAMPLES],
+    name_segments: &[u32; SAMPLES],
     a: usize,
     x: usize,
     level: usize,
@@ -61,7 +62,7 @@ pub fn write_node(
     at: usize,
 ) -> usize
     requires { ⌜ OutlineReady Bits64 (now b) p (now «attribute_segments») (now «node_segments») (now «value_segments») (now «name_segments») ⌝ }
-    requires { ⌜ Used Bits64 (now b) a × (x ≡ nodeOf Bits64 (now b) a) × Live (now b) x × (level + left ≤ 63) ⌝ }
+    requires { ⌜ Used Bits64 (now b) a × (x ≡ nodeOf Bits64 (now b) a) × Live (now b) x × (level + left ≤ deepestLevel) ⌝ }
     ensures { λ r. ⌜ Put (now (out .entry)) at (block Bits64 (now (b .entry)) left level a) r (now (out .exit)) ⌝ }
 {
     let e = put_node(
@@ -98,10 +99,10 @@ pub fn write_node(
 fn write_range(
     b: &[u8],
     p: Places,
-    attribute_segments: &[u32; 1024],
-    node_segments: &[u32; 1024],
-    value_segments: &[u32; 1024],
-    name_segments: &[u32; 1024],
+    attribute_segments: &[u32; SAMPLES],
+    node_segments: &[u32; SAMPLES],
+    value_segments: &[u32; SAMPLES],
+    name_segments: &[u32; SAMPLES],
     a: usize,
     x: usize,
     level: usize,
@@ -110,7 +111,7 @@ fn write_range(
     at: usize,
 ) -> usize
     requires { ⌜ OutlineReady Bits64 (now b) p (now «attribute_segments») (now «node_segments») (now «value_segments») (now «name_segments») ⌝ }
-    requires { ⌜ Used Bits64 (now b) a × (x ≡ nodeOf Bits64 (now b) a) × (level + left ≤ 63) ⌝ }
+    requires { ⌜ Used Bits64 (now b) a × (x ≡ nodeOf Bits64 (now b) a) × (level + left ≤ deepestLevel) ⌝ }
     ensures { λ r. ⌜ Put (now (out .entry)) at (ranged (shown Bits64 (now (b .entry)) (block Bits64 (now (b .entry)) left level))
         (treeOf Bits64 (now (b .entry)) .first a) (treeOf Bits64 (now (b .entry)) .count a)) r (now (out .exit)) ⌝ }
 {

@@ -11,6 +11,7 @@ mod texts;
 mod values;
 
 use layout::Places;
+use region::SAMPLES;
 use tree::DEEPEST_LEVEL;
 use tree::ranges;
 use verdict::Verdict;
@@ -25,10 +26,10 @@ pub struct Outlined {
 pub fn write_outline(
     b: &[u8],
     p: Places,
-    attribute_segments: &[u32; 1024],
-    node_segments: &[u32; 1024],
-    value_segments: &[u32; 1024],
-    name_segments: &[u32; 1024],
+    attribute_segments: &[u32; SAMPLES],
+    node_segments: &[u32; SAMPLES],
+    value_segments: &[u32; SAMPLES],
+    name_segments: &[u32; SAMPLES],
     out: &mut [u8],
 ) -> Outlined
     requires { ⌜ OutlineReady Bits64 (now b) p (now «attribute_segments») (now «node_segments») (now «value_segments») (now «name_segments») ⌝ }

@@ -11,6 +11,7 @@ ghost use Rattle.print.specs.Text.{escaped};
 ghost use Rattle.outline.specs.inner.Ready.{NameStarts, TextHeld};
 use layout::Places;
 use region::Region;
+use region::SAMPLES;
 use strings::spot;
 use strings::spot::Spot;
 
@@ -36,7 +37,7 @@ fn put_chars(b: &[u8], q: usize, n: usize, out: &mut [u8], at: usize) -> usize
 pub fn put_text(
     b: &[u8],
     chars: Region,
-    segments: &[u32; 1024],
+    segments: &[u32; SAMPLES],
     seg: usize,
     el: usize,
     out: &mut [u8],
@@ -55,7 +56,7 @@ pub fn put_text(
 pub fn put_name(
     b: &[u8],
     p: Places,
-    segments: &[u32; 1024],
+    segments: &[u32; SAMPLES],
     i: usize,
     out: &mut [u8],
     at: usize,

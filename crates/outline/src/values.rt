@@ -15,6 +15,7 @@ use nodes::fields;
 use nodes::value;
 use nodes::value::Value;
 use region::Place;
+use region::SAMPLES;
 
 // A truth.
 fn put_truth(t: bool, out: &mut [u8], at: usize) -> usize
@@ -30,7 +31,7 @@ fn put_truth(t: bool, out: &mut [u8], at: usize) -> usize
 fn put_value(
     b: &[u8],
     p: Places,
-    segments: &[u32; 1024],
+    segments: &[u32; SAMPLES],
     q: usize,
     out: &mut [u8],
     at: usize,
@@ -60,8 +61,8 @@ fn put_value(
 fn put_attribute(
     b: &[u8],
     p: Places,
-    value_segments: &[u32; 1024],
-    name_segments: &[u32; 1024],
+    value_segments: &[u32; SAMPLES],
+    name_segments: &[u32; SAMPLES],
     q: usize,
     out: &mut [u8],
     at: usize,
@@ -80,9 +81,9 @@ fn put_attribute(
 pub fn put_attributes(
     b: &[u8],
     p: Places,
-    attribute_segments: &[u32; 1024],
-    value_segments: &[u32; 1024],
-    name_segments: &[u32; 1024],
+    attribute_segments: &[u32; SAMPLES],
+    value_segments: &[u32; SAMPLES],
+    name_segments: &[u32; SAMPLES],
     x: usize,
     out: &mut [u8],
     at: usize,

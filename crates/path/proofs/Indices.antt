@@ -12,7 +12,7 @@ use lib.Dec.{eqb}
 use lib.ListN.{length, getD}
 use Rattle.layout.specs.declared.Edition.{Edition}
 use Rattle.keys.specs.Names.{nameCount, nameText, Bears}
-use Rattle.tree.specs.Chain.{LiveIn, child, ranged}
+use Rattle.tree.specs.Chain.{LiveIn, child, ranged, deepestLevel}
 use Rattle.tree.specs.File.{nodeOf, Used, treeOf}
 use Rattle.tree.proofs.Depths.{no-longer}
 use Rattle.accept.specs.Rules.{FileRules}
@@ -83,13 +83,13 @@ module _ (ed : Edition) (b : List ℕ) (r : FileRules ed b) where
         f (w .0) (w .1))
 
     -- more names than a chain has places
-    pub long-none : 63 < length (namesOf path) → pathMatches ed b path ≡ []
+    pub long-none : deepestLevel < length (namesOf path) → pathMatches ed b path ≡ []
     unfolding pathMatches
     long-none l =
         empty _ (λ e m.
         let s = sound (treeOf ed b) (nameText ed b) (namesOf path) 0 e m in
         let n = bearing-length (treeOf ed b) (nameText ed b) (namesOf path) (s .0) 0 e (s .1) in
-        let d = no-longer (treeOf ed b) 63 0 (s .0) e (r .depth) (bearing-chain (treeOf ed b) (nameText ed b) (namesOf path) (s .0) 0 e (s .1)) in omega arith)
+        let d = no-longer (treeOf ed b) deepestLevel 0 (s .0) e (r .depth) (bearing-chain (treeOf ed b) (nameText ed b) (namesOf path) (s .0) 0 e (s .1)) in omega arith)
 
   module _ (one : (i k : ℕ) (x : List ℕ) → Bears ed b i x → Bears ed b k x → i ≡ k) where
     -- a child bears a name exactly when it has its index

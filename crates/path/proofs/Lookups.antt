@@ -1,4 +1,5 @@
 -- The names of a path looked up one after the other: what is known after n of them. Assumes nothing.
+use Rattle.tree.specs.Chain.{mostLevels, deepestLevel}
 use mathlib.Core.Path.{_≡_, refl, sym, ap, _∙_}
 use mathlib.Core.Logic.{_⊎_, inl, inr, by-cases}
 use mathlib.Core.Bool.{Bool, true, false, true≢false, false≢true}
@@ -20,8 +21,8 @@ use Rattle.path.proofs.Formed.{formed-inv}
 
 -- the first n names are those of the indices, and the names left start at offset `at`
 pub record Sofar (ed : Edition) (b path : List ℕ) (n at : ℕ) (indices : List ℕ) : Type 0 where
-  pub long : length indices ≡ 64
-  pub few : n ≤ 63
+  pub long : length indices ≡ mostLevels
+  pub few : n ≤ deepestLevel
   pub even : at % 2 ≡ 0
   pub within : at ≤ length path
   pub left : n + length (namesFrom path at) ≡ length (namesOf path)
@@ -34,7 +35,7 @@ zeros zero i = refl
 zeros (suc n) zero = refl
 zeros (suc n) (suc i) = zeros n i
 
-pub sofar-start : (ed : Edition) (b path : List ℕ) → Sofar ed b path 0 0 (replicate 64 0)
+pub sofar-start : (ed : Edition) (b path : List ℕ) → Sofar ed b path 0 0 (replicate mostLevels 0)
 sofar-start ed b path = record {
   long = refl;
   few = omega arith;
@@ -43,7 +44,7 @@ sofar-start ed b path = record {
   left = omega (arith, ap length (names-start path));
   same = λ i. rw (zero-add i, names-start path);
   index = λ i h. absurd (not-suc-le-zero h);
-  rest = λ i h. zeros 64 i;
+  rest = λ i h. zeros mostLevels i;
 }
 
 module _ {ed : Edition} {b path : List ℕ} {n at : ℕ} {indices : List ℕ} (ok : Clean (pathChecks path)) (w : Sofar ed b path n at indices) where
@@ -55,7 +56,7 @@ module _ {ed : Edition} {b path : List ℕ} {n at : ℕ} {indices : List ℕ} (o
     unfolding nameAt
     next-name = ap (nameAt (namesOf path)) (sym (add-zero n)) ∙ w .same 0 ∙ ap (λ (xs : List (List ℕ)). nameAt xs 0) next-names
 
-    pub sofar-more : (n ≡ 63 → ⊥) → (i : ℕ) → Bears ed b i (chars path at ((e - at) / 2)) → Sofar ed b path (n + 1) (e + 2) (set indices n i)
+    pub sofar-more : (n ≡ deepestLevel → ⊥) → (i : ℕ) → Bears ed b i (chars path at ((e - at) / 2)) → Sofar ed b path (n + 1) (e + 2) (set indices n i)
     unfolding nameAt
     sofar-more f i g = record {
       long = simp length-set (w .long);
@@ -75,7 +76,7 @@ module _ {ed : Edition} {b path : List ℕ} {n at : ℕ} {indices : List ℕ} (o
 
   -- what is known so far, as an answer
   wanted-is : (known : Bool) → (known ≡ true → n ≡ length (namesOf path))
-      → (known ≡ false → ((n ≡ 63) × (63 < length (namesOf path))) ⊎ ((n < length (namesOf path)) × ((k : ℕ) → Bears ed b k (nameAt (namesOf path) n) → ⊥)))
+      → (known ≡ false → ((n ≡ deepestLevel) × (deepestLevel < length (namesOf path))) ⊎ ((n < length (namesOf path)) × ((k : ℕ) → Bears ed b k (nameAt (namesOf path) n) → ⊥)))
       → WantedIs ed b path (record { known = known; count = n; indices = indices })
   wanted-is known f g = record { long = w .long; few = w .few; index = w .index; rest = w .rest; many = f; none = g }
 
@@ -84,7 +85,7 @@ module _ {ed : Edition} {b path : List ℕ} {n at : ℕ} {indices : List ℕ} (o
   sofar-all known q h = wanted-is known (λ z. omega (arith, w .left, ap length (names-end path at h))) (λ z. absurd (true≢false (sym q ∙ z)))
 
   -- more names than a chain can bear
-  pub sofar-long : at < length path → n ≡ 63 → WantedIs ed b path (record { known = false; count = n; indices = indices })
+  pub sofar-long : at < length path → n ≡ deepestLevel → WantedIs ed b path (record { known = false; count = n; indices = indices })
   sofar-long h l = wanted-is false (λ z. absurd (false≢true z)) (λ z. inl (l, omega (arith, w .left, names-some path at ok (w .even) h)))
 
   -- a name that is no name of the file

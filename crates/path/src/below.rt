@@ -3,6 +3,7 @@ ghost use mathlib.Core.Path.{_≡_};
 ghost use Prim.Native.Nat.{_+_, _≤_};
 ghost use lib.ListN.{length};
 ghost use Rattle.layout.specs.declared.Edition.the-variants.{Bits64};
+ghost use Rattle.tree.specs.Chain.{mostLevels, deepestLevel};
 ghost use Rattle.tree.specs.File.{Used, nodeOf, treeOf};
 ghost use Rattle.tree.specs.inner.Marking.{TreeReady};
 ghost use Rattle.path.specs.inner.Indices.{matchesAt, indicesFrom};
@@ -10,6 +11,7 @@ ghost use Rattle.path.specs.inner.Written.{Wrote};
 use layout::NODE_SIZE;
 use nodes::fields;
 use region::Region;
+use region::SAMPLES;
 use tree::MOST_LEVELS;
 use tree::ranges;
 
@@ -18,7 +20,7 @@ use tree::ranges;
 pub fn list_below(
     b: &[u8],
     nodes: Region,
-    segments: &[u32; 1024],
+    segments: &[u32; SAMPLES],
     wanted: &[u32; MOST_LEVELS],
     n: usize,
     at: usize,
@@ -28,7 +30,7 @@ pub fn list_below(
     k: usize,
 ) -> usize
     requires { ⌜ TreeReady Bits64 (now b) nodes (now segments) × Used Bits64 (now b) a × (p ≡ nodeOf Bits64 (now b) a) ⌝ }
-    requires { ⌜ (length (now wanted) ≡ 64) × (at ≤ n) × (n ≤ 63)
+    requires { ⌜ (length (now wanted) ≡ mostLevels) × (at ≤ n) × (n ≤ deepestLevel)
         × (k + length (matchesAt (treeOf Bits64 (now b)) (indicesFrom (now wanted) n at) a) ≤ 4294967296) ⌝ }
     ensures { λ r. ⌜ Wrote (now (list .entry)) k (matchesAt (treeOf Bits64 (now (b .entry))) (indicesFrom (now (wanted .entry)) n at) a) r
         (now (list .exit)) ⌝ }

@@ -12,6 +12,7 @@ ghost use Rattle.path.specs.inner.Answer.{PathListed};
 use crate::below;
 use crate::names;
 use region::Region;
+use region::SAMPLES;
 use strings::Strings;
 use tree::ranges;
 use verdict::Verdict;
@@ -28,10 +29,10 @@ pub fn list_path(
     b: &[u8],
     t: &[u32; 2048],
     s: Strings,
-    name_segments: &[u32; 1024],
+    name_segments: &[u32; SAMPLES],
     name_buckets: &[u32],
     nodes: Region,
-    node_segments: &[u32; 1024],
+    node_segments: &[u32; SAMPLES],
     path: &[u8],
     list: &mut [u8],
 ) -> Listing

@@ -13,6 +13,7 @@ ghost use Rattle.path.specs.Names.{pathChecks};
 ghost use Rattle.path.specs.inner.Indices.{NameEnd, WantedIs};
 use lookup::Kind;
 use lookup::Lookup;
+use region::SAMPLES;
 use strings::Strings;
 use tree::DEEPEST_LEVEL;
 use tree::MOST_LEVELS;
@@ -58,7 +59,7 @@ pub(crate) fn find_names(
     b: &[u8],
     t: &[u32; 2048],
     s: Strings,
-    segments: &[u32; 1024],
+    segments: &[u32; SAMPLES],
     buckets: &[u32],
     path: &[u8],
 ) -> Wanted

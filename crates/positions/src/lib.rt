@@ -15,6 +15,7 @@ mod uncarried;
 
 use layout::BUCKET_COUNT_SIZE;
 use layout::ENTRY_SIZE;
+use region::SAMPLES;
 use strings::Strings;
 use strings::entry;
 use strings::table;
@@ -22,7 +23,7 @@ use verdict::Verdict;
 
 // The number of entries of all buckets, by the bytes that they take: from the first bucket's start up to the address
 // count there are only the buckets' counts and their entries.
-fn entry_total(b: &[u8], s: Strings, segments: &[u32; 1024], buckets: &[u32]) -> usize
+fn entry_total(b: &[u8], s: Strings, segments: &[u32; SAMPLES], buckets: &[u32]) -> usize
     requires { ⌜ Held (now b) s (now segments) (now buckets) ⌝ }
     ensures { λ r. ⌜ (r ≡ allEntries (heldTable (now (b .entry)) s (now (buckets .entry)))) × (r < 2 ^ 32) ⌝ }
 {
@@ -30,7 +31,7 @@ fn entry_total(b: &[u8], s: Strings, segments: &[u32; 1024], buckets: &[u32]) ->
 }
 
 // Refusal 13 of every list position, where the entries passed 7 to 12.
-fn check_positions(b: &[u8], s: Strings, segments: &[u32; 1024], buckets: &[u32]) -> Verdict
+fn check_positions(b: &[u8], s: Strings, segments: &[u32; SAMPLES], buckets: &[u32]) -> Verdict
     requires { ⌜ Held (now b) s (now segments) (now buckets)
         × (firstFault (allEntryChecks (heldTable (now b) s (now buckets))) ≡ Accepted) ⌝ }
     ensures { λ r. ⌜ r ≡ firstFault (allPositionChecks (heldTable (now (b .entry)) s (now (buckets .entry)))) ⌝ }
@@ -56,7 +57,7 @@ pub fn check_table(
     b: &[u8],
     t: &[u32; 2048],
     s: Strings,
-    segments: &[u32; 1024],
+    segments: &[u32; SAMPLES],
     buckets: &[u32],
 ) -> CheckedTable
     requires { ⌜ Tables (now t) × Held (now b) s (now segments) (now buckets) ⌝ }

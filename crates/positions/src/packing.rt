@@ -13,6 +13,7 @@ ghost use Rattle.strings.specs.inner.Held.{Held, heldTable};
 ghost use Rattle.positions.specs.inner.Packed.{Packed, begunIn, allBegun};
 use layout::CHARACTER_SIZE;
 use region::Region;
+use region::SAMPLES;
 use strings::Strings;
 
 // At how many of the n characters at p a text can begin, which are a segment's first.
@@ -43,7 +44,13 @@ fn count_begun(b: &[u8], chars: Region) -> usize
 }
 
 // Whether texts begin nowhere but at entries' addresses, when those are all places where texts can: there are as many entries as such places.
-pub fn is_packed(b: &[u8], s: Strings, segments: &[u32; 1024], buckets: &[u32], begun: bool) -> bool
+pub fn is_packed(
+    b: &[u8],
+    s: Strings,
+    segments: &[u32; SAMPLES],
+    buckets: &[u32],
+    begun: bool,
+) -> bool
     requires { ⌜ Held (now b) s (now segments) (now buckets)
         × (firstFault (allEntryChecks (heldTable (now b) s (now buckets))) ≡ Accepted) × Sure (AllBegun (heldTable (now b) s (now buckets))) begun ⌝ }
     ensures { λ r. ⌜ Sure (Packed (heldTable (now (b .entry)) s (now (buckets .entry)))) r ⌝ }

@@ -8,15 +8,16 @@ ghost use Rattle.layout.specs.Table.{entries, count};
 ghost use Rattle.strings.specs.Order.{allEntryChecks};
 ghost use Rattle.strings.specs.inner.Held.{Held, heldTable};
 ghost use Rattle.positions.specs.inner.Total.{allEntries, belowIn, allBelow, FirstUncarried};
+use region::SAMPLES;
 use strings::Strings;
 use strings::entry;
 use strings::fields;
 
 // How many entries of bucket k carry an index below m.
-fn count_in(
+fn count_carrying_in(
     b: &[u8],
     s: Strings,
-    segments: &[u32; 1024],
+    segments: &[u32; SAMPLES],
     buckets: &[u32],
     k: usize,
     m: usize,
@@ -39,7 +40,13 @@ fn count_in(
 }
 
 // How many entries of the table carry one.
-fn count_below(b: &[u8], s: Strings, segments: &[u32; 1024], buckets: &[u32], m: usize) -> usize
+fn count_carrying(
+    b: &[u8],
+    s: Strings,
+    segments: &[u32; SAMPLES],
+    buckets: &[u32],
+    m: usize,
+) -> usize
     requires { ⌜ Held (now b) s (now segments) (now buckets) ⌝ }
     ensures { λ r. ⌜ (r ≡ allBelow (heldTable (now (b .entry)) s (now (buckets .entry))) m)
         × (r ≤ allEntries (heldTable (now (b .entry)) s (now (buckets .entry)))) ⌝ }
@@ -47,7 +54,7 @@ fn count_below(b: &[u8], s: Strings, segments: &[u32; 1024], buckets: &[u32], m:
     let mut c = 0usize;
     let mut k = 0;
     while k < buckets.len() {
-        c += count_in(b, s, segments, buckets, k, m);
+        c += count_carrying_in(b, s, segments, buckets, k, m);
         k += 1;
     }
     c
@@ -58,7 +65,7 @@ fn count_below(b: &[u8], s: Strings, segments: &[u32; 1024], buckets: &[u32], m:
 pub fn first_uncarried(
     b: &[u8],
     s: Strings,
-    segments: &[u32; 1024],
+    segments: &[u32; SAMPLES],
     buckets: &[u32],
     n: usize,
 ) -> usize
@@ -70,7 +77,7 @@ pub fn first_uncarried(
     let mut hi = n;
     while lo + 1 < hi {
         let mid = lo + (hi - lo) / 2;
-        if count_below(b, s, segments, buckets, mid) + 1 == mid {
+        if count_carrying(b, s, segments, buckets, mid) + 1 == mid {
             lo = mid;
         } else {
             hi = mid;

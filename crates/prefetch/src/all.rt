@@ -27,6 +27,7 @@ use layout::ATTRIBUTE_SIZE;
 use layout::Places;
 use nodes::attribute;
 use region::Region;
+use region::SAMPLES;
 use region::SEGMENT_HEADER;
 use strings::Strings;
 use verdict::Verdict;
@@ -36,7 +37,7 @@ fn doubt(
     b: &[u8],
     t: &[u32; 2048],
     s: Strings,
-    segments: &[u32; 1024],
+    segments: &[u32; SAMPLES],
     buckets: &[u32],
     q: usize,
     doubts: &mut [u32; 4096],
@@ -59,7 +60,7 @@ fn doubt_wrong(
     b: &[u8],
     t: &[u32; 2048],
     s: Strings,
-    segments: &[u32; 1024],
+    segments: &[u32; SAMPLES],
     buckets: &[u32],
     slots: &[u32; 64],
     n: usize,
@@ -85,7 +86,7 @@ fn examine_batch(
     b: &[u8],
     t: &[u32; 2048],
     s: Strings,
-    segments: &[u32; 1024],
+    segments: &[u32; SAMPLES],
     buckets: &[u32],
     packed: bool,
     slots: &[u32; 64],
@@ -116,7 +117,7 @@ fn find_doubts(
     t: &[u32; 2048],
     attributes: Region,
     s: Strings,
-    segments: &[u32; 1024],
+    segments: &[u32; SAMPLES],
     buckets: &[u32],
     packed: bool,
     doubts: &mut [u32; 4096],
@@ -166,9 +167,9 @@ pub fn check_nodes_in_batches(
     t: &[u32; 2048],
     p: Places,
     names: Names,
-    attribute_segments: &[u32; 1024],
-    node_segments: &[u32; 1024],
-    value_segments: &[u32; 1024],
+    attribute_segments: &[u32; SAMPLES],
+    node_segments: &[u32; SAMPLES],
+    value_segments: &[u32; SAMPLES],
     value_buckets: &[u32],
     packed: bool,
 ) -> Verdict

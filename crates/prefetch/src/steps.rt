@@ -30,6 +30,7 @@ ghost use Rattle.prefetch.specs.inner.Batch.{SpotFits, Behind, AllSpots,
 use nodes::fields;
 use nodes::long;
 use region::Region;
+use region::SAMPLES;
 use search::group;
 use search::run;
 use strings::Strings;
@@ -41,7 +42,7 @@ use strings::spot::Spot;
 fn find_spots(
     b: &[u8],
     chars: Region,
-    segments: &[u32; 1024],
+    segments: &[u32; SAMPLES],
     slots: &[u32; 64],
     n: usize,
     at: &mut [u32; 64],
@@ -188,7 +189,7 @@ fn hash_texts(
 fn found(
     b: &[u8],
     s: Strings,
-    segments: &[u32; 1024],
+    segments: &[u32; SAMPLES],
     buckets: &[u32],
     q: usize,
     h: usize,
@@ -216,7 +217,7 @@ fn found(
 fn find_entries(
     b: &[u8],
     s: Strings,
-    segments: &[u32; 1024],
+    segments: &[u32; SAMPLES],
     buckets: &[u32],
     slots: &[u32; 64],
     n: usize,
@@ -252,7 +253,7 @@ pub fn batch_right(
     b: &[u8],
     t: &[u32; 2048],
     s: Strings,
-    segments: &[u32; 1024],
+    segments: &[u32; SAMPLES],
     buckets: &[u32],
     slots: &[u32; 64],
     n: usize,

@@ -16,6 +16,9 @@ pub const COUNT_SIZE: usize = 4;
 // The bytes before a segment's elements.
 pub const SEGMENT_HEADER: usize = 8;
 
+// So many segment starts of a region are kept: those of all segments, or of every second, fourth ..
+pub const SAMPLES: usize = 1024;
+
 // A region of the file: its offset, its segment count, and how its samples are spaced.
 pub struct Region {
     pub at: usize,
@@ -55,7 +58,7 @@ pub fn next_start(b: &[u8], p: usize, size: usize) -> usize
 }
 
 // Refusals 2 and 5 of segment s, which starts at p.
-fn segment(b: &[u8], at: usize, size: usize, s: usize, p: usize) -> Scan
+fn check_segment(b: &[u8], at: usize, size: usize, s: usize, p: usize) -> Scan
     requires { ⌜ (size ≤ 24) × (p ≡ startOf size (now b) at s) × (p ≤ length (now b)) ⌝ }
     ensures { λ r. ⌜ r ≡ scanned (firstFault (segmentChecks size (now (b .entry)) at s)) (startOf size (now (b .entry)) at (s + 1)) ⌝ }
 {
@@ -97,7 +100,7 @@ pub fn lay(b: &[u8], at: usize, size: usize) -> Scan
     let mut p = at + COUNT_SIZE;
     let mut s = 0;
     while s < n {
-        match segment(b, at, size, s, p) {
+        match check_segment(b, at, size, s, p) {
             Scan::End(q) => {
                 p = q;
             }
@@ -118,7 +121,7 @@ pub fn mapped(b: &[u8], at: usize, size: usize) -> Region
     let count = le::u32_at(b, at);
     let mut shift = 0u32;
     let mut mask = 0usize;
-    while 1024 * (mask + 1) < count {
+    while SAMPLES * (mask + 1) < count {
         mask = mask * 2 + 1;
         shift += 1;
     }
@@ -131,7 +134,7 @@ pub fn mapped(b: &[u8], at: usize, size: usize) -> Region
 }
 
 // Fills the samples of segment starts.
-pub fn sample_starts(b: &[u8], r: Region, size: usize, segments: &mut [u32; 1024])
+pub fn sample_starts(b: &[u8], r: Region, size: usize, segments: &mut [u32; SAMPLES])
     requires { ⌜ Mapped size (now b) (r .at) r × (length (now segments) ≡ 1024) ⌝ }
     ensures { λ _. ⌜ Starts size (now (b .entry)) (r .at) (r .shift) (now (segments .exit)) ⌝ }
 {
@@ -148,7 +151,7 @@ pub fn sample_starts(b: &[u8], r: Region, size: usize, segments: &mut [u32; 1024
 }
 
 // Fills the samples of used elements before a segment, and answers how many used elements there are.
-pub fn sample_counts(b: &[u8], r: Region, size: usize, counts: &mut [u32; 1024]) -> usize
+pub fn sample_counts(b: &[u8], r: Region, size: usize, counts: &mut [u32; SAMPLES]) -> usize
     requires { ⌜ Mapped size (now b) (r .at) r × (length (now counts) ≡ 1024) ⌝ }
     ensures { λ n. ⌜ (n ≡ totalOf size (now (b .entry)) (r .at)) × Counts size (now (b .entry)) (r .at) (r .shift) (now (counts .exit)) ⌝ }
 {
@@ -168,7 +171,7 @@ pub fn sample_counts(b: &[u8], r: Region, size: usize, counts: &mut [u32; 1024])
 }
 
 // Where segment seg starts: from the sample before it, at most mask headers on.
-pub fn locate(b: &[u8], r: Region, size: usize, segments: &[u32; 1024], seg: usize) -> usize
+pub fn locate(b: &[u8], r: Region, size: usize, segments: &[u32; SAMPLES], seg: usize) -> usize
     requires { ⌜ Mapped size (now b) (r .at) r × Starts size (now b) (r .at) (r .shift) (now segments) × (seg < r .count) ⌝ }
     ensures { λ p. ⌜ p ≡ startOf size (now (b .entry)) (r .at) seg ⌝ }
 {
@@ -186,7 +189,7 @@ pub fn range_at(
     b: &[u8],
     r: Region,
     size: usize,
-    segments: &[u32; 1024],
+    segments: &[u32; SAMPLES],
     seg: usize,
     el: usize,
     n: usize,
@@ -210,8 +213,8 @@ pub fn number(
     b: &[u8],
     r: Region,
     size: usize,
-    segments: &[u32; 1024],
-    counts: &[u32; 1024],
+    segments: &[u32; SAMPLES],
+    counts: &[u32; SAMPLES],
     seg: usize,
     el: usize,
 ) -> usize

@@ -17,7 +17,7 @@ use Rattle.layout.specs.Table.{Table, entries, hashOf}
 use Rattle.strings.specs.Texts.{textOf}
 use Rattle.strings.specs.Order.{allEntryChecks}
 use Rattle.strings.proofs.Only.{hash-of}
-use Rattle.search.specs.inner.LowerBound.{LowerBound, Near, few, eight, halved, countBelow, atMost, countFew, Settled}
+use Rattle.search.specs.inner.LowerBound.{LowerBound, Near, few, eight, halved, countBelow, orLast, countFew, Settled}
 use Rattle.search.proofs.Halves.{bucket-ascends, halved-lower}
 
 -- in a bucket by another name
@@ -154,67 +154,67 @@ module _ (w c n x y : ℕ) (l : w + 8 ≤ n) (a : c ≡ 0 → x ≡ w) (b : (c �
 -- ---- all of few, the last one as often as it takes
 
 module _ (n : ℕ) where
-  pub at-most-low : (i : ℕ) → i < n → i ≡ atMost i n
-  unfolding atMost
-  at-most-low i l = rw (lt-ltb i n l)
+  pub or-last-low : (i : ℕ) → i < n → i ≡ orLast i n
+  unfolding orLast
+  or-last-low i l = rw (lt-ltb i n l)
 
-  pub at-most-high : (i : ℕ) → n ≤ i → n - 1 ≡ atMost i n
-  unfolding atMost
-  at-most-high i l = rw (le-ltb i n l)
+  pub or-last-high : (i : ℕ) → n ≤ i → n - 1 ≡ orLast i n
+  unfolding orLast
+  or-last-high i l = rw (le-ltb i n l)
 
-  at-most-in : (i : ℕ) → 1 ≤ n → atMost i n < n
-  at-most-in i a = ⊎-elim (λ l. omega (arith, at-most-high i l)) (λ l. omega (arith, at-most-low i l)) (le-or-lt n i)
+  or-last-in : (i : ℕ) → 1 ≤ n → orLast i n < n
+  or-last-in i a = ⊎-elim (λ l. omega (arith, or-last-high i l)) (λ l. omega (arith, or-last-low i l)) (le-or-lt n i)
 
-  pub at-most-less : (i j : ℕ) → 1 ≤ n → j ≡ atMost i n → j < n
-  at-most-less i j a e = omega (arith, e, at-most-in i a)
+  pub or-last-less : (i j : ℕ) → 1 ≤ n → j ≡ orLast i n → j < n
+  or-last-less i j a e = omega (arith, e, or-last-in i a)
 
-  at-most-order : (i j : ℕ) → i ≤ j → atMost i n ≤ atMost j n
-  at-most-order i j l =
+  or-last-order : (i j : ℕ) → i ≤ j → orLast i n ≤ orLast j n
+  or-last-order i j l =
       ⊎-elim
       (λ p. ⊎-elim
-      (λ q. omega (arith, at-most-high i q, at-most-high j p))
-      (λ q. omega (arith, at-most-low i q, at-most-high j p))
+      (λ q. omega (arith, or-last-high i q, or-last-high j p))
+      (λ q. omega (arith, or-last-low i q, or-last-high j p))
       (le-or-lt n i))
-      (λ p. omega (arith, at-most-low i (omega arith), at-most-low j p))
+      (λ p. omega (arith, or-last-low i (omega arith), or-last-low j p))
       (le-or-lt n j)
 
 module _ (f : ℕ → ℕ) (n x : ℕ) where
   -- what eight reads come to: c of them are below
-  module _ (c : ℕ) (e : c ≡ countBelow (λ i. f (atMost i n)) x 0 8) where
+  module _ (c : ℕ) (e : c ≡ countBelow (λ i. f (orLast i n)) x 0 8) where
     pub few-less : c < n → c ≡ countFew f x n
     unfolding countFew
-    few-less l = rw (lt-ltb (countBelow (λ i. f (atMost i n)) x 0 8) n (omega arith)) e
+    few-less l = rw (lt-ltb (countBelow (λ i. f (orLast i n)) x 0 8) n (omega arith)) e
 
     pub few-all : n ≤ c → n ≡ countFew f x n
     unfolding countFew
-    few-all l = rw (le-ltb (countBelow (λ i. f (atMost i n)) x 0 8) n (omega arith))
+    few-all l = rw (le-ltb (countBelow (λ i. f (orLast i n)) x 0 8) n (omega arith))
 
 module _ (f : ℕ → ℕ) (n x : ℕ) (up : Ascending f n) where
-  capped-up : 1 ≤ n → Ascending (λ i. f (atMost i n)) 8
-  capped-up a i j l _ = up (atMost i n) (atMost j n) (at-most-order n i j l) (at-most-in n j a)
+  capped-up : 1 ≤ n → Ascending (λ i. f (orLast i n)) 8
+  capped-up a i j l _ = up (orLast i n) (orLast j n) (or-last-order n i j l) (or-last-in n j a)
 
-  module _ (l : n ≤ 8) (c : ℕ) (k : Counted (λ i. f (atMost i n)) x 0 8 c) where
+  module _ (l : n ≤ 8) (c : ℕ) (k : Counted (λ i. f (orLast i n)) x 0 8 c) where
     few-some : c < n → FirstNotBelow f n x c
     few-some a = record {
       upto = omega arith;
-      below = λ m d. subst (λ (i : ℕ). f i < x) (sym (at-most-low n m (omega arith))) (k .below m (omega arith) (omega arith));
-      above = λ m d e. subst (λ (i : ℕ). x ≤ f i) (sym (at-most-low n m e)) (k .above m (omega arith) (omega arith));
+      below = λ m d. subst (λ (i : ℕ). f i < x) (sym (or-last-low n m (omega arith))) (k .below m (omega arith) (omega arith));
+      above = λ m d e. subst (λ (i : ℕ). x ≤ f i) (sym (or-last-low n m e)) (k .above m (omega arith) (omega arith));
     }
 
     few-every : n ≤ c → FirstNotBelow f n x n
     few-every a = record {
       upto = omega arith;
-      below = λ m d. subst (λ (i : ℕ). f i < x) (sym (at-most-low n m d)) (k .below m (omega arith) (omega arith));
+      below = λ m d. subst (λ (i : ℕ). f i < x) (sym (or-last-low n m d)) (k .below m (omega arith) (omega arith));
       above = λ m d e. absurd (omega arith);
     }
 
   few-counted : n ≤ 8 → 1 ≤ n → FirstNotBelow f n x (countFew f x n)
   few-counted l a =
-      let k = counted (λ i. f (atMost i n)) 8 x 0 (capped-up a) 8 (omega arith) in
+      let k = counted (λ i. f (orLast i n)) 8 x 0 (capped-up a) 8 (omega arith) in
       ⊎-elim
       (λ g. rw (← few-all f n x _ refl g) (few-every l _ k g))
       (λ g. rw (← few-less f n x _ refl g) (few-some l _ k g))
-      (le-or-lt n (countBelow (λ i. f (atMost i n)) x 0 8))
+      (le-or-lt n (countBelow (λ i. f (orLast i n)) x 0 8))
 
   few-none : n ≤ 0 → FirstNotBelow f n x (countFew f x n)
   few-none a =
@@ -227,8 +227,8 @@ module _ (f : ℕ → ℕ) (n x : ℕ) (up : Ascending f n) where
 -- ---- in a bucket
 
 -- the hash that is read at place i, or at the last one
-pub few-read : (t : Table) (k n i j y : ℕ) → j ≡ atMost i n → y ≡ hashOf t k j → y ≡ hashOf t k (atMost (0 + i) n)
-few-read t k n i j y p e = e ∙ ap (hashOf t k) (p ∙ ap (λ (m : ℕ). atMost m n) (omega arith))
+pub few-read : (t : Table) (k n i j y : ℕ) → j ≡ orLast i n → y ≡ hashOf t k j → y ≡ hashOf t k (orLast (0 + i) n)
+few-read t k n i j y p e = e ∙ ap (hashOf t k) (p ∙ ap (λ (m : ℕ). orLast m n) (omega arith))
 
 -- the ways to find it
 module _ (t : Table) (k h n : ℕ) (q : n ≡ entries t k) where

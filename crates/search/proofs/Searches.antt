@@ -15,7 +15,7 @@ use Rattle.hash.specs.Hash.{bucketOf}
 use Rattle.layout.specs.Table.{Table, entries, hashOf}
 use Rattle.strings.specs.Order.{allEntryChecks}
 use Rattle.search.specs.inner.LowerBound.{Near, halved, Searching, told, going-on}
-use Rattle.search.specs.inner.Group.{LowerBounds, NearAt, AllNear, SearchingAt, AllSearching, Advanced, Listed, ListedFrom, Looked, Gathered}
+use Rattle.search.specs.inner.Group.{LowerBounds, NearAt, AllNear, SearchingAt, AllSearching, Advanced, ListedBelow, ListedFrom, Looked, Gathered}
 use Rattle.search.proofs.Nearby.{near-place}
 
 -- ---- one search
@@ -86,11 +86,11 @@ module _ (n j : ℕ) where
 
 -- ---- the list of those that are not found yet
 
-pub listed-none : (n : ℕ) (xs : List ℕ) → length xs ≡ 64 → Listed n 0 xs
+pub listed-none : (n : ℕ) (xs : List ℕ) → length xs ≡ 64 → ListedBelow n 0 xs
 listed-none n xs e = record { long = e; few = omega arith; each = below-none _ }
 
-module _ (n m : ℕ) (xs : List ℕ) (r : Listed n m xs) where
-  pub listed-wider : (k : ℕ) → n ≤ k → Listed k m xs
+module _ (n m : ℕ) (xs : List ℕ) (r : ListedBelow n m xs) where
+  pub listed-wider : (k : ℕ) → n ≤ k → ListedBelow k m xs
   listed-wider k l = record { long = r .long; few = r .few; each = λ i a. omega (arith, r .each i a) }
 
 -- ---- the searches of many hashes

@@ -13,6 +13,7 @@ ghost use Rattle.strings.specs.inner.Held.{Held, heldTable};
 ghost use Rattle.search.specs.inner.Group.{LowerBounds, Looked, Estimated, Within, Lengths};
 use crate::near;
 use crate::pending;
+use region::SAMPLES;
 use strings::Strings;
 use strings::entry;
 
@@ -26,7 +27,13 @@ struct Estimate {
 }
 
 // Whether the buckets of a table take that many bytes: where they do, most looks at what they lead to would wait for memory.
-pub fn spread(b: &[u8], s: Strings, segments: &[u32; 1024], buckets: &[u32], bytes: usize) -> bool
+pub fn spread(
+    b: &[u8],
+    s: Strings,
+    segments: &[u32; SAMPLES],
+    buckets: &[u32],
+    bytes: usize,
+) -> bool
     requires { ⌜ Held (now b) s (now segments) (now buckets) ⌝ }
     ensures { λ r. ⌜ Tells (bucketAt (heldTable (now (b .entry)) s (now (buckets .entry))) 0 + bytes ≤ s .list) r ⌝ }
 {
@@ -40,7 +47,7 @@ pub fn spread(b: &[u8], s: Strings, segments: &[u32; 1024], buckets: &[u32], byt
 fn estimate_at(
     b: &[u8],
     s: Strings,
-    segments: &[u32; 1024],
+    segments: &[u32; SAMPLES],
     buckets: &[u32],
     h: usize,
     g: usize,
@@ -69,7 +76,7 @@ fn estimate_at(
 fn estimate_each(
     b: &[u8],
     s: Strings,
-    segments: &[u32; 1024],
+    segments: &[u32; SAMPLES],
     buckets: &[u32],
     hashes: &[u32; 64],
     n: usize,
@@ -115,7 +122,7 @@ fn probe(b: &[u8], n: usize, at: &[u32; 64], met: &mut [u32; 64])
 fn refine(
     b: &[u8],
     s: Strings,
-    segments: &[u32; 1024],
+    segments: &[u32; SAMPLES],
     buckets: &[u32],
     hashes: &[u32; 64],
     n: usize,
@@ -147,7 +154,7 @@ struct Window {
 fn window_at(
     b: &[u8],
     s: Strings,
-    segments: &[u32; 1024],
+    segments: &[u32; SAMPLES],
     buckets: &[u32],
     h: usize,
     g: usize,
@@ -180,7 +187,7 @@ fn window_at(
 fn find_windows(
     b: &[u8],
     s: Strings,
-    segments: &[u32; 1024],
+    segments: &[u32; SAMPLES],
     buckets: &[u32],
     hashes: &[u32; 64],
     n: usize,
@@ -215,7 +222,7 @@ fn find_windows(
 fn probe_windows(
     b: &[u8],
     s: Strings,
-    segments: &[u32; 1024],
+    segments: &[u32; SAMPLES],
     buckets: &[u32],
     hashes: &[u32; 64],
     n: usize,
@@ -290,7 +297,7 @@ fn shift_each(
 fn estimate_windows(
     b: &[u8],
     s: Strings,
-    segments: &[u32; 1024],
+    segments: &[u32; SAMPLES],
     buckets: &[u32],
     hashes: &[u32; 64],
     n: usize,
@@ -322,7 +329,7 @@ fn estimate_windows(
 fn probe_each(
     b: &[u8],
     s: Strings,
-    segments: &[u32; 1024],
+    segments: &[u32; SAMPLES],
     buckets: &[u32],
     hashes: &[u32; 64],
     n: usize,
@@ -354,7 +361,7 @@ fn probe_each(
 pub fn lower_bounds(
     b: &[u8],
     s: Strings,
-    segments: &[u32; 1024],
+    segments: &[u32; SAMPLES],
     buckets: &[u32],
     hashes: &[u32; 64],
     n: usize,

@@ -11,6 +11,7 @@ mod near;
 mod pending;
 pub mod run;
 
+use region::SAMPLES;
 use strings::Strings;
 use strings::entry;
 use strings::fields;
@@ -56,7 +57,7 @@ fn rounds(n: usize) -> usize
 pub fn lower_bound(
     b: &[u8],
     s: Strings,
-    segments: &[u32; 1024],
+    segments: &[u32; SAMPLES],
     buckets: &[u32],
     k: usize,
     h: usize,

@@ -5,7 +5,8 @@ ghost use lib.ListN.{length};
 ghost use Rattle.verdict.specs.inner.Tells.{Tells};
 ghost use Rattle.layout.specs.Table.{entries, hashOf};
 ghost use Rattle.strings.specs.inner.Held.{Held, heldTable};
-ghost use Rattle.search.specs.inner.LowerBound.{Near, countBelow, atMost, countFew, Settled};
+ghost use Rattle.search.specs.inner.LowerBound.{Near, countBelow, orLast, countFew, Settled};
+use region::SAMPLES;
 use strings::Strings;
 use strings::entry;
 use strings::fields;
@@ -18,7 +19,7 @@ pub const NOT_TOLD: usize = 4294967295;
 fn count_below(
     b: &[u8],
     s: Strings,
-    segments: &[u32; 1024],
+    segments: &[u32; SAMPLES],
     buckets: &[u32],
     k: usize,
     h: usize,
@@ -41,9 +42,9 @@ fn count_below(
 }
 
 // Entry i of n, or the last one.
-fn at_most(i: usize, n: usize) -> usize
+fn or_last(i: usize, n: usize) -> usize
     requires { ⌜ 1 ≤ n ⌝ }
-    ensures { λ r. ⌜ r ≡ atMost i n ⌝ }
+    ensures { λ r. ⌜ r ≡ orLast i n ⌝ }
 {
     if i < n { i } else { n - 1 }
 }
@@ -53,7 +54,7 @@ fn at_most(i: usize, n: usize) -> usize
 fn count_few(
     b: &[u8],
     s: Strings,
-    segments: &[u32; 1024],
+    segments: &[u32; SAMPLES],
     buckets: &[u32],
     k: usize,
     h: usize,
@@ -66,7 +67,7 @@ fn count_few(
     let mut c = 0usize;
     let mut i = 0;
     while i < 8 {
-        let e = entry::entry_at(b, s, segments, buckets, k, at_most(i, n));
+        let e = entry::entry_at(b, s, segments, buckets, k, or_last(i, n));
         if fields::hash(b, e) < h {
             c += 1;
         }
@@ -98,7 +99,7 @@ fn settled(w: usize, c: usize, n: usize) -> bool
 pub fn probe_near(
     b: &[u8],
     s: Strings,
-    segments: &[u32; 1024],
+    segments: &[u32; SAMPLES],
     buckets: &[u32],
     k: usize,
     h: usize,

@@ -6,8 +6,9 @@ ghost use lib.ListN.{length, getD};
 ghost use Rattle.strings.specs.inner.Held.{Held, heldTable};
 ghost use Rattle.hash.specs.Hash.{bucketOf};
 ghost use Rattle.search.specs.inner.LowerBound.{Near, Searching};
-ghost use Rattle.search.specs.inner.Group.{SearchingAt, AllSearching, Advanced, Listed, Gathered, Looked, AllNear, Lengths};
+ghost use Rattle.search.specs.inner.Group.{SearchingAt, AllSearching, Advanced, ListedBelow, Gathered, Looked, AllNear, Lengths};
 use crate::Bounds;
+use region::SAMPLES;
 use strings::Strings;
 use strings::entry;
 use strings::fields;
@@ -16,7 +17,7 @@ use strings::fields;
 fn halve(
     b: &[u8],
     s: Strings,
-    segments: &[u32; 1024],
+    segments: &[u32; SAMPLES],
     buckets: &[u32],
     h: usize,
     lo: usize,
@@ -43,7 +44,7 @@ fn halve(
 fn advance(
     b: &[u8],
     s: Strings,
-    segments: &[u32; 1024],
+    segments: &[u32; SAMPLES],
     buckets: &[u32],
     hashes: &[u32; 64],
     low: &mut [usize; 64],
@@ -73,7 +74,7 @@ fn advance(
 fn halve_all(
     b: &[u8],
     s: Strings,
-    segments: &[u32; 1024],
+    segments: &[u32; SAMPLES],
     buckets: &[u32],
     hashes: &[u32; 64],
     n: usize,
@@ -106,7 +107,7 @@ fn halve_all(
 fn finish(
     b: &[u8],
     s: Strings,
-    segments: &[u32; 1024],
+    segments: &[u32; SAMPLES],
     buckets: &[u32],
     h: usize,
     lo: usize,
@@ -125,7 +126,7 @@ fn finish(
 
 // The hashes at the first m places of a list.
 fn gather(hashes: &[u32; 64], which: &[usize; 64], m: usize, rest: &mut [u32; 64])
-    requires { ⌜ (length (now hashes) ≡ 64) × Listed 64 m (now which) × (length (now rest) ≡ 64) ⌝ }
+    requires { ⌜ (length (now hashes) ≡ 64) × ListedBelow 64 m (now which) × (length (now rest) ≡ 64) ⌝ }
     ensures { λ _. ⌜ Gathered (now (hashes .entry)) (now (which .entry)) m (now (rest .exit)) ⌝ }
 {
     let mut i = 0;
@@ -139,7 +140,7 @@ fn gather(hashes: &[u32; 64], which: &[usize; 64], m: usize, rest: &mut [u32; 64
 fn begin_each(
     b: &[u8],
     s: Strings,
-    segments: &[u32; 1024],
+    segments: &[u32; SAMPLES],
     buckets: &[u32],
     hashes: &[u32; 64],
     n: usize,
@@ -162,7 +163,7 @@ fn begin_each(
 pub fn find_all(
     b: &[u8],
     s: Strings,
-    segments: &[u32; 1024],
+    segments: &[u32; SAMPLES],
     buckets: &[u32],
     hashes: &[u32; 64],
     n: usize,
@@ -186,7 +187,7 @@ pub fn find_all(
 pub fn find_rest(
     b: &[u8],
     s: Strings,
-    segments: &[u32; 1024],
+    segments: &[u32; SAMPLES],
     buckets: &[u32],
     hashes: &[u32; 64],
     n: usize,

@@ -8,6 +8,7 @@ ghost use Rattle.strings.specs.Order.{allEntryChecks};
 ghost use Rattle.strings.specs.inner.Held.{Held, heldTable};
 ghost use Rattle.search.specs.inner.LowerBound.{LowerBound};
 ghost use Rattle.search.specs.inner.Run.{Meets};
+use region::SAMPLES;
 use strings::Strings;
 use strings::entry;
 use strings::fields;
@@ -17,7 +18,7 @@ use strings::fields;
 pub fn run_has(
     b: &[u8],
     s: Strings,
-    segments: &[u32; 1024],
+    segments: &[u32; SAMPLES],
     buckets: &[u32],
     k: usize,
     h: usize,

@@ -12,6 +12,7 @@ use crate::entry;
 use crate::fields;
 use crate::spot;
 use crate::spot::Spot;
+use region::SAMPLES;
 
 // The spot of an entry's text. Where its address does not resolve, no characters are left.
 pub struct TextSpan {
@@ -66,7 +67,7 @@ fn touch_whole(b: &[u8], p: usize, n: usize, len: usize) -> usize
 fn text_span_at(
     b: &[u8],
     s: Strings,
-    segments: &[u32; 1024],
+    segments: &[u32; SAMPLES],
     buckets: &[u32],
     k: usize,
     j: usize,
@@ -86,7 +87,7 @@ fn text_span_at(
 fn find_text_spans(
     b: &[u8],
     s: Strings,
-    segments: &[u32; 1024],
+    segments: &[u32; SAMPLES],
     buckets: &[u32],
     k: usize,
     j: usize,
@@ -112,7 +113,7 @@ fn find_text_spans(
 fn load_ahead(
     b: &[u8],
     s: Strings,
-    segments: &[u32; 1024],
+    segments: &[u32; SAMPLES],
     buckets: &[u32],
     k: usize,
     j: usize,
@@ -139,7 +140,7 @@ fn load_ahead(
 pub(crate) fn keep_ahead(
     b: &[u8],
     s: Strings,
-    segments: &[u32; 1024],
+    segments: &[u32; SAMPLES],
     buckets: &[u32],
     k: usize,
     n: usize,

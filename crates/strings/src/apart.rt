@@ -14,6 +14,7 @@ use crate::entry;
 use crate::fields;
 use crate::spot;
 use crate::spot::Spot;
+use region::SAMPLES;
 
 // Entries of one bucket that have different texts: those from start on, before end.
 pub struct Span {
@@ -31,7 +32,7 @@ pub struct Round {
 fn fingerprint_at(
     b: &[u8],
     s: Strings,
-    segments: &[u32; 1024],
+    segments: &[u32; SAMPLES],
     buckets: &[u32],
     k: usize,
     j: usize,
@@ -58,7 +59,7 @@ fn fingerprint_at(
 fn met(
     b: &[u8],
     s: Strings,
-    segments: &[u32; 1024],
+    segments: &[u32; SAMPLES],
     buckets: &[u32],
     k: usize,
     from: usize,
@@ -85,7 +86,7 @@ fn met(
 fn collect(
     b: &[u8],
     s: Strings,
-    segments: &[u32; 1024],
+    segments: &[u32; SAMPLES],
     buckets: &[u32],
     k: usize,
     from: usize,
@@ -113,7 +114,7 @@ fn collect(
 fn sift(
     b: &[u8],
     s: Strings,
-    segments: &[u32; 1024],
+    segments: &[u32; SAMPLES],
     buckets: &[u32],
     k: usize,
     from: usize,
@@ -141,7 +142,7 @@ fn sift(
 fn sift_some(
     b: &[u8],
     s: Strings,
-    segments: &[u32; 1024],
+    segments: &[u32; SAMPLES],
     buckets: &[u32],
     k: usize,
     from: usize,
@@ -162,7 +163,7 @@ fn sift_some(
 pub(crate) fn apart_until(
     b: &[u8],
     s: Strings,
-    segments: &[u32; 1024],
+    segments: &[u32; SAMPLES],
     buckets: &[u32],
     k: usize,
     from: usize,
@@ -186,7 +187,7 @@ pub(crate) fn apart_until(
 fn run_start(
     b: &[u8],
     s: Strings,
-    segments: &[u32; 1024],
+    segments: &[u32; SAMPLES],
     buckets: &[u32],
     k: usize,
     j: usize,
@@ -210,7 +211,7 @@ fn run_start(
 fn run_end(
     b: &[u8],
     s: Strings,
-    segments: &[u32; 1024],
+    segments: &[u32; SAMPLES],
     buckets: &[u32],
     k: usize,
     n: usize,
@@ -237,7 +238,7 @@ fn run_end(
 pub(crate) fn span_at(
     b: &[u8],
     s: Strings,
-    segments: &[u32; 1024],
+    segments: &[u32; SAMPLES],
     buckets: &[u32],
     k: usize,
     n: usize,

@@ -21,13 +21,14 @@ use crate::spot::Spot;
 use layout::BUCKET_COUNT_SIZE;
 use layout::ENTRY_SIZE;
 use layout::POSITION_SIZE;
+use region::SAMPLES;
 use verdict::Verdict;
 
 // Where entry j of bucket k stands.
 pub fn entry_at(
     b: &[u8],
     s: Strings,
-    segments: &[u32; 1024],
+    segments: &[u32; SAMPLES],
     buckets: &[u32],
     k: usize,
     j: usize,
@@ -40,7 +41,13 @@ pub fn entry_at(
 
 // The number of entries of bucket k: as many as fit between its start and where the next bucket starts, or the address count. The starts are
 // near, while the count in the file may have to be waited for.
-pub fn entry_count(b: &[u8], s: Strings, segments: &[u32; 1024], buckets: &[u32], k: usize) -> usize
+pub fn entry_count(
+    b: &[u8],
+    s: Strings,
+    segments: &[u32; SAMPLES],
+    buckets: &[u32],
+    k: usize,
+) -> usize
     requires { ⌜ Held (now b) s (now segments) (now buckets) × (k < length (now buckets)) ⌝ }
     ensures { λ r. ⌜ r ≡ entries (heldTable (now (b .entry)) s (now (buckets .entry))) k ⌝ }
 {
@@ -52,7 +59,13 @@ pub fn entry_count(b: &[u8], s: Strings, segments: &[u32; 1024], buckets: &[u32]
 }
 
 // Where list position i stands.
-pub fn position_at(b: &[u8], s: Strings, segments: &[u32; 1024], buckets: &[u32], i: usize) -> usize
+pub fn position_at(
+    b: &[u8],
+    s: Strings,
+    segments: &[u32; SAMPLES],
+    buckets: &[u32],
+    i: usize,
+) -> usize
     requires { ⌜ Held (now b) s (now segments) (now buckets) × (i < count (heldTable (now b) s (now buckets))) ⌝ }
     ensures { λ r. ⌜ (r ≡ positionAt (heldTable (now (b .entry)) s (now (buckets .entry))) i) × (r + 4 ≤ length (now (b .entry))) ⌝ }
 {
@@ -60,7 +73,13 @@ pub fn position_at(b: &[u8], s: Strings, segments: &[u32; 1024], buckets: &[u32]
 }
 
 // The spot of the address at list position i.
-pub fn listed_spot(b: &[u8], s: Strings, segments: &[u32; 1024], buckets: &[u32], i: usize) -> Spot
+pub fn listed_spot(
+    b: &[u8],
+    s: Strings,
+    segments: &[u32; SAMPLES],
+    buckets: &[u32],
+    i: usize,
+) -> Spot
     requires { ⌜ Held (now b) s (now segments) (now buckets) × (i < count (heldTable (now b) s (now buckets))) ⌝ }
     ensures { λ r. ⌜ r ≡ spotAt (now (b .entry)) (s .chars .at) (listedSegment (heldTable (now (b .entry)) s (now (buckets .entry))) i)
         (listedElement (heldTable (now (b .entry)) s (now (buckets .entry))) i) ⌝ }
@@ -74,7 +93,14 @@ pub fn listed_spot(b: &[u8], s: Strings, segments: &[u32; 1024], buckets: &[u32]
 }
 
 // Refusal 10 is not due.
-fn placed(b: &[u8], s: Strings, segments: &[u32; 1024], buckets: &[u32], k: usize, j: usize) -> bool
+fn placed(
+    b: &[u8],
+    s: Strings,
+    segments: &[u32; SAMPLES],
+    buckets: &[u32],
+    k: usize,
+    j: usize,
+) -> bool
     requires { ⌜ Held (now b) s (now segments) (now buckets) × Here (heldTable (now b) s (now buckets)) k j ⌝ }
     ensures { λ r. ⌜ Tells (Placed (heldTable (now (b .entry)) s (now (buckets .entry))) k j) r ⌝ }
 {
@@ -93,7 +119,7 @@ fn placed(b: &[u8], s: Strings, segments: &[u32; 1024], buckets: &[u32], k: usiz
 pub(crate) fn indexed(
     b: &[u8],
     s: Strings,
-    segments: &[u32; 1024],
+    segments: &[u32; SAMPLES],
     buckets: &[u32],
     k: usize,
     j: usize,
@@ -121,7 +147,7 @@ pub(crate) fn indexed(
 pub(crate) fn same_text(
     b: &[u8],
     s: Strings,
-    segments: &[u32; 1024],
+    segments: &[u32; SAMPLES],
     buckets: &[u32],
     k: usize,
     i: usize,
@@ -152,7 +178,7 @@ pub(crate) fn same_text(
 fn duplicate(
     b: &[u8],
     s: Strings,
-    segments: &[u32; 1024],
+    segments: &[u32; SAMPLES],
     buckets: &[u32],
     k: usize,
     j: usize,
@@ -182,7 +208,7 @@ fn duplicate(
 fn check_order(
     b: &[u8],
     s: Strings,
-    segments: &[u32; 1024],
+    segments: &[u32; SAMPLES],
     buckets: &[u32],
     k: usize,
     j: usize,
@@ -212,7 +238,7 @@ fn check_order(
 fn index_passes(
     b: &[u8],
     s: Strings,
-    segments: &[u32; 1024],
+    segments: &[u32; SAMPLES],
     buckets: &[u32],
     k: usize,
     j: usize,
@@ -233,7 +259,7 @@ pub(crate) fn check_entry(
     b: &[u8],
     t: &[u32; 2048],
     s: Strings,
-    segments: &[u32; 1024],
+    segments: &[u32; SAMPLES],
     buckets: &[u32],
     k: usize,
     j: usize,

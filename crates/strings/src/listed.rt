@@ -7,9 +7,10 @@ ghost use Rattle.strings.specs.inner.Held.{Held, heldTable};
 ghost use Rattle.strings.specs.inner.Ahead.{BucketIndexed, AllIndexed};
 use crate::Strings;
 use crate::entry;
+use region::SAMPLES;
 
 // Whether the indices of bucket k are right.
-fn bucket_listed(b: &[u8], s: Strings, segments: &[u32; 1024], buckets: &[u32], k: usize) -> bool
+fn bucket_listed(b: &[u8], s: Strings, segments: &[u32; SAMPLES], buckets: &[u32], k: usize) -> bool
     requires { ⌜ Held (now b) s (now segments) (now buckets) × (k < length (now buckets)) ⌝ }
     ensures { λ r. ⌜ Sure (BucketIndexed (heldTable (now (b .entry)) s (now (buckets .entry))) k) r ⌝ }
 {
@@ -25,7 +26,7 @@ fn bucket_listed(b: &[u8], s: Strings, segments: &[u32; 1024], buckets: &[u32], 
 }
 
 // Whether those of every bucket are. False tells only that some entry is at fault, and not which fault comes first.
-pub fn all_listed(b: &[u8], s: Strings, segments: &[u32; 1024], buckets: &[u32]) -> bool
+pub fn all_listed(b: &[u8], s: Strings, segments: &[u32; SAMPLES], buckets: &[u32]) -> bool
     requires { ⌜ Held (now b) s (now segments) (now buckets) ⌝ }
     ensures { λ r. ⌜ Sure (AllIndexed (heldTable (now (b .entry)) s (now (buckets .entry)))) r ⌝ }
 {

@@ -9,6 +9,7 @@ ghost use Rattle.strings.specs.Texts.{spotAt};
 use crate::fields;
 use layout::CHARACTER_SIZE;
 use region::Region;
+use region::SAMPLES;
 
 // Where the element number stands in an address, behind the segment number.
 pub const ELEMENT_AT: usize = 2;
@@ -20,7 +21,7 @@ pub enum Spot {
 }
 
 // The spot of an address, or nowhere where it does not resolve.
-pub fn spot_at(b: &[u8], chars: Region, segments: &[u32; 1024], seg: usize, el: usize) -> Spot
+pub fn spot_at(b: &[u8], chars: Region, segments: &[u32; SAMPLES], seg: usize, el: usize) -> Spot
     requires { ⌜ Mapped 2 (now b) (chars .at) chars × Starts 2 (now b) (chars .at) (chars .shift) (now segments) × (el < 65536) ⌝ }
     ensures { λ r. ⌜ r ≡ spotAt (now (b .entry)) (chars .at) seg el ⌝ }
 {
@@ -36,7 +37,7 @@ pub fn spot_at(b: &[u8], chars: Region, segments: &[u32; 1024], seg: usize, el: 
 }
 
 // The same for the address that stands at an offset of the file: a list position's, or an attribute's.
-pub fn spot_to(b: &[u8], chars: Region, segments: &[u32; 1024], at: usize) -> Spot
+pub fn spot_to(b: &[u8], chars: Region, segments: &[u32; SAMPLES], at: usize) -> Spot
     requires { ⌜ Mapped 2 (now b) (chars .at) chars × Starts 2 (now b) (chars .at) (chars .shift) (now segments) × (at + 4 ≤ length (now b)) ⌝ }
     ensures { λ r. ⌜ r ≡ spotAt (now (b .entry)) (chars .at) (u16At (now (b .entry)) at) (u16At (now (b .entry)) (at + 2)) ⌝ }
 {
@@ -50,7 +51,7 @@ pub fn spot_to(b: &[u8], chars: Region, segments: &[u32; 1024], at: usize) -> Sp
 }
 
 // The same for the address of the entry at e.
-pub fn entry_spot(b: &[u8], chars: Region, segments: &[u32; 1024], e: usize) -> Spot
+pub fn entry_spot(b: &[u8], chars: Region, segments: &[u32; SAMPLES], e: usize) -> Spot
     requires { ⌜ Mapped 2 (now b) (chars .at) chars × Starts 2 (now b) (chars .at) (chars .shift) (now segments) × (e + 16 ≤ length (now b)) ⌝ }
     ensures { λ r. ⌜ r ≡ spotAt (now (b .entry)) (chars .at) (entrySegment (now (b .entry)) e) (entryElement (now (b .entry)) e) ⌝ }
 {

@@ -17,6 +17,7 @@ use crate::apart::Span;
 use crate::entry;
 use crate::fields;
 use crate::listed;
+use region::SAMPLES;
 use verdict::Verdict;
 
 // What is found of the entries: the first fault, and whether their texts are known to stand where texts can begin.
@@ -29,7 +30,7 @@ pub struct CheckedEntries {
 fn still_begun(
     b: &[u8],
     s: Strings,
-    segments: &[u32; 1024],
+    segments: &[u32; SAMPLES],
     buckets: &[u32],
     k: usize,
     j: usize,
@@ -56,7 +57,7 @@ pub fn check_entries(
     b: &[u8],
     t: &[u32; 2048],
     s: Strings,
-    segments: &[u32; 1024],
+    segments: &[u32; SAMPLES],
     buckets: &[u32],
 ) -> CheckedEntries
     requires { ⌜ Tables (now t) × Held (now b) s (now segments) (now buckets) ⌝ }

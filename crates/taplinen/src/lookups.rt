@@ -47,7 +47,7 @@ pub fn find(file: &[u8], v: View, kind: Kind, text: &[u8]) -> Lookup
 }
 
 // What each of many texts is told.
-pub fn find_each(file: &[u8], v: View, kind: Kind, texts: &[u8], answers: &mut [u8]) -> Batch
+pub fn find_texts(file: &[u8], v: View, kind: Kind, texts: &[u8], answers: &mut [u8]) -> Batch
     requires { ⌜ Fits Bits64 (now file) v × FileRules Bits64 (now file) ⌝ }
     ensures answer { λ r. ⌜ Answered (now (texts .entry)) (length (now (answers .entry))) r ⌝ }
     ensures answers { λ r. ⌜ now (answers .exit)

@@ -11,7 +11,7 @@ use Rattle.verdict.proofs.Laws.{pass, stop, fault-none, never}
 use Rattle.layout.specs.declared.Edition.{Edition}
 use Rattle.tree.specs.declared.depth.Found.{Found}
 use Rattle.tree.specs.declared.depth.Found.the-variants.{At, Nothing}
-use Rattle.tree.specs.Chain.{LiveIn, ranged, ends, firstOr}
+use Rattle.tree.specs.Chain.{LiveIn, ranged, ends, firstOr, mostLevels}
 use Rattle.tree.specs.File.{nodeOf, treeOf}
 use Rattle.tree.specs.Rules.{FirstDeep}
 use Rattle.tree.specs.Order.{depthChecks}
@@ -90,25 +90,25 @@ module _ (ed : Edition) (b : List ℕ) where
   place-first (e ∷ l) q = (e, l, refl, (cc))
 
   -- nothing is found where no chain is too long
-  pub depth-clean : firstPlace ed b (ends (treeOf ed b) 64 0) ≡ Nothing → firstFault (depthChecks ed b) ≡ Accepted
+  pub depth-clean : firstPlace ed b (ends (treeOf ed b) mostLevels 0) ≡ Nothing → firstFault (depthChecks ed b) ≡ Accepted
   unfolding depthChecks
-  depth-clean q = pass _ _ _ _ _ (ends-none (treeOf ed b) 64 0 .0 (place-empty _ q)) ∙ fault-none
+  depth-clean q = pass _ _ _ _ _ (ends-none (treeOf ed b) mostLevels 0 .0 (place-empty _ q)) ∙ fault-none
 
   -- what is found is the place that 22 names
-  pub depth-fault : {p : ℕ} → firstPlace ed b (ends (treeOf ed b) 64 0) ≡ At p → firstFault (depthChecks ed b) ≡ Refused 22 p
+  pub depth-fault : {p : ℕ} → firstPlace ed b (ends (treeOf ed b) mostLevels 0) ≡ At p → firstFault (depthChecks ed b) ≡ Refused 22 p
   unfolding depthChecks firstOr
   depth-fault q =
       let f = place-first _ q in
-      stop _ _ _ _ _ (λ h. not-cons (sym (ends-none (treeOf ed b) 64 0 .1 h) ∙ f .2))
+      stop _ _ _ _ _ (λ h. not-cons (sym (ends-none (treeOf ed b) mostLevels 0 .1 h) ∙ f .2))
       ∙ ap (λ (l : List ℕ). Refused 22 (nodeOf ed b (firstOr 0 l))) (f .2) ∙ ap (Refused 22) (f .3)
 
   -- that place is the last node of the first chain of 65 nodes in document order
-  pub depth-first : {n p : ℕ} → firstFault (depthChecks ed b) ≡ Refused n p → (n ≡ 22) × ((e : ℕ) × (p ≡ nodeOf ed b e) × FirstDeep (treeOf ed b) 64 0 e)
-  depth-first {n} {p} q = go (firstPlace ed b (ends (treeOf ed b) 64 0)) refl
+  pub depth-first : {n p : ℕ} → firstFault (depthChecks ed b) ≡ Refused n p → (n ≡ 22) × ((e : ℕ) × (p ≡ nodeOf ed b e) × FirstDeep (treeOf ed b) mostLevels 0 e)
+  depth-first {n} {p} q = go (firstPlace ed b (ends (treeOf ed b) mostLevels 0)) refl
     where
-      go : (f : Found) → firstPlace ed b (ends (treeOf ed b) 64 0) ≡ f → (n ≡ 22) × ((e : ℕ) × (p ≡ nodeOf ed b e) × FirstDeep (treeOf ed b) 64 0 e)
+      go : (f : Found) → firstPlace ed b (ends (treeOf ed b) mostLevels 0) ≡ f → (n ≡ 22) × ((e : ℕ) × (p ≡ nodeOf ed b e) × FirstDeep (treeOf ed b) mostLevels 0 e)
       go Nothing h = absurd (never q (depth-clean h))
       go (At x) h =
           let w = place-first _ h in
           let d = depth-fault h in
-          ((cc), (w .0, (let z = w .3 in cc), ends-first (treeOf ed b) 64 0 (w .0) (w .1) (w .2)))
+          ((cc), (w .0, (let z = w .3 in cc), ends-first (treeOf ed b) mostLevels 0 (w .0) (w .1) (w .2)))

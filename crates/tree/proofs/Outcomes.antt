@@ -16,7 +16,7 @@ use Rattle.layout.specs.declared.Edition.{Edition}
 use Rattle.nodes.specs.Node.{nodeAt}
 use Rattle.tree.specs.declared.depth.Found.{Found}
 use Rattle.tree.specs.declared.depth.Found.the-variants.{At, Nothing}
-use Rattle.tree.specs.Chain.{ends}
+use Rattle.tree.specs.Chain.{ends, mostLevels}
 use Rattle.tree.specs.File.{nodeOf, treeOf, usedNodes}
 use Rattle.tree.specs.Order.{roomChecks, allRangeChecks, depthChecks}
 use Rattle.tree.specs.Outcome.{treeChecks, workspaceAfter}
@@ -53,7 +53,7 @@ module _ (ed : Edition) (b ws : List ℕ) where
     told-range q = told _ w (pass _ _ _ _ _ h ∙ fault-keep (allRangeChecks ed b) (depthChecks ed b) (sym a ∙ q)) (left-is _ q)
 
     -- 22; f is the first place found
-    module _ (q : m ≡ Accepted) (f : Found) (d : f ≡ firstPlace ed b (ends (treeOf ed b) 64 0)) where
+    module _ (q : m ≡ Accepted) (f : Found) (d : f ≡ firstPlace ed b (ends (treeOf ed b) mostLevels 0)) where
       depth-left : firstFault (treeChecks ed b (length ws)) ≡ firstFault (depthChecks ed b)
       unfolding treeChecks roomChecks
       depth-left = pass _ _ _ _ _ h ∙ fault-append (allRangeChecks ed b) (depthChecks ed b) (sym a ∙ q)

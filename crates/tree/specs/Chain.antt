@@ -3,8 +3,16 @@ use mathlib.Core.Path.{_≡_}
 use mathlib.Core.Bool.{cond}
 use mathlib.Core.Logic.{_⊎_}
 use mathlib.Core.List.{List, [], _∷_, _++_, List·Memᴰ}
-use Prim.Native.Nat.{ℕ, zero, suc, _+_, _<_}
+use Prim.Native.Nat.{ℕ, zero, suc, _+_, _-_, _<_}
 use lib.Dec.{eqb}
+
+-- A chain has at most 64 nodes, one on each level. The root is on level 0.
+abbrev pub mostLevels : ℕ
+mostLevels = 64
+
+-- So no node is on a level below this one.
+abbrev pub deepestLevel : ℕ
+deepestLevel = mostLevels - 1
 
 -- A node's name index, 0 where it is nameless; its child range is `count` elements from `first` on.
 pub record Tree : Type 0 where

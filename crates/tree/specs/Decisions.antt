@@ -12,7 +12,7 @@ use Rattle.region.specs.Decisions.{resolves?}
 use Rattle.layout.specs.Edition.{nodeSize}
 use Rattle.layout.specs.Layout.{nodesAt}
 use Rattle.layout.specs.declared.Edition.{Edition}
-use Rattle.tree.specs.Chain.{Tree, LiveIn, child, Chain}
+use Rattle.tree.specs.Chain.{Tree, LiveIn, child, Chain, mostLevels}
 use Rattle.tree.specs.File.{Used, treeOf}
 use Rattle.tree.specs.Rules.{RangeRule, Deep, DepthRule}
 
@@ -42,4 +42,4 @@ deep? t (suc n) a = decBy down up (someBelow? (t .count a) (λ j. Dec·and (Dec�
     up d = from (d .0) (d .1) (d .2) (d .3)
 
 unfoldable pub depthRule? : (ed : Edition) (b : List ℕ) → Dec (DepthRule ed b)
-depthRule? ed b = Dec·not (deep? (treeOf ed b) 64 0)
+depthRule? ed b = Dec·not (deep? (treeOf ed b) mostLevels 0)

@@ -7,7 +7,7 @@ use Rattle.layout.specs.Edition.{nodeSize}
 use Rattle.layout.specs.Layout.{nodesAt}
 use Rattle.layout.specs.declared.Edition.{Edition}
 use Rattle.nodes.specs.Node.{nodeAt}
-use Rattle.tree.specs.Chain.{ends, firstOr}
+use Rattle.tree.specs.Chain.{ends, firstOr, mostLevels}
 use Rattle.tree.specs.File.{address, nodeOf, treeOf, usedNodes}
 use Rattle.tree.specs.Rules.{RangeRule, DepthRule}
 use Rattle.tree.specs.Decisions.{rangeRule?, depthRule?}
@@ -29,4 +29,4 @@ allRangeChecks ed b = each (segmentRangeChecks ed b) (countOf b (nodesAt ed b)) 
 
 -- 22; the place is the last node of the first chain of 65 nodes in document order.
 unfoldable pub depthChecks : Edition → List ℕ → List Check
-depthChecks ed b = check 22 (nodeOf ed b (firstOr 0 (ends (treeOf ed b) 64 0))) (DepthRule ed b) (depthRule? ed b) ∷ []
+depthChecks ed b = check 22 (nodeOf ed b (firstOr 0 (ends (treeOf ed b) mostLevels 0))) (DepthRule ed b) (depthRule? ed b) ∷ []

@@ -4,7 +4,7 @@ use mathlib.Core.Path.{_≡_}
 use mathlib.Core.List.{List}
 use lib.ListN.{length}
 use Rattle.layout.specs.declared.Edition.{Edition}
-use Rattle.tree.specs.Chain.{Tree, child, Chain, Before}
+use Rattle.tree.specs.Chain.{Tree, child, Chain, Before, mostLevels}
 use Rattle.tree.specs.File.{Used, treeOf, usedNodes}
 
 -- 21 of node a: its child range holds neither the root nor an element of an earlier node's range. The numbers of nodes go by file order.
@@ -26,7 +26,7 @@ pub record FirstDeep (t : Tree) (n a e : ℕ) : Type 0 where
 
 -- 22: no chain has 65 nodes, so none from the root has 64 places.
 abbrev pub DepthRule : Edition → List ℕ → Type 0
-DepthRule ed b = Deep (treeOf ed b) 64 0 → ⊥
+DepthRule ed b = Deep (treeOf ed b) mostLevels 0 → ⊥
 
 -- 20 to 22 hold of the file, with a workspace of so many bytes: it has a byte for each used node.
 pub record TreeRules (ed : Edition) (b : List ℕ) (bytes : ℕ) : Type 0 where

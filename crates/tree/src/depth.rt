@@ -9,6 +9,7 @@ use crate::ranges;
 use layout::NODE_SIZE;
 use nodes::fields;
 use region::Region;
+use region::SAMPLES;
 
 pub enum Found {
     At(usize),
@@ -19,7 +20,7 @@ pub enum Found {
 pub fn find_deep(
     b: &[u8],
     nodes: Region,
-    segments: &[u32; 1024],
+    segments: &[u32; SAMPLES],
     a: usize,
     p: usize,
     left: usize,

@@ -16,6 +16,7 @@ pub mod ranges;
 
 use depth::Found;
 use region::Region;
+use region::SAMPLES;
 use verdict::Verdict;
 
 // A chain has at most so many nodes.
@@ -28,8 +29,8 @@ pub const DEEPEST_LEVEL: usize = MOST_LEVELS - 1;
 pub fn check_tree(
     b: &[u8],
     nodes: Region,
-    segments: &[u32; 1024],
-    counts: &[u32; 1024],
+    segments: &[u32; SAMPLES],
+    counts: &[u32; SAMPLES],
     used: usize,
     ws: &mut [u8],
 ) -> Verdict

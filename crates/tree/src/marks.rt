@@ -16,6 +16,7 @@ ghost use Rattle.tree.specs.inner.Marking.{TreeReady, Free, Reached, Mar
 use layout::NODE_SIZE;
 use nodes::fields;
 use region::Region;
+use region::SAMPLES;
 use region::SEGMENT_HEADER;
 use verdict::Verdict;
 
@@ -56,8 +57,8 @@ pub fn set_range(ws: &mut [u8], i: usize, n: usize, x: u8)
 fn mark_node(
     b: &[u8],
     nodes: Region,
-    segments: &[u32; 1024],
-    counts: &[u32; 1024],
+    segments: &[u32; SAMPLES],
+    counts: &[u32; SAMPLES],
     p: usize,
     ws: &mut [u8],
 ) -> bool
@@ -93,8 +94,8 @@ fn mark_node(
 pub fn mark_nodes(
     b: &[u8],
     nodes: Region,
-    segments: &[u32; 1024],
-    counts: &[u32; 1024],
+    segments: &[u32; SAMPLES],
+    counts: &[u32; SAMPLES],
     used: usize,
     ws: &mut [u8],
 ) -> Verdict

@@ -10,6 +10,7 @@ use layout::NODE_SIZE;
 use nodes::fields;
 use region::Place;
 use region::Region;
+use region::SAMPLES;
 use region::SEGMENT_HEADER;
 
 // The number of the first, where it stands, and how many they are.
@@ -28,7 +29,7 @@ pub fn root_at(nodes: Region) -> usize
 }
 
 // The children of the node at p; a nameless node has none.
-pub fn children_of(b: &[u8], nodes: Region, segments: &[u32; 1024], p: usize) -> Children
+pub fn children_of(b: &[u8], nodes: Region, segments: &[u32; SAMPLES], p: usize) -> Children
     requires { ⌜ TreeReady Bits64 (now b) nodes (now segments) × Reached Bits64 (now b) p × (p + nodeSize Bits64 ≤ length (now b)) ⌝ }
     ensures { λ r. ⌜ ChildrenOf Bits64 (now (b .entry)) p r ⌝ }
 {

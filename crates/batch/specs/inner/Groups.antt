@@ -29,7 +29,7 @@ pub record Group (texts : List ℕ) (at n : ℕ) (lengths hashes : List ℕ) : T
   pub read : (j : ℕ) → j < n → TextRead texts (standsAt at lengths j) (getD lengths j 0) (getD hashes j 0)
 
 -- The low half of each of the first n is where its hash stands in its bucket, or would.
-pub record AllNear (t : Table) (hashes : List ℕ) (n : ℕ) (low : List ℕ) : Type 0 where
+pub record PackedBounds (t : Table) (hashes : List ℕ) (n : ℕ) (low : List ℕ) : Type 0 where
   pub long : length low ≡ 64
   pub each : (j : ℕ) → j < n → LowerBound t (bucketOf (t .buckets) (getD hashes j 0)) (getD hashes j 0) (getD low j 0 % 4294967296)
 

@@ -9,7 +9,7 @@ use lib.ListN.{length, getD, take, drop}
 use Rattle.le.specs.Le.{u16At}
 use Rattle.layout.specs.declared.Edition.{Edition}
 use Rattle.keys.specs.Names.{Bears}
-use Rattle.tree.specs.Chain.{Tree, ranged}
+use Rattle.tree.specs.Chain.{Tree, ranged, mostLevels, deepestLevel}
 use Rattle.path.specs.Names.{namesOf, nameAt}
 use Rattle.path.specs.declared.names.Wanted.{Wanted}
 
@@ -24,13 +24,13 @@ pub record NameEnd (path : List ℕ) (at e : ℕ) : Type 0 where
 -- The first `count` names have these indices, and the others' places hold 0. They are all the names; or the next name is no name of
 -- the file, or there are more than a chain can bear.
 pub record WantedIs (ed : Edition) (b path : List ℕ) (w : Wanted) : Type 0 where
-  pub long : length (w .indices) ≡ 64
-  pub few : w .count ≤ 63
+  pub long : length (w .indices) ≡ mostLevels
+  pub few : w .count ≤ deepestLevel
   pub index : (i : ℕ) → i < w .count → Bears ed b (getD (w .indices) i 0) (nameAt (namesOf path) i)
   pub rest : (i : ℕ) → w .count ≤ i → getD (w .indices) i 0 ≡ 0
   pub many : w .known ≡ true → w .count ≡ length (namesOf path)
   pub none : w .known ≡ false
-      → ((w .count ≡ 63) × (63 < length (namesOf path)))
+      → ((w .count ≡ deepestLevel) × (deepestLevel < length (namesOf path)))
       ⊎ ((w .count < length (namesOf path)) × ((k : ℕ) → Bears ed b k (nameAt (namesOf path) (w .count)) → ⊥))
 
 -- The nodes below node a that name indices lead to, in document order.

@@ -34,12 +34,12 @@ loop-holds c = (omega arith, start-zero _ _ _, omega arith, region-open _ _ _ _ 
 
 returns-3 : tie.Need-returns-3 Inv-loop μ-loop
 returns-3 c =
-    let t = scanned-fault _ _ (c .before .before .before .segment .ensures) (c .before .num .given .1) in
+    let t = scanned-fault _ _ (c .before .before .before .check-segment .ensures) (c .before .num .given .1) in
     fault-told _ _ (c .before .before .before .before .before .loop .inv .3 ∙ each-stop _ _ _ (omega arith) t)
 
 loop-again : tie.Need-loop-again Inv-loop μ-loop
 loop-again c =
-    let t = scanned-end _ _ (c .before .before .before .segment .ensures) (c .before .q .given .1) in
+    let t = scanned-end _ _ (c .before .before .before .check-segment .ensures) (c .before .q .given .1) in
     let l = c .before .before .before .before .before .loop in
     (omega (arith, segment-in _ _ _ _ (t .0)), t .1, omega arith, l .inv .3 ∙ each-more _ _ _ _ (omega arith) (t .0))
 

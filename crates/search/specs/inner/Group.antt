@@ -32,7 +32,7 @@ pub record AllSearching (t : Table) (hashes : List ℕ) (n : ℕ) (low high : Li
   pub each : (j : ℕ) → j < n → SearchingAt t hashes j (getD low j 0) (getD high j 0)
 
 -- The first m of a list are numbers below n.
-pub record Listed (n m : ℕ) (xs : List ℕ) : Type 0 where
+pub record ListedBelow (n m : ℕ) (xs : List ℕ) : Type 0 where
   pub long : length xs ≡ 64
   pub few : m ≤ 64
   pub each : (i : ℕ) → i < m → getD xs i 0 < n
@@ -57,7 +57,7 @@ ListedFrom which m i j = (x : ℕ) × (i ≤ x) × (x < m) × (getD which x 0 �
 -- Each of the first n hashes is found, or is on a list of m, from place i on.
 pub record Looked (t : Table) (hashes : List ℕ) (n : ℕ) (low which : List ℕ) (m i : ℕ) : Type 0 where
   pub lows : length low ≡ 64
-  pub listed : Listed n m which
+  pub listed : ListedBelow n m which
   pub fewer : m ≤ n
   pub each : (j : ℕ) → j < n → NearAt t hashes j (getD low j 0) ⊎ ListedFrom which m i j
 

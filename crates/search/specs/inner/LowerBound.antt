@@ -24,13 +24,13 @@ countBelow f x w zero = 0
 countBelow f x w (suc m) = cond (ltb (f (w + m)) x) (countBelow f x w m + 1) (countBelow f x w m)
 
 -- Place i of n, or the last one.
-unfoldable pub atMost : ℕ → ℕ → ℕ
-atMost i n = cond (ltb i n) i (n - 1)
+unfoldable pub orLast : ℕ → ℕ → ℕ
+orLast i n = cond (ltb i n) i (n - 1)
 
 -- How many of n numbers are below x, where these are at most eight: eight are read, the last one as often as it takes.
 unfoldable pub countFew : (ℕ → ℕ) → ℕ → ℕ → ℕ
 countFew f x n =
-    let c = countBelow (λ i. f (atMost i n)) x 0 8 in
+    let c = countBelow (λ i. f (orLast i n)) x 0 8 in
     cond (ltb c n) c n
 
 -- c of the eight from w on are below the hash: it is above one of them, or these are the first; and not above one, or these are the last of n.

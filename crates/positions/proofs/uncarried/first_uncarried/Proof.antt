@@ -19,12 +19,12 @@ loop-holds c = let p = c .before .before .pre in between-start _ (p .1) _ (p .2)
 loop-again : tie.Need-loop-again Inv-loop μ-loop
 loop-again c =
     let l = c .before .before .loop-test .taken in
-    between-up _ (c .before .before .before .before .before .before .pre .1) _ _ _ _ (c .before .before .before .loop .inv) (omega (arith, l)) (omega (arith, l)) (c .before .count-below .ensures .0) (c .if1 .taken)
+    between-up _ (c .before .before .before .before .before .before .pre .1) _ _ _ _ (c .before .before .before .loop .inv) (omega (arith, l)) (omega (arith, l)) (c .before .count-carrying .ensures .0) (c .if1 .taken)
 
 loop-again-2 : tie.Need-loop-again-2 Inv-loop μ-loop
 loop-again-2 c =
     let l = c .before .before .loop-test .taken in
-    between-down _ (c .before .before .before .before .before .before .pre .1) _ _ _ _ (c .before .before .before .loop .inv) (omega (arith, l)) (omega (arith, l)) (c .before .count-below .ensures .0) (c .if1 .left)
+    between-down _ (c .before .before .before .before .before .before .pre .1) _ _ _ _ (c .before .before .before .loop .inv) (omega (arith, l)) (omega (arith, l)) (c .before .count-carrying .ensures .0) (c .if1 .left)
 
 returns : tie.Need-returns Inv-loop μ-loop
 returns c = between-end _ (c .before .before .before .before .pre .1) _ _ (c .before .loop .inv) (omega (arith, c .loop-test .left))

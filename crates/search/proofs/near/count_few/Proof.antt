@@ -3,14 +3,14 @@ use mathlib.Core.Logic.{⊎-elim}
 use Rattle.layout.specs.Table.{hashOf}
 use Rattle.strings.specs.inner.Held.{heldTable}
 use Rattle.strings.proofs.Places.{here-in, hash-at}
-use Rattle.search.specs.inner.LowerBound.{atMost}
-use Rattle.search.proofs.Nearby.{Counting, counting-start, counting-one, counting-other, counting-end, at-most-less, few-read, few-less, few-all}
+use Rattle.search.specs.inner.LowerBound.{orLast}
+use Rattle.search.proofs.Nearby.{Counting, counting-start, counting-one, counting-other, counting-end, or-last-less, few-read, few-less, few-all}
 use borrow.Author.Needs.{needs}
 use Rattle.search.proofs.near.count_few.Statement.{statement}
 use Rattle.search.proofs.near.count_few.Tie as tie
 
 abbrev Inv-loop : tie.InvT-loop
-Inv-loop b s segments buckets k h n c₀ i₀ c i = Counting (λ (m : ℕ). hashOf (heldTable b s buckets) k (atMost m n)) h 0 8 i c
+Inv-loop b s segments buckets k h n c₀ i₀ c i = Counting (λ (m : ℕ). hashOf (heldTable b s buckets) k (orLast m n)) h 0 8 i c
 
 abbrev μ-loop : tie.MeasureT-loop
 μ-loop b s segments buckets k h n c₀ i₀ c i = 8 - i
@@ -21,13 +21,13 @@ loop-holds c = counting-start _ _ _ _
 entry-at-requires : tie.Need-entry-at-requires Inv-loop μ-loop
 entry-at-requires c κs =
     let p = c .before .before .before .before .before .pre in
-    (p .0, here-in _ _ _ _ (p .1) (p .2) (at-most-less _ _ _ (p .3) (c .at-most .ensures)))
+    (p .0, here-in _ _ _ _ (p .1) (p .2) (or-last-less _ _ _ (p .3) (c .or-last .ensures)))
 
 loop-again : tie.Need-loop-again Inv-loop μ-loop
 loop-again c =
     let l = c .before .before .before .before .loop-test .taken in
     let i = c .before .before .before .before .before .loop .inv in
-    let x = few-read _ _ _ _ _ _ (c .before .before .before .at-most .ensures) (hash-at _ _ _ _ _ (c .before .before .entry-at .ensures .0) (c .before .hash .ensures .0)) in
+    let x = few-read _ _ _ _ _ _ (c .before .before .before .or-last .ensures) (hash-at _ _ _ _ _ (c .before .before .entry-at .ensures .0) (c .before .hash .ensures .0)) in
     ⊎-elim
     (λ z. rw (z .1) (counting-one _ _ _ _ _ _ i l _ x (z .0 .taken)))
     (λ z. rw (z .1) (counting-other _ _ _ _ _ _ i l _ x (z .0 .left)))

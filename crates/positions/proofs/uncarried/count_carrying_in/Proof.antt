@@ -5,8 +5,8 @@ use Rattle.strings.proofs.Places.{here-in, index-at}
 use Rattle.positions.proofs.CountedBelow.{Counted, counted-start, counted-one, counted-other, counted-end}
 use native.Mathlib.Omega.{arith}
 use borrow.Author.Needs.{needs}
-use Rattle.positions.proofs.uncarried.count_in.Statement.{statement}
-use Rattle.positions.proofs.uncarried.count_in.Tie as tie
+use Rattle.positions.proofs.uncarried.count_carrying_in.Statement.{statement}
+use Rattle.positions.proofs.uncarried.count_carrying_in.Tie as tie
 
 abbrev Inv-loop : tie.InvT-loop
 Inv-loop b s segments buckets k m n c₀ j₀ c j = Counted (heldTable b s buckets) m k j c
@@ -34,5 +34,5 @@ loop-again c =
 returns : tie.Need-returns Inv-loop μ-loop
 returns c = counted-end _ _ _ _ _ (c .before .loop .inv) (omega (arith, c .loop-test .left, c .before .before .entry-count .ensures))
 
-pub count-in-spec : {M : Type 1} → statement M
-count-in-spec = tie.close (tie.spec Inv-loop μ-loop (λ c κs. search needs) loop-holds entry-at-requires (λ c κs. search needs) (λ c. search needs) (λ c. search needs) (λ c. search needs) loop-again returns)
+pub count-carrying-in-spec : {M : Type 1} → statement M
+count-carrying-in-spec = tie.close (tie.spec Inv-loop μ-loop (λ c κs. search needs) loop-holds entry-at-requires (λ c κs. search needs) (λ c. search needs) (λ c. search needs) (λ c. search needs) loop-again returns)

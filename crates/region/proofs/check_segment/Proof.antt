@@ -7,8 +7,8 @@ use Rattle.verdict.specs.declared.Scan.the-variants.{End}
 use Rattle.verdict.proofs.Laws.{pass, stop, fault-none}
 use Rattle.region.proofs.Accepted.{segment-told}
 use Rattle.region.proofs.Samples.{product-small}
-use Rattle.region.proofs.segment.Statement.{statement}
-use Rattle.region.proofs.segment.Tie as tie
+use Rattle.region.proofs.check_segment.Statement.{statement}
+use Rattle.region.proofs.check_segment.Tie as tie
 
 returns : tie.Need-returns
 unfolding scanned
@@ -52,8 +52,8 @@ returns-6 c =
     (pass _ _ _ _ _ (omega arith) ∙ pass _ _ _ _ _ (omega arith) ∙ pass _ _ _ _ _ (omega arith) ∙ pass _ _ _ _ _ (omega arith)
     ∙ pass _ _ _ _ _ (omega arith) ∙ fault-none)
 
-pub segment-spec : {M : Type 1} → statement M
-segment-spec =
+pub check-segment-spec : {M : Type 1} → statement M
+check-segment-spec =
     tie.close
     (tie.spec (λ c. search needs) returns (λ c κs. search needs) returns-2 (λ c. search needs) (λ c. search needs) returns-3
     (λ c κs. search needs) returns-4 (λ c. search needs) mul-bytes (λ c. search needs) returns-5 (λ c. search needs) returns-6)

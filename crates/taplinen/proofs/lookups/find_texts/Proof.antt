@@ -4,8 +4,8 @@ use Rattle.accept.proofs.Held.{names-held, values-held}
 use Rattle.taplinen.proofs.Tables.{name-table, name-table-clean, value-table, value-table-clean, answers-same}
 use borrow.Author.Needs.{needs}
 use Rattle.layout.specs.declared.Edition.the-variants.{Bits64}
-use Rattle.taplinen.proofs.lookups.find_each.Statement.{statement}
-use Rattle.taplinen.proofs.lookups.find_each.Tie as tie
+use Rattle.taplinen.proofs.lookups.find_texts.Statement.{statement}
+use Rattle.taplinen.proofs.lookups.find_texts.Tie as tie
 
 find-each-requires : tie.Need-find-each-requires
 unfolding nameStrings
@@ -31,8 +31,8 @@ returns-2 c =
     let g = c .before .before .find-each2 .ensures in
     (g .0, answers-same _ _ _ _ (value-table Bits64 _ _ (c .before .before .before .before .before .before .before .before .before .before .before .before .before .before .before .before .before .before .pre .0) (c .before .before .before .before .before .before .before .before .before .before .before .enum-told2 .given .1)) (g .1))
 
-pub find-each-spec : {M : Type 1} → statement M
-find-each-spec =
+pub find-texts-spec : {M : Type 1} → statement M
+find-texts-spec =
     tie.close
     (tie.spec (λ c κs. search needs) (λ c. search needs) find-each-requires (λ c. search needs) find-each-requires-2 (λ c. search needs)
     returns (λ c. search needs) returns-2)
