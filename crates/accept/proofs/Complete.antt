@@ -91,7 +91,7 @@ module _ (ed : Edition) (b : List ℕ) (f : FileRules ed b) where
   none-broken h (Broken.misplaced e x) = x (good e).placed
   none-broken h (Broken.index_wrong e x) = x (good e).indexed
   none-broken h (Broken.same_text e x) = (good e).alone x
-  none-broken h (Broken.not-Carried o i l m x) = x ((table-rules o).carried i l m)
+  none-broken h (Broken.not_carried o i l m x) = x ((table-rules o).carried i l m)
   none-broken h (Broken.not-special x) = x f.special
   none-broken h (Broken.key_wrong k l x) = x (f.key k l)
   none-broken h (Broken.no_root x) = x f.nodes.root

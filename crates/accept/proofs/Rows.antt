@@ -106,7 +106,7 @@ module _ (ed : Edition) (b : List ℕ) (room : ℕ) where
 
     of-position : (i : ℕ) → 1 ≤ i → i < count (table b at n) → Rows (position_checks (table b at n) i)
     unfolding position_checks
-    of-position i l h = more _ _ _ _ _ (Broken.not-Carried o i l h) none
+    of-position i l h = more _ _ _ _ _ (Broken.not_carried o i l h) none
 
     of-strings : Rows (string_checks (table b at n))
     unfolding string_checks all_entry_checks bucket_entry_checks all_position_checks
@@ -243,7 +243,7 @@ row_number (Broken.hash_wrong x y) = (omega arith, omega arith)
 row_number (Broken.misplaced x y) = (omega arith, omega arith)
 row_number (Broken.index_wrong x y) = (omega arith, omega arith)
 row_number (Broken.same_text x y) = (omega arith, omega arith)
-row_number (Broken.not-Carried x y z w u) = (omega arith, omega arith)
+row_number (Broken.not_carried x y z w u) = (omega arith, omega arith)
 row_number (Broken.not-special x) = (omega arith, omega arith)
 row_number (Broken.key_wrong x y z) = (omega arith, omega arith)
 row_number (Broken.no_root x) = (omega arith, omega arith)

@@ -13,7 +13,7 @@ use strings::Strings;
 use verdict::Verdict;
 
 // The verdict, and the view, which means something only where the file is accepted.
-#[derive(Drop)]
+#[derive(Clone, Copy)]
 pub struct Acceptance {
     pub answer: Verdict,
     pub view: View,

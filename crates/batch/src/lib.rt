@@ -26,7 +26,7 @@ const PLACE_SIZE: usize = 8;
 const VALUE_AT: usize = 4;
 
 // Refusal 24 or 25, or the number of texts.
-#[derive(Drop)]
+#[derive(Clone, Copy)]
 pub struct Batch {
     pub answer: Verdict,
     pub texts: usize,

@@ -13,7 +13,7 @@ use borrow.Author.Tests.{eq-eqb, ne_eqb}
 use Rattle.laws.proofs.Drops.{drop_next}
 use Rattle.frames.specs.Lines.{is_digit, digit_of, digits, number_from}
 use Rattle.frames.specs.inner.Reading.{offset_of}
-use Rattle.frames.proofs.Digits.{is_digit, no_digit}
+use Rattle.frames.proofs.Digits.{is_digit_lem, no_digit}
 
 -- the offset where x is the number of the digits before, and k digits are left
 unfoldable pub offset_left : ℕ → ℕ → List ℕ → ℕ
@@ -60,7 +60,7 @@ module _ {s : List ℕ} {p : ℕ} where
         let t : List ℕ = drop (p + (i + 1)) s in
         let o : p + i < length s = omega (arith, h.room) in
         let w : offset_left x (8 - i) (drop (p + i) s) ≡ offset_left (x * 16 + d) (8 - (i + 1)) t =
-        rw (one_less i b, drop_next s (p + i) o, n, e) (left_more x (8 - (i + 1)) c t (is_digit c (omega arith))) in
+        rw (one_less i b, drop_next s (p + i) o, n, e) (left_more x (8 - (i + 1)) c t (is_digit_lem c (omega arith))) in
         record { few = omega arith; room = h.room; small = digits_more x i d h.small v; whole = h.whole ∙ w }
 
     pub offset_other : {d : ℕ} → i < 8 → d ≡ digit_of (get_or s (p + i) 0) → 15 < d → 2 ^ 32 ≡ offset_of (drop p s)

@@ -8,14 +8,14 @@ ghost use Rattle.frames.specs.Frames.{file_of, frames_of};
 ghost use Rattle.frames.specs.inner.Reading.{first_line, byte_of, offset_of, bytes_written, given_by, line_at};
 
 // How many bytes the frames give, or the first bad line, counted from 1.
-#[derive(Drop)]
+#[derive(Clone, Copy)]
 pub enum Frames {
     Bytes(usize),
     Bad(usize),
 }
 
 // What one line gives: where the next line starts and how many bytes there are now, or nothing.
-#[derive(Drop)]
+#[derive(Clone, Copy)]
 enum Line {
     Frame(usize, usize),
     Other,

@@ -212,7 +212,7 @@ fn fold_pair(w: usize) -> usize
 }
 
 // Four characters, two in each word.
-#[derive(Drop)]
+#[derive(Clone, Copy)]
 pub struct Quad {
     pub first: usize,
     pub second: usize,

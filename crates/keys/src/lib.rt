@@ -5,7 +5,7 @@ pub mod list;
 pub mod special;
 
 // The name count, and the indices of `__root__` and `__value__`.
-#[derive(Drop)]
+#[derive(Clone, Copy)]
 pub struct Names {
     pub count: usize,
     pub root: usize,

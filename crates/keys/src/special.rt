@@ -19,7 +19,7 @@ use strings::{Strings, entry};
 use verdict::Verdict;
 
 // What the check answers; the names mean something only where nothing is refused.
-#[derive(Drop)]
+#[derive(Clone, Copy)]
 pub struct Specials {
     pub answer: Verdict,
     pub names: Names,

@@ -70,7 +70,7 @@ pub fn keys(b: &[u8]) -> Scan
 }
 
 // What the scan of the front answers; the offsets mean something only where nothing is refused.
-#[derive(Drop)]
+#[derive(Clone, Copy)]
 pub struct FrontScan {
     pub answer: Scan,
     pub attributes: usize,

@@ -25,7 +25,7 @@ pub const KEY_SIZE: usize = 8;
 pub const MOST_KEYS: usize = 4096;
 
 // The edition of a file, which decides the sizes of its attributes and nodes.
-#[derive(Drop)]
+#[derive(Clone, Copy)]
 pub enum Edition {
     Bits64,
 }
@@ -56,7 +56,7 @@ pub const MOST_VALUES: usize = 4_294_967_295;
 pub const MOST_NAMES: usize = 65_536;
 
 // The header report.
-#[derive(Drop)]
+#[derive(Clone, Copy)]
 pub struct Header {
     pub version: usize,
     pub timestamp: Float64,
@@ -64,7 +64,7 @@ pub struct Header {
 }
 
 // Where the parts of the file are. A string table is its characters and its address count.
-#[derive(Drop)]
+#[derive(Clone, Copy)]
 pub struct Places {
     pub keys: usize,
     pub attributes: Region,
@@ -77,7 +77,7 @@ pub struct Places {
 }
 
 // The checked view: the header report, the places, samples of the segments, and where each bucket starts.
-#[derive(Drop)]
+#[derive(Clone, Copy)]
 pub struct View {
     pub header: Header,
     pub places: Places,
@@ -91,7 +91,7 @@ pub struct View {
 }
 
 // What layout answers: the view means something only where nothing is refused.
-#[derive(Drop)]
+#[derive(Clone, Copy)]
 pub struct CheckedLayout {
     pub answer: Verdict,
     pub view: View,

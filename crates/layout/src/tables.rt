@@ -71,7 +71,7 @@ fn list(b: &[u8], at: usize, n: usize, p: usize, most: usize) -> Scan
 }
 
 // What a table's scan answers; list is the place of its address count where nothing is refused.
-#[derive(Drop)]
+#[derive(Clone, Copy)]
 pub struct TableScan {
     pub answer: Scan,
     pub list: usize,

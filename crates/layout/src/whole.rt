@@ -14,7 +14,7 @@ use region::{Region, SAMPLES};
 use verdict::{Scan, Verdict};
 
 // Where the parts of the file start, and the address counts of the two tables; they mean something only where nothing is refused.
-#[derive(Drop)]
+#[derive(Clone, Copy)]
 pub struct Walk {
     pub answer: Verdict,
     pub attributes: usize,

@@ -55,13 +55,13 @@ pub fn put_u32(d: &mut [u8], at: usize, x: usize)
 }
 
 // A float beside its bits: a NaN's own bits cannot live in the float.
-#[derive(Drop)]
+#[derive(Clone, Copy)]
 pub struct Float32 {
     pub value: f32,
     pub bits: u32,
 }
 
-#[derive(Drop)]
+#[derive(Clone, Copy)]
 pub struct Float64 {
     pub value: f64,
     pub bits: u64,

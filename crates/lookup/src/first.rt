@@ -21,7 +21,7 @@ use strings::{Strings, entry, fields};
 
 // An entry that may bear the text: where its own text starts, where it ends, and what is told of it. Where there is none, its text starts
 // at 0.
-#[derive(Drop)]
+#[derive(Clone, Copy)]
 pub struct Candidate {
     pub text: usize,
     pub end: usize,

@@ -22,7 +22,7 @@ use strings::spot::Spot;
 use strings::{Strings, entry, fields, spot};
 
 // What a look-up answers: found, with a number; collided, with how many entries have the text's hash; absent.
-#[derive(Drop)]
+#[derive(Clone, Copy)]
 pub enum Lookup {
     Found(usize),
     Collided(usize),
@@ -30,7 +30,7 @@ pub enum Lookup {
 }
 
 // What is found as two numbers, for C.
-#[derive(Drop)]
+#[derive(Clone, Copy)]
 pub struct Numbers {
     pub kind: u32,
     pub value: usize,
@@ -48,7 +48,7 @@ pub fn as_numbers(l: Lookup) -> Numbers
 }
 
 // What is asked for: a name's index, or a value's address.
-#[derive(Drop)]
+#[derive(Clone, Copy)]
 pub enum Kind {
     Name,
     Value,

@@ -1,7 +1,7 @@
 -- Refusal 19 as it was before request T-10: with the value hash of the old fold. Kept for one law only (accept/specs/OldFold).
 use Rattle.std.specs.Prelude.{ℕ, ◌≡◌, List, [], ◌∷◌, ◌++◌}
 use Rattle.std.proofs.Math.Decide.{ℕ_discrete}
-use Rattle.std.proofs.Math.Logic.{Dec·and}
+use Rattle.std.proofs.Math.Logic.Dec.{and as dec_and}
 use Rattle.verdict.specs.Checks.{Check, check, each}
 use Rattle.verdict.specs.Decide.{dec_by, implies?}
 use Rattle.words.specs.Words.{type_of, extended_of}
@@ -35,7 +35,7 @@ unfoldable pub text_right_before? : (ed : Edition) (b : List ℕ) (q : ℕ) → 
 text_right_before? ed b q =
     implies? (ℕ_discrete (type_of (type_word b q)) 3)
     (dec_by (λ w. record { entry = w.0; hash = w.1 }) (λ r. (r.entry, r.hash))
-    (Dec·and (entry_address? (values ed b) (text_segment b q) (text_element b q))
+    (dec_and (entry_address? (values ed b) (text_segment b q) (text_element b q))
     (ℕ_discrete (extended_of (type_word b q)) (value_hash_before (text_to (values ed b) (text_segment b q) (text_element b q))))))
 
 -- The checks of the nodes, as they were: all but 19 are those of Order.antt, in that order.

@@ -8,7 +8,7 @@ use crate::fields;
 use le::Float32;
 
 // A whole number, a truth, a float beside its bits, or a text address: segment, element.
-#[derive(Drop)]
+#[derive(Clone, Copy)]
 pub enum Value {
     Whole(i32),
     Truth(bool),

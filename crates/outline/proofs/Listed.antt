@@ -24,10 +24,10 @@ module _ (f : List ℕ → List ℕ) where
   flat_append [] l = refl
   flat_append (x ∷ k) l = rw (flat_append k l) (sym (append_assoc (f x) (flat_map f k) (flat_map f l)))
 
-  flat_map : (j : ℕ) (l : List (List ℕ)) → flat_map f (map (◌∷◌ j) l) ≡ flat_map (λ ps. f (j ∷ ps)) l
+  flat_map_lem : (j : ℕ) (l : List (List ℕ)) → flat_map f (map (◌∷◌ j) l) ≡ flat_map (λ ps. f (j ∷ ps)) l
   unfolding flat_map
-  flat_map j [] = refl
-  flat_map j (x ∷ l) = ap (λ (s : List ℕ). f (j ∷ x) ++ s) (flat_map j l)
+  flat_map_lem j [] = refl
+  flat_map_lem j (x ∷ l) = ap (λ (s : List ℕ). f (j ∷ x) ++ s) (flat_map_lem j l)
 
   flat_same : (g : List ℕ → List ℕ) (l : List (List ℕ)) → ((ps : List ℕ) → f ps ≡ g ps) → flat_map f l ≡ flat_map g l
   unfolding flat_map
@@ -61,7 +61,7 @@ module _ (ed : Edition) (b : List ℕ) where
           ≡ cond x [] (block ed b n (level + 1) (child (tree_of ed b) a j))
       go true = refl
       go false =
-          flat_map (line_of level a) j (chains (tree_of ed b) n (child (tree_of ed b) a j))
+          flat_map_lem (line_of level a) j (chains (tree_of ed b) n (child (tree_of ed b) a j))
           ∙ flat_same (λ ps. line_of level a (j ∷ ps)) (line_of (level + 1) (child (tree_of ed b) a j)) (chains (tree_of ed b) n (child (tree_of ed b) a j)) under
           ∙ h
 

@@ -17,7 +17,7 @@ use tree::{DEEPEST_LEVEL, ranges};
 use verdict::Verdict;
 
 // Refusal 26, or the outline's length in bytes.
-#[derive(Drop)]
+#[derive(Clone, Copy)]
 pub struct Outlined {
     pub answer: Verdict,
     pub length: usize,

@@ -16,7 +16,7 @@ use tree::ranges;
 use verdict::Verdict;
 
 // Refusal 24 or 25, or the number of matches.
-#[derive(Drop)]
+#[derive(Clone, Copy)]
 pub struct Listing {
     pub answer: Verdict,
     pub matches: usize,

@@ -17,7 +17,7 @@ use tree::{DEEPEST_LEVEL, MOST_LEVELS};
 use verdict::Verdict;
 
 // The indices of the first `count` names; known is false where no node can bear the names.
-#[derive(Drop)]
+#[derive(Clone, Copy)]
 pub struct Wanted {
     pub known: bool,
     pub count: usize,

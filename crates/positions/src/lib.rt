@@ -45,7 +45,7 @@ fn check_positions(b: &[u8], s: Strings, segments: &[u32; SAMPLES], buckets: &[u
 }
 
 // What is found of a table: the first fault, and whether its texts are known to fill its characters.
-#[derive(Drop)]
+#[derive(Clone, Copy)]
 pub struct CheckedTable {
     pub answer: Verdict,
     pub packed: bool,

@@ -8,7 +8,7 @@ use layout::ATTRIBUTE_SIZE;
 use nodes::fields;
 
 // How many slots are taken, and the element to go on with.
-#[derive(Drop)]
+#[derive(Clone, Copy)]
 pub struct Taken {
     pub count: usize,
     pub next: usize,

@@ -21,7 +21,7 @@ pub const SEGMENT_HEADER: usize = 8;
 pub const SAMPLES: usize = 1024;
 
 // A region of the file: its offset, its segment count, and how its samples are spaced.
-#[derive(Drop)]
+#[derive(Clone, Copy)]
 pub struct Region {
     pub at: usize,
     pub count: usize,
@@ -30,7 +30,7 @@ pub struct Region {
 }
 
 // Where a range stands.
-#[derive(Drop)]
+#[derive(Clone, Copy)]
 pub enum Place {
     At(usize),
     Nowhere,

@@ -18,7 +18,7 @@ use strings::{Strings, entry};
 const SKIPPED: usize = 15;
 
 // Which entry of its bucket a hash is to be expected at, and where that entry stands.
-#[derive(Drop)]
+#[derive(Clone, Copy)]
 struct Estimate {
     entry: u32,
     at: u32,
@@ -142,7 +142,7 @@ fn refine(
 }
 
 // Eight entries that a hash is to be expected among: the number of the first, and where the first and the last of them stand.
-#[derive(Drop)]
+#[derive(Clone, Copy)]
 struct Window {
     start: u32,
     first: u32,

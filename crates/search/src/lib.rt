@@ -19,7 +19,7 @@ use strings::{Strings, entry, fields};
 const MOST_ROUNDS: usize = 31;
 
 // What is left of a search: the entries from lo on and before hi.
-#[derive(Drop)]
+#[derive(Clone, Copy)]
 struct Bounds {
     lo: usize,
     hi: usize,

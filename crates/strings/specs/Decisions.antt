@@ -1,7 +1,7 @@
 -- How the rules of Rules.antt are decided: nothing to judge here, a decision is right by its type.
 use Rattle.std.specs.Prelude.{ℕ, ◌-◌}
 use Rattle.std.proofs.Math.Decide.{ℕ_discrete, dec_le, dec_lt}
-use Rattle.std.proofs.Math.Logic.{Dec·and, Dec·not}
+use Rattle.std.proofs.Math.Logic.Dec.{and as dec_and, not as dec_not}
 use Rattle.verdict.specs.Decide.{some_below?, dec_by, texts?}
 use Rattle.hash.specs.Hash.{hash_text, bucket_of}
 use Rattle.region.specs.Decisions.{resolves?}
@@ -21,17 +21,17 @@ hashed? t k j = ℕ_discrete (hash_of t k j) (hash_text (text_of t k j))
 unfoldable pub placed? : (t : Table) (k j : ℕ) → Dec (Placed t k j)
 placed? t k j =
     dec_by (λ p. record { bucket = p.0; ascends = p.1 }) (λ r. (r.bucket, r.ascends))
-    (Dec·and (ℕ_discrete (bucket_of t.buckets (hash_of t k j)) k) (dec_le (hash_of t k (j - 1)) (hash_of t k j)))
+    (dec_and (ℕ_discrete (bucket_of t.buckets (hash_of t k j)) k) (dec_le (hash_of t k (j - 1)) (hash_of t k j)))
 
 unfoldable pub indexed? : (t : Table) (k j : ℕ) → Dec (Indexed t k j)
 indexed? t k j =
     dec_by (λ p. record { low = p.0; high = p.1.0; segment = p.1.1.0; element = p.1.1.1 }) (λ r. (r.low, (r.high, (r.segment, r.element))))
-    (Dec·and (dec_le 1 (index_of t k j))
-    (Dec·and (dec_lt (index_of t k j) (count t))
-    (Dec·and (ℕ_discrete (listed_segment t (index_of t k j)) (segment_of t k j)) (ℕ_discrete (listed_element t (index_of t k j)) (element_of t k j)))))
+    (dec_and (dec_le 1 (index_of t k j))
+    (dec_and (dec_lt (index_of t k j) (count t))
+    (dec_and (ℕ_discrete (listed_segment t (index_of t k j)) (segment_of t k j)) (ℕ_discrete (listed_element t (index_of t k j)) (element_of t k j)))))
 
 unfoldable pub alone? : (t : Table) (k j : ℕ) → Dec (¬ Duplicate t k j)
-alone? t k j = Dec·not (some_below? j (λ i. texts? (text_of t k i) (text_of t k j)))
+alone? t k j = dec_not (some_below? j (λ i. texts? (text_of t k i) (text_of t k j)))
 
 unfoldable pub carried? : (t : Table) (i : ℕ) → Dec (Carried t i)
 carried? t i = some_below? t.buckets (λ k. some_below? (entries t k) (λ j. ℕ_discrete (index_of t k j) i))

@@ -2,7 +2,7 @@
 -- moved (accept/specs/OldTexts).
 use Rattle.std.specs.Prelude.{ℕ, ◌+◌, ◌*◌, ◌<◌, ◌≡◌, List, [], ◌∷◌, ◌++◌}
 use Rattle.std.proofs.Math.Decide.{ℕ_discrete}
-use Rattle.std.proofs.Math.Logic.{Dec·and, Dec·not}
+use Rattle.std.proofs.Math.Logic.Dec.{and as dec_and, not as dec_not}
 use Rattle.verdict.specs.Checks.{Check, check, each, SomeBelow}
 use Rattle.verdict.specs.Decide.{some_below?, all_below?, dec_by}
 use Rattle.le.specs.Le.{u16_at}
@@ -38,9 +38,9 @@ Delimited t k j = SomeBelow (text_room t k j) (λ m. EndedAt t k j m × (length_
 
 unfoldable pub delimited? : (t : Table) (k j : ℕ) → Dec (Delimited t k j)
 delimited? t k j =
-    some_below? (text_room t k j) (λ m. Dec·and
+    some_below? (text_room t k j) (λ m. dec_and
     (dec_by (λ p. record { first = p.0; zero = p.1 }) (λ r. (r.first, r.zero))
-    (Dec·and (all_below? m (λ i. Dec·not (ℕ_discrete (text_char t k j i) 0))) (ℕ_discrete (text_char t k j m) 0)))
+    (dec_and (all_below? m (λ i. dec_not (ℕ_discrete (text_char t k j i) 0))) (ℕ_discrete (text_char t k j m) 0)))
     (ℕ_discrete (length_of t k j) (m + 1)))
 
 -- The checks of a table, as they were. Those behind 8 are reached only where 8 holds.

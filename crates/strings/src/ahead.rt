@@ -11,14 +11,14 @@ use crate::{Strings, entry, fields, spot};
 use region::SAMPLES;
 
 // The spot of an entry's text. Where its address does not resolve, no characters are left.
-#[derive(Drop)]
+#[derive(Clone, Copy)]
 pub struct TextSpan {
     pub at: usize,
     pub left: usize,
 }
 
 // The same, what touch_whole reads there, and from which entry on those before it are known to have other texts.
-#[derive(Drop)]
+#[derive(Clone, Copy)]
 pub struct PrefetchedText {
     pub at: usize,
     pub left: usize,

@@ -12,14 +12,14 @@ use crate::{Strings, ahead, entry, fields, spot};
 use region::SAMPLES;
 
 // Entries of one bucket that have different texts: those from start on, before end.
-#[derive(Drop)]
+#[derive(Clone, Copy)]
 pub struct Span {
     pub start: usize,
     pub end: usize,
 }
 
 // What a round finds: how many entries it collected, and before which entry each of them has a text of its own.
-#[derive(Drop)]
+#[derive(Clone, Copy)]
 pub struct Round {
     pub collected: usize,
     pub clear: usize,

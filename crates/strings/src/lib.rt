@@ -13,7 +13,7 @@ use region::Region;
 
 // A string table: its characters, and the place of its address count. The samples of its segment starts and its bucket starts are lent
 // beside it, as `segments` and `buckets`: arrays in a struct would be copied with it.
-#[derive(Drop)]
+#[derive(Clone, Copy)]
 pub struct Strings {
     pub chars: Region,
     pub list: usize,

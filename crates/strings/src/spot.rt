@@ -13,7 +13,7 @@ use region::{Region, SAMPLES};
 pub const ELEMENT_AT: usize = 2;
 
 // Where an address stands and how many characters of its segment's used part are left there.
-#[derive(Drop)]
+#[derive(Clone, Copy)]
 pub enum Spot {
     At(usize, usize),
     Nowhere,

@@ -16,7 +16,7 @@ use region::SAMPLES;
 use verdict::Verdict;
 
 // What is found of the entries: the first fault, and whether their texts are known to stand where texts can begin.
-#[derive(Drop)]
+#[derive(Clone, Copy)]
 pub struct CheckedEntries {
     pub answer: Verdict,
     pub begun: bool,

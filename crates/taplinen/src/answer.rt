@@ -10,7 +10,7 @@ use verdict::Verdict;
 // refusal 0: answered, value is the answer; otherwise the number of the refusal, value its place. kind, for lookups: 0 found, 1 absent,
 // 2 collided.
 #[repr(C)]
-#[derive(Drop)]
+#[derive(Clone, Copy)]
 pub struct Answer {
     pub refusal: u32,
     pub kind: u32,

@@ -7,7 +7,7 @@ use verdict::Verdict;
 
 // refusal 0: accepted, and the header's fields; otherwise the number of the refusal with its place, and 0 elsewhere.
 #[repr(C)]
-#[derive(Drop)]
+#[derive(Clone, Copy)]
 pub struct HeaderReport {
     pub refusal: u32,
     pub version: u32,

@@ -14,7 +14,7 @@ pub mod fingerprint;
 pub mod parts;
 
 // What is measured of a text: its characters, its hash.
-#[derive(Drop)]
+#[derive(Clone, Copy)]
 pub struct Extent {
     pub length: usize,
     pub hash: usize,

@@ -10,7 +10,7 @@ use layout::NODE_SIZE;
 use nodes::fields;
 use region::{Region, SAMPLES};
 
-#[derive(Drop)]
+#[derive(Clone, Copy)]
 pub enum Found {
     At(usize),
     Nothing,

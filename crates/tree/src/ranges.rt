@@ -10,7 +10,7 @@ use nodes::fields;
 use region::{Place, Region, SAMPLES, SEGMENT_HEADER};
 
 // The number of the first, where it stands, and how many they are.
-#[derive(Drop)]
+#[derive(Clone, Copy)]
 pub struct Children {
     pub first: usize,
     pub place: usize,

@@ -1,0 +1,18 @@
+use native.Mathlib.Omega.{arith}
+use mathlib.Core.Path.{sym, ◌∙◌}
+use Rattle.verdict.proofs.Laws.{tells_no}
+use Rattle.strings.proofs.Spots.{spot_out}
+use Rattle.positions.proofs.Laws.{spotted}
+use Rattle.keys.proofs.Only.{position_resolves}
+use Rattle.keys.proofs.Laws.{listed-text}
+use Rattle.keys.proofs.special.listed_is.Goals as goal
+
+pub returns-in_default : goal.returns-in_default
+returns-in_default c = tells_no (λ e. spot_out _ _ _ _ (sym c.listed_spot-a.ensures ∙ c.in_default.is) (position_resolves _ c.requires.held.1 _ c.requires.le_i.0 c.requires.le_i.1))
+
+pub bears-requires : goal.bears-requires
+bears-requires c = ((spotted c.requires.held.0 _ c.listed_spot-a.ensures c.in-At.is).fits, omega (arith, c.requires.le_i.2))
+
+pub returns : goal.returns
+returns c = listed-text _ _ _ _ _
+    (spotted c.requires.held.0 _ c.listed_spot-a.ensures c.in-At.is) c.bears.ensures

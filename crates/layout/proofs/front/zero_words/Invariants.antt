@@ -1,0 +1,13 @@
+use Prim.Native.Nat.{◌+◌, ◌-◌, ◌*◌, ◌≤◌}
+use mathlib.Core.Path.{◌≡◌}
+use lib.ListN.{length}
+use Rattle.verdict.specs.Checks.{first_fault, each}
+use Rattle.layout.specs.Header.{zero_word_checks}
+use Rattle.layout.proofs.front.zero_words.Given as goal
+
+abbrev pub invariant-loop-i : goal.invariant-loop-i
+invariant-loop-i l = (l.i ≤ 4) × (l.p ≡ 16 + 4 * l.i) × (l.p ≤ length l.b)
+    × (first_fault (each (zero_word_checks l.b) 4 0) ≡ first_fault (each (zero_word_checks l.b) (4 - l.i) l.i))
+
+abbrev pub decreases-loop-i : goal.decreases-loop-i
+decreases-loop-i l = 4 - l.i

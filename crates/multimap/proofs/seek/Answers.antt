@@ -1,0 +1,34 @@
+use mathlib.Core.Path.{sym, ◌∙◌}
+use Rattle.multimap.proofs.Laws.{sought_start, sought_none, sought_here, linked_less, sought_next}
+use native.Mathlib.Omega.{arith}
+use Rattle.multimap.proofs.seek.Goals as goal
+
+pub loop-at-init : goal.loop-at-init
+loop-at-init c = sought_start _ _ _ _ c.requires.2
+
+pub offset_bounds-map-at : goal.offset_bounds-map-at
+offset_bounds-map-at c = record { fits = omega (arith, c.loop-at.invariant.within, c.requires.1, c.requires.0.few) }
+
+pub bounds-map-at : goal.bounds-map-at
+bounds-map-at c = omega (arith, c.loop-at.invariant.within, c.requires.1, c.requires.0.few)
+
+pub returns-then-wide16-x : goal.returns-then-wide16-x
+returns-then-wide16-x c = sought_here _ _ _ _ c.loop-at.invariant (sym c.wide16.ensures ∙ c.if-wide16-x.true)
+
+pub offset_bounds-map-at-in-loop-at : goal.offset_bounds-map-at-in-loop-at
+offset_bounds-map-at-in-loop-at c = record { fits = omega (arith, c.loop-at.invariant.within, c.requires.1, c.requires.0.few) }
+
+pub bounds-map-at-in-loop-at : goal.bounds-map-at-in-loop-at
+bounds-map-at-in-loop-at c = omega (arith, c.loop-at.invariant.within, c.requires.1, c.requires.0.few)
+
+pub loop-at-smaller : goal.loop-at-smaller
+loop-at-smaller c = let p = c.requires in
+    linked_less _ _ _ p.0 p.1 _ c.loop-at.invariant c.loop-at-test.true _ c.wide16-at.ensures
+
+pub loop-at-preserved : goal.loop-at-preserved
+loop-at-preserved c = let p = c.requires in
+    sought_next _ _ _ p.0 p.1 _ c.loop-at.invariant c.loop-at-test.true _ c.wide16-at.ensures
+    (λ e. c.if-wide16-x.false (c.wide16.ensures ∙ e))
+
+pub returns : goal.returns
+returns c = sought_none _ _ _ _ c.loop-at.invariant c.loop-at-test.false

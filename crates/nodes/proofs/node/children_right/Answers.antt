@@ -1,0 +1,34 @@
+use mathlib.Core.Path.{◌≡◌}
+use Rattle.region.specs.Region.{range_at}
+use Rattle.layout.specs.Edition.{node_size}
+use Rattle.layout.specs.Layout.{nodes_at}
+use Rattle.layout.specs.declared.Edition.TheVariants.{Bits64}
+use Rattle.nodes.specs.Node.{child_segment, child_element, child_count}
+use Rattle.nodes.proofs.Climbs.{children_sought, children-none, children-nowhere, children_fit, children-told}
+use Rattle.nodes.proofs.Sought.{lent}
+use Rattle.nodes.proofs.Ways.{child-count}
+use Rattle.nodes.proofs.node.children_right.Goals as goal
+use Rattle.nodes.proofs.node.children_right.Goals.{After-child_field-n, After-range_at-r}
+
+count : (c : After-child_field-n) → let a = c.args in c.child_field-n.result ≡ child_count a.b.now a.p
+count c = child-count _ _ c.requires.node_size_in_bounds.1 _ c.child_field-n.ensures.0
+
+range : (c : After-range_at-r)
+    → let a = c.args in
+    c.range_at-r.result ≡ range_at (node_size Bits64) a.b.now (nodes_at Bits64 a.b.now) (child_segment Bits64 a.b.now a.p) (child_element Bits64 a.b.now a.p) c.child_field-n.result
+range c = children_sought Bits64 _ _ _ _ c.requires.mapped.0 _ _ c.child_segment.ensures.0 c.child_element.ensures.0 _ c.range_at-r.ensures
+
+pub returns-then-n-eq0 : goal.returns-then-n-eq0
+returns-then-n-eq0 c = children-none Bits64 _ _ _ (count (goal.at.returns-then-n-eq0 c).After-child_field-n) c.if-n-eq0.true
+
+pub range_at-r-requires : goal.range_at-r-requires
+range_at-r-requires c = let w = c.requires.mapped in (lent w.0 w.1, (c.child_element.ensures.1, c.child_field-n.ensures.1))
+
+pub rising-requires : goal.rising-requires
+rising-requires c = children_fit Bits64 _ _ _ (count (goal.at.rising-requires c).After-child_field-n) _ (range (goal.at.rising-requires c).After-range_at-r) _ c.in-At.is c.requires.mapped.0.laid
+
+pub returns-in-At : goal.returns-in-At
+returns-in-At c = children-told Bits64 _ _ _ (count (goal.at.returns-in-At c).After-child_field-n) _ (range (goal.at.returns-in-At c).After-range_at-r) _ c.in-At.is _ c.rising.ensures
+
+pub returns-in-Nowhere : goal.returns-in-Nowhere
+returns-in-Nowhere c = children-nowhere Bits64 _ _ _ (count (goal.at.returns-in-Nowhere c).After-child_field-n) _ (range (goal.at.returns-in-Nowhere c).After-range_at-r) c.if-n-eq0.false c.in-Nowhere.is

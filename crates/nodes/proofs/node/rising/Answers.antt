@@ -1,0 +1,20 @@
+use Prim.Native.Nat.{◌-◌}
+use native.Mathlib.Omega.{arith}
+use mathlib.Core.Logic.{⊎_elim}
+use Rattle.layout.specs.declared.Edition.TheVariants.{Bits64}
+use Rattle.nodes.proofs.Climbs.{climb_none, climb_skip, climb_more, climb_falls, climb_whole}
+use Rattle.nodes.proofs.node.rising.Goals as goal
+
+pub loop-i-init : goal.loop-i-init
+loop-i-init c = (omega arith, climb_none Bits64 _ _)
+
+pub returns-then-name-last : goal.returns-then-name-last
+returns-then-name-last c = climb_falls Bits64 _ _ _ _ c.loop-i.invariant.1 _ c.node_name-name.ensures.0 _ c.loop-i-test.true c.if-name-ne0.true c.if-name-last.true
+
+pub loop-i-preserved : goal.loop-i-preserved
+loop-i-preserved c = let h = c.loop-i.invariant.1 in
+    let e = c.node_name-name.ensures.0 in
+    (omega arith, ⊎_elim (λ w. rw w.2 (climb_more Bits64 _ _ _ _ h _ e w.1.left)) (λ w. rw w.1 (climb_skip Bits64 _ _ _ _ h _ e w.0.left)) c.if-name-ne0.branch)
+
+pub returns : goal.returns
+returns c = climb_whole Bits64 _ _ _ _ _ (omega arith) c.loop-i.invariant.1

@@ -1,0 +1,25 @@
+use Prim.Native.Nat.{◌-◌}
+use mathlib.Core.Logic.{⊎_elim}
+use Rattle.strings.proofs.Places.{here_in, index_at}
+use Rattle.positions.proofs.CountedBelow.{counted_start, counted_one, counted_other, counted_end}
+use native.Mathlib.Omega.{arith}
+use Rattle.positions.proofs.uncarried.count_carrying_in.Goals as goal
+
+pub loop-j-init : goal.loop-j-init
+loop-j-init c = counted_start _ _ _
+
+pub entry_at-e-requires : goal.entry_at-e-requires
+entry_at-e-requires c = let p = c.requires in (p.0, here_in _ _ _ _ p.1 c.entry_count-n.ensures c.loop-j-test.true)
+
+pub loop-j-preserved : goal.loop-j-preserved
+loop-j-preserved c = let l = c.loop-j-test.true in
+    let n = c.entry_count-n.ensures in
+    let i = c.loop-j.invariant in
+    let x = index_at _ _ _ _ _ c.entry_at-e.ensures.0 c.index.ensures in
+    ⊎_elim
+    (λ z. rw z.1 (counted_one _ _ _ _ _ i _ (omega (arith, l, n)) x z.0.taken))
+    (λ z. rw z.1 (counted_other _ _ _ _ _ i _ (omega (arith, l, n)) x z.0.left))
+    c.if-index-m.branch
+
+pub returns : goal.returns
+returns c = counted_end _ _ _ _ _ c.loop-j.invariant (omega (arith, c.loop-j-test.false, c.entry_count-n.ensures))

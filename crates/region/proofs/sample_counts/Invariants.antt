@@ -1,0 +1,13 @@
+use Prim.Native.Nat.{◌-◌, ◌^◌, ◌≤◌}
+use mathlib.Core.Path.{◌≡◌}
+use lib.ListN.{length}
+use Rattle.region.specs.Region.{start_of, before_of}
+use Rattle.region.specs.inner.Samples.{Sampled}
+use Rattle.region.proofs.sample_counts.Given as goal
+
+abbrev pub invariant-loop-s : goal.invariant-loop-s
+invariant-loop-s l = (l.s ≤ l.r.count) × (l.p ≡ start_of l.size l.b l.r.at l.s) × (l.n ≡ before_of l.size l.b l.r.at l.s)
+    × Sampled (before_of l.size l.b l.r.at) (2 ^ l.r.shift) l.s l.counts × (length l.counts ≡ 1024)
+
+abbrev pub decreases-loop-s : goal.decreases-loop-s
+decreases-loop-s l = l.r.count - l.s

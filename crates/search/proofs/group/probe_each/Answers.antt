@@ -1,0 +1,23 @@
+use Prim.Native.Nat.{◌-◌}
+use mathlib.Core.Logic.{⊎_elim}
+use Rattle.search.proofs.Searches.{looked_none, looked_upto, looked_told, looked_not}
+use native.Mathlib.Omega.{arith}
+use Rattle.search.proofs.group.probe_each.Goals as goal
+
+pub loop-j-init : goal.loop-j-init
+loop-j-init c = let p = c.requires.3 in (omega arith, looked_none _ _ _ _ p.second p.third)
+
+pub loop-j-preserved : goal.loop-j-preserved
+loop-j-preserved c = let w = c.loop-j.invariant.1 in
+    let l = c.loop-j-test.true in
+    let n = c.requires.1 in (
+      omega (arith, l),
+      ⊎_elim
+          (λ z. rw z.1 (looked_not _ _ _ _ _ _ w (omega (arith, l, n)) _))
+          (λ z. rw z.1 (looked_told _ _ _ _ _ _ w (omega (arith, l, n)) _ _ _ c.wide-h.ensures.0
+          c.bucket-k.ensures.0 (c.probe_near-r.ensures z.0.left)))
+          c.if-r-eq-NOT_TOLD.branch,
+    )
+
+pub returns : goal.returns
+returns c = let i = c.loop-j.invariant in looked_upto _ _ _ _ _ _ _ i.1 _ c.loop-j-test.false i.0

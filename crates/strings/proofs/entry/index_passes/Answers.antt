@@ -1,0 +1,5 @@
+use Rattle.verdict.proofs.Laws.{tells_yes}
+use Rattle.strings.proofs.entry.index_passes.Goals as goal
+
+pub returns-then-known : goal.returns-then-known
+returns-then-known c = tells_yes (c.requires.2 c.if-known.true)

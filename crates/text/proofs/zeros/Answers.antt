@@ -1,0 +1,30 @@
+use Prim.Native.Nat.{◌-◌}
+use mathlib.Core.Path.{sym, ◌∙◌}
+use mathlib.Core.Logic.{⊎_elim}
+use Rattle.text.proofs.Counted.{counted_start, counted_zero, counted_other, counted_all}
+use native.Mathlib.Omega.{arith}
+use Rattle.text.proofs.zeros.Goals as goal
+
+pub loop-at-init : goal.loop-at-init
+loop-at-init c = counted_start
+
+pub u16_at-requires : goal.u16_at-requires
+u16_at-requires c = let w = c.loop-at.invariant in omega (arith, w.place, w.inside)
+
+pub overflow_add-found : goal.overflow_add-found
+overflow_add-found c = let w = c.loop-at.invariant in record { fits = omega (arith, w.few, w.place, w.inside) }
+
+pub overflow_add-at : goal.overflow_add-at
+overflow_add-at c = let w = c.loop-at.invariant in record { fits = omega (arith, w.place, w.inside) }
+
+pub loop-at-preserved : goal.loop-at-preserved
+loop-at-preserved c = let w = c.loop-at.invariant in
+    let l = c.loop-at-test.true in
+    let r = c.u16_at.ensures.0 in
+    ⊎_elim
+    (λ z. rw z.1 (counted_zero w l (sym r ∙ z.0.taken)))
+    (λ z. rw z.1 (counted_other w l (λ e. z.0.left (r ∙ e))))
+    c.if-u16_at-eq0.branch
+
+pub returns : goal.returns
+returns c = counted_all c.loop-at.invariant c.loop-at-test.false

@@ -1,0 +1,41 @@
+use borrow.Author.Tests.{not-true, not-false}
+use mathlib.Core.Path.{◌≡◌, sym, ◌∙◌}
+use native.Mathlib.Omega.{arith}
+use borrow.Author.Rules.{rules}
+use Rattle.layout.specs.declared.Edition.TheVariants.{Bits64}
+use Rattle.nodes.specs.Node.{child_count}
+use Rattle.tree.specs.inner.Marking.{first_number}
+use Rattle.nodes.proofs.Ways.{nameless_children, child-count, live-node}
+use Rattle.tree.proofs.OneRange.{own_counts, marked-none, segment_there, first-number, range_there, marked_now, marked-not}
+use Rattle.tree.proofs.marks.mark_node.Goals as goal
+use Rattle.tree.proofs.marks.mark_node.Goals.{After-child_field-n, After-number-i}
+
+-- what the code has read: the child count and the first child's number
+counted : (c : After-child_field-n) → c.child_field-n.result ≡ child_count c.args.b.now c.args.p
+counted c = child-count _ _ (live-node _ _ _ c.node_name.ensures.0 c.if-node_name-eq0.false) _ c.child_field-n.ensures.0
+
+numbered : (c : After-number-i) → c.number-i.result ≡ first_number Bits64 c.args.b.now c.args.p
+numbered c =
+    first-number Bits64 _ _ _ _ _ _ c.requires.tree_ready.0.nodes.at_is c.child_segment.ensures.0 c.child_element.ensures.0 c.number-i.ensures
+
+pub returns-then-node_name-eq0 : goal.returns-then-node_name-eq0
+returns-then-node_name-eq0 c = marked-none Bits64 _ _ _ (nameless_children _ _ (sym c.node_name.ensures.0 ∙ c.if-node_name-eq0.true))
+
+pub returns-then-n-eq0 : goal.returns-then-n-eq0
+returns-then-n-eq0 c = marked-none Bits64 _ _ _ (sym (counted (goal.at.returns-then-n-eq0 c).After-child_field-n) ∙ c.if-n-eq0.true)
+
+pub number-i-requires : goal.number-i-requires
+number-i-requires c = let seg = segment_there Bits64 c.args.b.now c.args.p _ _ (counted (goal.at.number-i-requires c).After-child_field-n) c.child_segment.ensures.0 c.if-n-eq0.false c.requires.reached in
+    (own_counts c.requires.tree_ready.0 c.requires.tree_ready.1, (omega (arith, c.requires.tree_ready.0.nodes.count_is), search rules))
+
+pub range_free-requires : goal.range_free-requires
+range_free-requires c = range_there Bits64 c.args.b.now c.args.p _ _ c.args.ws.now (numbered (goal.at.range_free-requires c).After-number-i) (counted (goal.at.range_free-requires c).After-child_field-n) c.if-n-eq0.false c.requires.reached c.requires.tree_ready.3
+
+pub returns-then-not-range_free : goal.returns-then-not-range_free
+returns-then-not-range_free c = marked-not Bits64 _ _ _ _ _ (numbered (goal.at.returns-then-not-range_free c).After-number-i) (counted (goal.at.returns-then-not-range_free c).After-child_field-n) c.range_free.ensures (not-true _ c.if-not-range_free.true)
+
+pub set_range-requires : goal.set_range-requires
+set_range-requires c = range_there Bits64 c.args.b.now c.args.p _ _ c.args.ws.now (numbered (goal.at.set_range-requires c).After-number-i) (counted (goal.at.set_range-requires c).After-child_field-n) c.if-n-eq0.false c.requires.reached c.requires.tree_ready.3
+
+pub returns : goal.returns
+returns c = marked_now Bits64 _ _ _ _ _ (numbered (goal.at.returns c).After-number-i) (counted (goal.at.returns c).After-child_field-n) c.range_free.ensures _ (not-false _ c.if-not-range_free.false) c.set_range.ensures
