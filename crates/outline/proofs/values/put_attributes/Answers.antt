@@ -1,0 +1,60 @@
+use Prim.Native.Nat.{◌+◌, ◌-◌, ◌*◌, ◌≤◌}
+use native.Mathlib.Omega.{arith}
+use mathlib.Core.Path.{sym, ap, ◌∙◌}
+use lib.ListN.{length}
+use Rattle.layout.specs.Edition.{attribute_size}
+use Rattle.layout.specs.declared.Edition.TheVariants.{Bits64}
+use Rattle.tree.specs.Chain.{ranged}
+use Rattle.tree.proofs.Ranged.{ranged-none}
+use Rattle.print.proofs.Puts.{top, left_start, left_more, left_end, put_none, put_same}
+use Rattle.outline.proofs.Written.{ranged_start, ranged_next, ranged-past}
+use Rattle.outline.proofs.Parts.{regions, attributes-count, attributes_lost, attributes-at, attribute_ready, attribute-text}
+use Rattle.outline.proofs.values.put_attributes.Goals as goal
+use Rattle.outline.proofs.values.put_attributes.Goals.{In-loop-i}
+
+-- a buffer's length is a number of 64 bits
+room : (s : tie.Start invariant-loop decreases-loop) → length s.args.out.now ≤ top
+room s = omega arith
+
+-- the attribute lies in the file
+there : (c : In-loop-i) → c.in-At.q + c.loop-i.i * attribute_size Bits64 + attribute_size Bits64 ≤ 1073741824
+there c =
+    let p = c.requires in
+    let l = c.loop-i in
+    omega (arith, (attribute_ready l.invariant.0 l.i (omega arith) p.1).fits, p.0.rules.laid.small)
+
+pub returns-then-n-eq0 : goal.returns-then-n-eq0
+returns-then-n-eq0 c = let p = c.requires in
+    put_same (sym (ranged-none _ 0 _ (sym (attributes-count p.0 p.1 c.attribute_field-n.ensures.0) ∙ c.if-n-eq0.true))) (put_none _ _ (omega arith))
+
+pub range_at-requires : goal.range_at-requires
+range_at-requires c = let p = c.requires in (regions p.0, (c.attribute_element-el.ensures.1, c.attribute_field-n.ensures.1))
+
+pub returns-in_default : goal.returns-in_default
+returns-in_default c = let p = c.requires in absurd (attributes_lost p.0 p.1 c.attribute_field-n.ensures.0 c.attribute_segment-seg.ensures.0 c.attribute_element-el.ensures.0 c.range_at.ensures c.if-n-eq0.false c.in_default.is)
+
+pub loop-i-init : goal.loop-i-init
+loop-i-init c = let p = c.requires in
+    let t = attributes-at p.0 p.1 c.attribute_field-n.ensures.0 c.attribute_segment-seg.ensures.0 c.attribute_element-el.ensures.0 c.range_at.ensures c.in-At.is in
+    (t, (omega arith, left_start (room c) (omega arith) (ranged_start _ 0 _ ∙ ap (ranged _ 0) t.count)))
+
+pub overflow_mul-i : goal.overflow_mul-i
+overflow_mul-i c = omega (arith, there (goal.at.overflow_mul-i c).In-loop-i)
+
+pub overflow_add-q : goal.overflow_add-q
+overflow_add-q c = omega (arith, there (goal.at.overflow_add-q c).In-loop-i)
+
+pub put_attribute-e-requires : goal.put_attribute-e-requires
+put_attribute-e-requires c = let p = c.requires in
+    let l = c.loop-i in
+    (p.0.rules, p.0.placed, p.0.values, p.0.names, attribute_ready l.invariant.0 l.i (omega arith) p.1)
+
+pub loop-i-preserved : goal.loop-i-preserved
+loop-i-preserved c = let l = c.loop-i in
+    (l.invariant.0, (omega arith, left_more l.invariant.1.1 (put_same (attribute-text l.invariant.0 l.i) c.put_attribute-e.ensures) (ranged_next _ 0 _ l.i (omega arith))))
+
+pub shape_of-out : goal.shape_of-out
+shape_of-out c = c.loop-i.invariant.1.1.size
+
+pub returns : goal.returns
+returns c = left_end c.loop-i.invariant.1.1 (ranged-past _ 0 _ c.loop-i.i (omega arith))
