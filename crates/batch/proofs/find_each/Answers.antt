@@ -21,7 +21,7 @@ pub returns-then-answers-n : goal.returns-then-answers-n
 returns-then-answers-n c = let both = too_few _ _ _ (formed (goal.at.returns-then-answers-n c).In_default) c.count_texts-n.ensures c.if-answers-n.true in record { answer = both.0; answers = both.1; }
 
 pub put_places-requires : goal.put_places-requires
-put_places-requires c = (c.requires, (formed (goal.at.put_places-requires c).In_default, omega (arith, c.if-answers-n.false, c.count_texts-n.ensures)))
+put_places-requires c = record { tables = c.requires; texts_value = (formed (goal.at.put_places-requires c).In_default, omega (arith, c.if-answers-n.false, c.count_texts-n.ensures)); }
 
 pub returns : goal.returns
 returns c = let both = all_told _ _ _ (formed (goal.at.returns c).In_default) c.count_texts-n.ensures c.if-answers-n.false c.put_places.ensures in record { answer = both.0; answers = both.1; }

@@ -18,7 +18,7 @@ returns-then-n-k c = let both = line-room _ _ _ _ c.count_bytes-k.ensures c.requ
 
 pub write_bytes-requires : goal.write_bytes-requires
 write_bytes-requires c = let x = counted _ (λ e. c.if-k-eq0.false (c.count_bytes-k.ensures ∙ e)) in
-    (x.bytes, (sym x.count ∙ sym c.count_bytes-k.ensures, search rules))
+    record { input_value = x.bytes; input_len = sym x.count ∙ sym c.count_bytes-k.ensures; k_in_bounds = search rules; }
 
 pub returns : goal.returns
 returns c = let both = line_frame _ _ _ _ c.count_bytes-k.ensures

@@ -7,7 +7,7 @@ use Rattle.le.specs.Le.{u32_at}
 use Rattle.region.specs.Region.{count_of, total_of}
 use Rattle.region.proofs.Samples.{segment-fits, sample_in, sampled-none, sample_turn, start_more, start_zero, before_more, before-zero, count_low}
 use Rattle.region.proofs.sample_counts.Goals as goal
-use Rattle.region.proofs.sample_counts.Goals.{In-loop-s}
+use Rattle.region.proofs.sample_counts.Goals.{then-s-mask-eq0, else-s-mask-eq0, In-loop-s}
 
 fits : (c : In-loop-s)
     → let p = c.loop-s.p in
@@ -44,7 +44,7 @@ next_start-p-requires c = fits (goal.at.next_start-p-requires c).In-loop-s
 pub loop-s-preserved : goal.loop-s-preserved
 loop-s-preserved c = let l = c.loop-s in
     let t = sample_turn c.requires.0.stride _ l.s _ _ _ c.loop-s-test.true l.invariant.2 l.invariant.4 l.invariant.3
-    (⊎_elim (λ w. inl (w.0.taken, w.2)) (λ w. inr (w.0.left, w.1)) c.if-s-mask-eq0.branch) in (
+    (elim c.if-s-mask-eq0.branch [ then-s-mask-eq0 w ↦ inl (w.if-s-mask-eq0.true, w.counts-is) | else-s-mask-eq0 w ↦ inr (w.if-s-mask-eq0.false, w.counts-is) ]) in (
       omega arith,
       start_more _ _ _ l.s _ _ _ refl l.invariant.1 c.next_start-p.ensures,
       before_more _ _ _ l.s _ _ _ _ refl l.invariant.1 l.invariant.2 c.used_count-n.ensures.0,

@@ -21,11 +21,11 @@ key_right-requires c = let p = c.requires in (p.0, p.1, omega (arith, c.loop-k.i
 
 pub returns-then-not-key_right : goal.returns-then-not-key_right
 returns-then-not-key_right c = let l = c.loop-k.invariant in
-    sym (l.1 ∙ keys_stop Bits64 _ _ (omega (arith, l.0)) (c.key_right.ensures.not (not-true _ c.if-not-key_right.true)))
+    sym (l.1 ∙ keys_stop Bits64 _ _ (omega (arith, l.0)) (c.key_right.ensures.not c.if-not-key_right.true))
 
 pub loop-k-preserved : goal.loop-k-preserved
 loop-k-preserved c = let l = c.loop-k.invariant in
-    (l.0, l.1 ∙ keys_more Bits64 _ _ (omega (arith, l.0)) (c.key_right.ensures.so (not-false _ c.if-not-key_right.false)))
+    (l.0, l.1 ∙ keys_more Bits64 _ _ (omega (arith, l.0)) (c.key_right.ensures.so c.if-not-key_right.false))
 
 pub returns : goal.returns
 returns c = let l = c.loop-k.invariant in sym (l.1 ∙ keys_none Bits64 _ _ (omega (arith, l.0)))

@@ -25,7 +25,7 @@ names_done c =
     scanned_end _ _ (names-scanned Bits64 _ ((let it : Clean (table_checks (values Bits64 c.args.b.now) values_most) × (c.in-End-va.e ≡ names_at Bits64 c.args.b.now) = scanned_end _ _ (values-scanned Bits64 _ ((let it : Clean (front_checks Bits64 c.args.b.now) × (c.in-End.e ≡ values_at Bits64 c.args.b.now) = scanned_end _ _ c.scan_front-f.ensures.answer c.in-End.is in it)).1 c.requires.0 c.scan_table-v.ensures).answer c.in-End-va.is in it)).1 c.requires.1 c.scan_table-m.ensures).answer c.in-End-na.is
 
 pub returns-in-Fault : goal.returns-in-Fault
-returns-in-Fault c = walk_stop Bits64 _ _ _ _ (front_refused Bits64 _ (scanned_fault _ _ c.scan_front-f.ensures.answer c.in-Fault.is)) c.UNRESOLVED_walk_Refused.ensures
+returns-in-Fault c = walk_stop Bits64 _ _ _ _ (front_refused Bits64 _ (scanned_fault _ _ c.scan_front-f.ensures.answer c.in-Fault.is)) c.walk_refused.ensures
 
 pub scan_table-v-requires : goal.scan_table-v-requires
 scan_table-v-requires c = let f = front_done (goal.at.scan_table-v-requires c).In-End in

@@ -6,10 +6,10 @@ use Rattle.nodes.proofs.long.text_hash.Goals as goal
 
 pub measure-first-requires : goal.measure-first-requires
 measure-first-requires c = let p = c.requires in
-    (p.0, omega (arith, p.1, (c.worth.ensures (not-false _ c.if-not-worth.false)).0))
+    (p.0, omega (arith, p.1, (c.worth.ensures c.if-not-worth.false).0))
 
 pub returns-then-first-lt64 : goal.returns-then-first-lt64
-returns-then-first-lt64 c = record { answer = short-hash _ _ _ _ (c.worth.ensures (not-false _ c.if-not-worth.false)).0 c.measure-first.ensures c.if-first-lt64.true; memo = c.requires.3; }
+returns-then-first-lt64 c = record { answer = short-hash _ _ _ _ (c.worth.ensures c.if-not-worth.false).0 c.measure-first.ensures c.if-first-lt64.true; memo = c.requires.3; }
 
 pub returns-then-known-lt4294967296 : goal.returns-then-known-lt4294967296
 returns-then-known-lt4294967296 c = let m = c.requires.3 in
@@ -17,7 +17,7 @@ returns-then-known-lt4294967296 c = let m = c.requires.3 in
 
 pub remember-requires : goal.remember-requires
 remember-requires c = let p = c.requires in
-    let w = c.worth.ensures (not-false _ c.if-not-worth.false) in
+    let w = c.worth.ensures c.if-not-worth.false in
     (p.3.long, omega (arith, p.1, p.2), omega (arith, w.1), hash-small _ _ _ _ c.measure-m.ensures.hashed)
 
 pub returns : goal.returns

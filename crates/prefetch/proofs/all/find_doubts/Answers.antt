@@ -42,7 +42,7 @@ pub examine_batch-known-requires : goal.examine_batch-known-requires
 examine_batch-known-requires c = let p = c.requires.tables in
     let t = c.take_texts-taken.ensures.slotted in
     let i = c.loop-el.invariant in
-    ((p.0, p.1, p.2, p.3, t.long, t.within, t.few, p.4, i.6), (i.2, i.3))
+    record { tables = (p.0, p.1, p.2, p.3, t.long, t.within, t.few, p.4, i.6); doubts_len = (i.2, i.3); }
 
 pub loop-el-smaller : goal.loop-el-smaller
 loop-el-smaller c = let t = c.take_texts-taken.ensures in omega (arith, t.on c.loop-el-test.true, t.upto)

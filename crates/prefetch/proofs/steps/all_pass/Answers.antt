@@ -21,7 +21,7 @@ returns-then-not-passes c = record { answer = unsure; memo = c.passes.ensures.me
 pub loop-j-preserved : goal.loop-j-preserved
 loop-j-preserved c = let g = c.args in
     let i = c.loop-j.invariant in
-    let m = passed_more _ _ g.slots.now g.at.now g.left.now _ c.wide.ensures.0 c.wide-in-loop-j.ensures.0 c.wide-in-loop-j-2.ensures.0 (i.0, i.1) (c.passes.ensures.answer (not-false _ c.if-not-passes.false)) in
+    let m = passed_more _ _ g.slots.now g.at.now g.left.now _ c.wide.ensures.0 c.wide-in-loop-j.ensures.0 c.wide-in-loop-j-2.ensures.0 (i.0, i.1) (c.passes.ensures.answer c.if-not-passes.false) in
     (m.0, m.1, c.passes.ensures.memo)
 
 pub returns : goal.returns

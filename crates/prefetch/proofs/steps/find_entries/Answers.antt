@@ -20,7 +20,7 @@ pub returns-then-not-found : goal.returns-then-not-found
 returns-then-not-found c = unsure
 
 pub loop-j-preserved : goal.loop-j-preserved
-loop-j-preserved c = below_more _ _ c.loop-j.invariant (found_at _ _ c.wide.ensures.0 (c.found.ensures (not-false _ c.if-not-found.false)))
+loop-j-preserved c = below_more _ _ c.loop-j.invariant (found_at _ _ c.wide.ensures.0 (c.found.ensures c.if-not-found.false))
 
 pub returns : goal.returns
 returns c = λ z i l. c.loop-j.invariant i (omega (arith, c.loop-j-test.false))

@@ -14,5 +14,5 @@ pub returns : goal.returns
 returns c = let p = c.requires in
     record { answer = λ z. (
         hashed-here _ _ _ _ _ _ _ c.type_word.ensures.0 c.extended.ensures c.remembered_hash.ensures.answer (eqb-true _ _ z),
-        λ y. ⊎_elim (behind_first _ _ _ _ c.text_element.ensures.0) (behind_zero _ _ _ _ p.3) (c.can_begin.ensures (not-false _ c.if-not-can_begin.false) y),
+        λ y. ⊎_elim (behind_first _ _ _ _ c.text_element.ensures.0) (behind_zero _ _ _ _ p.3) (c.can_begin.ensures c.if-not-can_begin.false y),
       ); memo = c.remembered_hash.ensures.memo; }

@@ -10,23 +10,23 @@ pub placed-requires : goal.placed-requires
 placed-requires c = (c.requires.0, c.requires.1)
 
 pub returns-then-not-placed : goal.returns-then-not-placed
-returns-then-not-placed c = refused_10 _ _ _ _ c.entry_at-e.ensures.0 c.requires.3 (c.placed.ensures.not (not-true _ c.if-not-placed.true))
+returns-then-not-placed c = refused_10 _ _ _ _ c.entry_at-e.ensures.0 c.requires.3 (c.placed.ensures.not c.if-not-placed.true)
 
 pub returns-then-not-listed : goal.returns-then-not-listed
 returns-then-not-listed c = let p = c.requires in
-    refused_11 _ _ _ _ c.entry_at-e.ensures.0 p.3 (c.placed.ensures.so (not-false _ c.if-not-placed.false))
-    (p.4.not (not-true _ c.if-not-listed.true))
+    refused_11 _ _ _ _ c.entry_at-e.ensures.0 p.3 (c.placed.ensures.so c.if-not-placed.false)
+    (p.4.not c.if-not-listed.true)
 
 pub duplicate-requires : goal.duplicate-requires
 duplicate-requires c = let p = c.requires in
-    (p.0, p.1, sorted _ _ _ p.2 p.3 (c.placed.ensures.so (not-false _ c.if-not-placed.false)), p.5)
+    (p.0, p.1, sorted _ _ _ p.2 p.3 (c.placed.ensures.so c.if-not-placed.false), p.5)
 
 pub returns-then-duplicate : goal.returns-then-duplicate
 returns-then-duplicate c = let p = c.requires in
-    refused_12 _ _ _ _ c.entry_at-e.ensures.0 p.3 (c.placed.ensures.so (not-false _ c.if-not-placed.false))
-    (p.4.so (not-false _ c.if-not-listed.false)) (c.duplicate.ensures.so c.if-duplicate.true)
+    refused_12 _ _ _ _ c.entry_at-e.ensures.0 p.3 (c.placed.ensures.so c.if-not-placed.false)
+    (p.4.so c.if-not-listed.false) (c.duplicate.ensures.so c.if-duplicate.true)
 
 pub returns : goal.returns
 returns c = let p = c.requires in
-    entry_passes _ _ _ p.3 (c.placed.ensures.so (not-false _ c.if-not-placed.false))
-    (p.4.so (not-false _ c.if-not-listed.false)) (c.duplicate.ensures.not c.if-duplicate.false)
+    entry_passes _ _ _ p.3 (c.placed.ensures.so c.if-not-placed.false)
+    (p.4.so c.if-not-listed.false) (c.duplicate.ensures.not c.if-duplicate.false)

@@ -17,7 +17,7 @@ returns-then-not-bucket_listed c = unsure
 
 pub loop-k-preserved : goal.loop-k-preserved
 loop-k-preserved c = let i = c.loop-k.invariant in
-    (omega arith, below_more _ _ i.1 (c.bucket_listed.ensures (not-false _ c.if-not-bucket_listed.false)))
+    (omega arith, below_more _ _ i.1 (c.bucket_listed.ensures c.if-not-bucket_listed.false))
 
 pub returns : goal.returns
 returns c = λ z m h. c.loop-k.invariant.1 m (omega (arith, c.loop-k-test.false))

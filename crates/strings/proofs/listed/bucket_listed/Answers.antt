@@ -19,7 +19,7 @@ returns-then-not-indexed c = unsure
 
 pub loop-j-preserved : goal.loop-j-preserved
 loop-j-preserved c = let i = c.loop-j.invariant in
-    (omega arith, below_more _ _ i.1 (c.indexed.ensures.so (not-false _ c.if-not-indexed.false)))
+    (omega arith, below_more _ _ i.1 (c.indexed.ensures.so c.if-not-indexed.false))
 
 pub returns : goal.returns
 returns c = λ z i h. c.loop-j.invariant.1 i (omega (arith, c.entry_count-n.ensures, c.loop-j-test.false))

@@ -26,16 +26,16 @@ returns-then-n-eq0 c = marked-none Bits64 _ _ _ (sym (counted (goal.at.returns-t
 
 pub number-i-requires : goal.number-i-requires
 number-i-requires c = let seg = segment_there Bits64 c.args.b.now c.args.p _ _ (counted (goal.at.number-i-requires c).After-child_field-n) c.child_segment.ensures.0 c.if-n-eq0.false c.requires.reached in
-    (own_counts c.requires.tree_ready.0 c.requires.tree_ready.1, (omega (arith, c.requires.tree_ready.0.nodes.count_is), search rules))
+    record { mapped = own_counts c.requires.tree_ready.0 c.requires.tree_ready.1; seg_lt_count = (omega (arith, c.requires.tree_ready.0.nodes.count_is), search rules); }
 
 pub range_free-requires : goal.range_free-requires
 range_free-requires c = range_there Bits64 c.args.b.now c.args.p _ _ c.args.ws.now (numbered (goal.at.range_free-requires c).After-number-i) (counted (goal.at.range_free-requires c).After-child_field-n) c.if-n-eq0.false c.requires.reached c.requires.tree_ready.3
 
 pub returns-then-not-range_free : goal.returns-then-not-range_free
-returns-then-not-range_free c = marked-not Bits64 _ _ _ _ _ (numbered (goal.at.returns-then-not-range_free c).After-number-i) (counted (goal.at.returns-then-not-range_free c).After-child_field-n) c.range_free.ensures (not-true _ c.if-not-range_free.true)
+returns-then-not-range_free c = marked-not Bits64 _ _ _ _ _ (numbered (goal.at.returns-then-not-range_free c).After-number-i) (counted (goal.at.returns-then-not-range_free c).After-child_field-n) c.range_free.ensures c.if-not-range_free.true
 
 pub set_range-requires : goal.set_range-requires
 set_range-requires c = range_there Bits64 c.args.b.now c.args.p _ _ c.args.ws.now (numbered (goal.at.set_range-requires c).After-number-i) (counted (goal.at.set_range-requires c).After-child_field-n) c.if-n-eq0.false c.requires.reached c.requires.tree_ready.3
 
 pub returns : goal.returns
-returns c = marked_now Bits64 _ _ _ _ _ (numbered (goal.at.returns c).After-number-i) (counted (goal.at.returns c).After-child_field-n) c.range_free.ensures _ (not-false _ c.if-not-range_free.false) c.set_range.ensures
+returns c = marked_now Bits64 _ _ _ _ _ (numbered (goal.at.returns c).After-number-i) (counted (goal.at.returns c).After-child_field-n) c.range_free.ensures _ c.if-not-range_free.false c.set_range.ensures

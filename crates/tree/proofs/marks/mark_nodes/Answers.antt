@@ -73,15 +73,13 @@ pub overflow_add-p-in-loop-el : goal.overflow_add-p-in-loop-el
 overflow_add-p-in-loop-el c = omega (arith, inside_file (goal.at.overflow_add-p-in-loop-el c).In-loop-el)
 
 pub mark_node-requires : goal.mark_node-requires
-mark_node-requires c = let l = c.loop-el in (
-      (
+mark_node-requires c = let l = c.loop-el in
+    record { tree_ready = (
         c.requires.0,
         c.requires.1,
         inside_file (goal.at.mark_node-requires c).In-loop-el,
         omega (arith, room-here (goal.at.mark_node-requires c).At-segments, l.invariant.2.marks.long),
-      ),
-      rw l.invariant.3 ((rules-hold c.requires.0).each _ _ (there (goal.at.mark_node-requires c).In-loop-el)).children.reach,
-    )
+      ); reached = rw l.invariant.3 ((rules-hold c.requires.0).each _ _ (there (goal.at.mark_node-requires c).In-loop-el)).children.reach; }
 
 pub loop-el-preserved : goal.loop-el-preserved
 loop-el-preserved c = let l = c.loop-el in
@@ -89,7 +87,7 @@ loop-el-preserved c = let l = c.loop-el in
       l.invariant.0,
       l.invariant.1,
       pass_node Bits64 c.args.b.now _ (room-here (goal.at.loop-el-preserved c).At-segments) c.requires.0.laid.nodes (rules-hold c.requires.0) _ _ _ (there (goal.at.loop-el-preserved c).In-loop-el) l.invariant.3
-          _ _ _ c.mark_node.ensures l.invariant.2 (not-false _ c.if-not-mark_node.false),
+          _ _ _ c.mark_node.ensures l.invariant.2 c.if-not-mark_node.false,
       node_next Bits64 _ _ _ _ l.invariant.3,
     )
 
