@@ -6,7 +6,6 @@ use mathlib.Core.Bool.{Bool, cond}
 use mathlib.Core.List.{List}
 use borrow.Author.Tests.{lt-ltb, le-ltb}
 use lib.Dec.{lit<}
-use lib.ListN.{length}
 use Rattle.hash.specs.Hash.{hash_on, hash_text}
 use Rattle.hash.specs.Fold.{fold_text, value_hash_of, value_hash}
 use Rattle.hash.proofs.Laws.{hash_lt}

@@ -5,7 +5,6 @@ use native.Mathlib.Decide.{ℕ_discrete}
 use mathlib.Core.Path.{◌≡◌, sym, ◌∙◌}
 use mathlib.Core.Logic.{inl, inr, by_cases}
 use mathlib.Core.List.{List, [], ◌∷◌}
-use Rattle.verdict.specs.Checks.{check}
 use Rattle.verdict.proofs.Laws.{Clean, pass, stop, clean_inv, append_inv, each_inv}
 use Rattle.verdict.proofs.Same.{SameOr, same-all, same-append, same-each}
 use Rattle.words.specs.Words.{type_of}

@@ -4,7 +4,7 @@ use Prim.Native.Nat.{ℕ, zero, suc, ◌+◌, ◌-◌, ◌≤◌, ◌<◌}
 use native.Mathlib.Decide.{dec_le, ℕ_discrete}
 use native.Mathlib.Omega.{arith}
 use mathlib.Core.Path.{◌≡◌, refl, sym, subst, ◌∙◌}
-use mathlib.Core.Logic.{◌⊎◌, inl, inr, ⊎_elim}
+use mathlib.Core.Logic.{inl, inr, ⊎_elim}
 use Rattle.laws.specs.Counting.{how_many, sum_below}
 use Rattle.laws.proofs.Order.{le_or_lt}
 use Rattle.laws.proofs.Counting.{count_none, count-met, count_missed, count_span, count-all, count-some, count-split, sum-none, sum_one, sum-some, sum_more, sum-fewer, sum_same, sum_added}

@@ -122,13 +122,6 @@ module _ (f : ℕ → ℕ) (n x : ℕ) (up : Ascending f n) where
           let g : r < 8 = ⊎_elim (λ y. absurd (omega (arith, s.last (omega (arith, c.upto))))) (λ y. y) (le_or_lt 8 r) in
           omega (arith, c.above (w + 7) (omega arith) (omega arith), up (w + 7) m (omega arith) d)
 
--- all of m, or none
-pub all_of : (x m : ℕ) → x ≡ m → x ≤ m
-all_of x m e = omega arith
-
-pub none_of : (x m : ℕ) → x ≡ 0 → x ≤ m
-none_of x m e = omega arith
-
 -- x entries are in doubt before the eight from w on, and y behind them
 module _ (w c n x y : ℕ) (l : w + 8 ≤ n) (a : c ≡ 0 → x ≡ w) (b : (c ≡ 0 → ⊥) → x ≡ 0) (d : c ≡ 8 → y ≡ n - 8 - w) (e : (c ≡ 8 → ⊥) → y ≡ 0) where
   none-before-eight : Settled w c n → x ≡ 0

@@ -27,8 +27,7 @@ fn ask_each(file: &[u8], ws: &mut [u8], kind: Kind, texts: &[u8], answers: &mut 
 }
 
 // The indices of many names.
-#[unsafe(no_mangle)]
-pub extern "C" fn taplinen_names(
+pub fn taplinen_names(
     file: &[u8],
     ws: &mut [u8],
     texts: &[u8],
@@ -42,8 +41,7 @@ pub extern "C" fn taplinen_names(
 }
 
 // The addresses of many values.
-#[unsafe(no_mangle)]
-pub extern "C" fn taplinen_values(
+pub fn taplinen_values(
     file: &[u8],
     ws: &mut [u8],
     texts: &[u8],

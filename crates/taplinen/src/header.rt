@@ -18,8 +18,7 @@ pub struct HeaderReport {
     pub revision: u32,
 }
 
-#[unsafe(no_mangle)]
-pub extern "C" fn taplinen_header(file: &[u8], ws: &mut [u8]) -> HeaderReport
+pub fn taplinen_header(file: &[u8], ws: &mut [u8]) -> HeaderReport
     ensures answer { result ≡ header_answer Bits64 file.now (length ws.old) }
     ensures workspace { ws.new ≡ workspace_left Bits64 file.now ws.old }
 {

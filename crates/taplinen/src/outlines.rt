@@ -8,8 +8,7 @@ use crate::answer::Answer;
 use verdict::Verdict;
 
 // The outline of a file, written to a buffer: its length in bytes, or the bytes needed.
-#[unsafe(no_mangle)]
-pub extern "C" fn taplinen_outline(file: &[u8], ws: &mut [u8], out: &mut [u8]) -> Answer
+pub fn taplinen_outline(file: &[u8], ws: &mut [u8], out: &mut [u8]) -> Answer
     ensures answer { result ≡ outline_answer Bits64 file.now (length ws.old) (length out.old) }
     ensures workspace { ws.new ≡ workspace_left Bits64 file.now ws.old }
     ensures outline { out.new ≡ outline_buffer Bits64 file.now (length ws.old) out.old }

@@ -11,8 +11,7 @@ use verdict::Verdict;
 
 // Accepts a file: the number of used nodes, which is the workspace that every question needs. Where the file is refused, the view means
 // nothing, and the answer leaves its number out.
-#[unsafe(no_mangle)]
-pub extern "C" fn taplinen_accept(file: &[u8], ws: &mut [u8]) -> Answer
+pub fn taplinen_accept(file: &[u8], ws: &mut [u8]) -> Answer
     ensures answer { result ≡ accept_answer Bits64 file.now (length ws.old) }
     ensures workspace { ws.new ≡ workspace_left Bits64 file.now ws.old }
 {
@@ -42,8 +41,7 @@ fn ask(file: &[u8], ws: &mut [u8], kind: Kind, text: &[u8]) -> Answer
 }
 
 // The index of a name.
-#[unsafe(no_mangle)]
-pub extern "C" fn taplinen_name(file: &[u8], ws: &mut [u8], text: &[u8]) -> Answer
+pub fn taplinen_name(file: &[u8], ws: &mut [u8], text: &[u8]) -> Answer
     ensures answer { result ≡ name_answer Bits64 file.now (length ws.old) text.now }
     ensures workspace { ws.new ≡ workspace_left Bits64 file.now ws.old }
 {
@@ -51,8 +49,7 @@ pub extern "C" fn taplinen_name(file: &[u8], ws: &mut [u8], text: &[u8]) -> Answ
 }
 
 // The address of a value.
-#[unsafe(no_mangle)]
-pub extern "C" fn taplinen_value(file: &[u8], ws: &mut [u8], text: &[u8]) -> Answer
+pub fn taplinen_value(file: &[u8], ws: &mut [u8], text: &[u8]) -> Answer
     ensures answer { result ≡ value_answer Bits64 file.now (length ws.old) text.now }
     ensures workspace { ws.new ≡ workspace_left Bits64 file.now ws.old }
 {
@@ -60,8 +57,7 @@ pub extern "C" fn taplinen_value(file: &[u8], ws: &mut [u8], text: &[u8]) -> Ans
 }
 
 // The matches of a path.
-#[unsafe(no_mangle)]
-pub extern "C" fn taplinen_path(file: &[u8], ws: &mut [u8], path: &[u8], list: &mut [u8]) -> Answer
+pub fn taplinen_path(file: &[u8], ws: &mut [u8], path: &[u8], list: &mut [u8]) -> Answer
     ensures answer { result ≡ path_answer Bits64 file.now (length ws.old) path.now (length list.old) }
     ensures workspace { ws.new ≡ workspace_left Bits64 file.now ws.old }
     ensures listing { list.new ≡ path_listing Bits64 file.now (length ws.old) path.now list.old }

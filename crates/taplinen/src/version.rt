@@ -8,8 +8,7 @@ const MINOR: u32 = 1;
 
 const PATCH: u32 = 0;
 
-#[unsafe(no_mangle)]
-pub extern "C" fn taplinen_version() -> u32
+pub fn taplinen_version() -> u32
     ensures { result ≡ version_number }
 {
     MAJOR * 1000000 + MINOR * 1000 + PATCH

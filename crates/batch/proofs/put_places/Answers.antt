@@ -54,16 +54,16 @@ pub overflow_add-i : goal.overflow_add-i
 overflow_add-i c = let i = c.loop-at.invariant.0 in
     let g = c.loop-j.invariant in
     let e = going_text g c.requires.texts_value.0 i.even c.loop-j-test.true in
-    record { fits = omega (arith, c.UNRESOLVED_well_formed.1.1.1.1.1.1.1.0.0, (g.kept _ i).room, ap length e.next) }
+    record { fits = omega (arith, (g.kept _ i).room, ap length e.next) }
 
 pub overflow_mul-at : goal.overflow_mul-at
-overflow_mul-at c = record { fits = omega (arith, c.UNRESOLVED_well_formed.1.1.1.1.1.1.0.0, (going_text c.loop-j.invariant c.requires.texts_value.0 c.loop-at.invariant.0.even c.loop-j-test.true).within) }
+overflow_mul-at c = record { fits = omega (arith, (going_text c.loop-j.invariant c.requires.texts_value.0 c.loop-at.invariant.0.even c.loop-j-test.true).within) }
 
 pub overflow_add-at : goal.overflow_add-at
-overflow_add-at c = record { fits = omega (arith, c.UNRESOLVED_well_formed.1.1.1.1.1.1.0.0, (going_text c.loop-j.invariant c.requires.texts_value.0 c.loop-at.invariant.0.even c.loop-j-test.true).within) }
+overflow_add-at c = record { fits = omega (arith, (going_text c.loop-j.invariant c.requires.texts_value.0 c.loop-at.invariant.0.even c.loop-j-test.true).within) }
 
 pub overflow_add-at-in-loop-j : goal.overflow_add-at-in-loop-j
-overflow_add-at-in-loop-j c = record { fits = omega (arith, c.UNRESOLVED_well_formed.1.1.1.1.1.1.0.0, (going_text c.loop-j.invariant c.requires.texts_value.0 c.loop-at.invariant.0.even c.loop-j-test.true).within) }
+overflow_add-at-in-loop-j c = record { fits = omega (arith, (going_text c.loop-j.invariant c.requires.texts_value.0 c.loop-at.invariant.0.even c.loop-j-test.true).within) }
 
 pub loop-j-preserved : goal.loop-j-preserved
 loop-j-preserved c = let l = c.loop-j-test.true in

@@ -11,4 +11,4 @@ read_most = 393217
 -- How many bytes came.
 unfoldable pub came : Input → ℕ
 came (Read n) = n
-came Failed = 0
+came (Failed e) = 0

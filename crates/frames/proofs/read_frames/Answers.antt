@@ -8,7 +8,7 @@ pub loop-p-init : goal.loop-p-init
 loop-p-init c = reach_start c.requires
 
 pub shape_of-out-in-Other : goal.shape_of-out-in-Other
-shape_of-out-in-Other c = c.read_line.auto.1.1.1.0 ∙ c.loop-p.invariant.size
+shape_of-out-in-Other c = c.read_line.auto.out ∙ c.loop-p.invariant.size
 
 pub returns-in-Other : goal.returns-in-Other
 returns-in-Other c = let both = reach_other c.loop-p.invariant c.loop-p-test.true

@@ -17,9 +17,9 @@ returns-then-out-n c = let p = c.requires in
     let both = too_long p.line.rules _ (length-told p.line.rules c.write_node-n.ensures) c.if-out-n.true in record { answer = both.0; buffer = both.1; }
 
 pub write_node-m-requires : goal.write_node-m-requires
-write_node-m-requires c = let all = (let p = c.requires in
+write_node-m-requires c = let p = c.requires in
     let e = root-place Bits64 _ _ _ c.root_at-root.ensures p.line.placed.nodes.at_is in
-    (p, (root-used p, e, root_live p e, omega arith))) in record { outline_ready = all.0; used = all.1; }
+    record { outline_ready = p; used = (root-used p, e, root_live p e, omega arith); }
 
 pub returns : goal.returns
 returns c = let p = c.requires in

@@ -1,4 +1,3 @@
-use Prim.Native.Nat.{◌-◌}
 use native.Mathlib.Omega.{arith}
 use Rattle.laws.proofs.Halving.{powers_start, powers_more, powers_end}
 use Rattle.search.proofs.rounds.Goals as goal

@@ -4,6 +4,7 @@ use mathlib.Core.Logic.{⊎_elim}
 use Rattle.text.proofs.Counted.{counted_start, counted_zero, counted_other, counted_all}
 use native.Mathlib.Omega.{arith}
 use Rattle.text.proofs.zeros.Goals as goal
+use Rattle.text.proofs.zeros.Goals.{then-u16_at-eq0, else-u16_at-eq0}
 
 pub loop-at-init : goal.loop-at-init
 loop-at-init c = counted_start
@@ -21,10 +22,10 @@ pub loop-at-preserved : goal.loop-at-preserved
 loop-at-preserved c = let w = c.loop-at.invariant in
     let l = c.loop-at-test.true in
     let r = c.u16_at.ensures.0 in
-    ⊎_elim
-    (λ z. rw z.1 (counted_zero w l (sym r ∙ z.0.taken)))
-    (λ z. rw z.1 (counted_other w l (λ e. z.0.left (r ∙ e))))
-    c.if-u16_at-eq0.branch
+    elim c.if-u16_at-eq0.branch [
+      then-u16_at-eq0 z ↦ rw z.found-is (counted_zero w l (sym r ∙ z.if-u16_at-eq0.true))
+    | else-u16_at-eq0 z ↦ rw z.found-is (counted_other w l (λ e. z.if-u16_at-eq0.false (r ∙ e)))
+    ]
 
 pub returns : goal.returns
 returns c = counted_all c.loop-at.invariant c.loop-at-test.false

@@ -23,13 +23,13 @@ pub overflow_cast-hashes : goal.overflow_cast-hashes
 overflow_cast-hashes c = record { fits = omega (arith, read_small (read_of c.measure-x.ensures)) }
 
 pub overflow_mul-p : goal.overflow_mul-p
-overflow_mul-p c = record { fits = omega (arith, c.UNRESOLVED_well_formed.0.0, (found (goal.at.overflow_mul-p c).After-measure-x).within) }
+overflow_mul-p c = record { fits = omega (arith, (found (goal.at.overflow_mul-p c).After-measure-x).within) }
 
 pub overflow_add-p : goal.overflow_add-p
-overflow_add-p c = record { fits = omega (arith, c.UNRESOLVED_well_formed.0.0, (found (goal.at.overflow_add-p c).After-measure-x).within) }
+overflow_add-p c = record { fits = omega (arith, (found (goal.at.overflow_add-p c).After-measure-x).within) }
 
 pub overflow_add-p-in-loop-p : goal.overflow_add-p-in-loop-p
-overflow_add-p-in-loop-p c = record { fits = omega (arith, c.UNRESOLVED_well_formed.0.0, (found (goal.at.overflow_add-p-in-loop-p c).After-measure-x).within) }
+overflow_add-p-in-loop-p c = record { fits = omega (arith, (found (goal.at.overflow_add-p-in-loop-p c).After-measure-x).within) }
 
 pub loop-p-smaller : goal.loop-p-smaller
 loop-p-smaller c = omega (arith, (found (goal.at.loop-p-smaller c).After-measure-x).within)

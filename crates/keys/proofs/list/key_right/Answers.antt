@@ -9,6 +9,7 @@ use Rattle.layout.specs.declared.Edition.TheVariants.{Bits64}
 use Rattle.layout.proofs.Laws.{key_fits}
 use Rattle.keys.proofs.Laws.{not-zero, too_high, is_value, name-right}
 use Rattle.keys.proofs.list.key_right.Goals as goal
+use Rattle.keys.proofs.list.key_right.Goals.{then-k-eq0+else-name-ne0, else-k-eq0}
 
 pub loop-f-init : goal.loop-f-init
 loop-f-init c = (search rules, below_none _)
@@ -31,7 +32,7 @@ loop-f-preserved c = (
   omega arith,
   below_more _ _ c.loop-f.invariant.1
       (name-right Bits64 _ _ c.requires.1 _ _ _ c.u16_at-name.ensures.0
-      (λ z. ⊎_elim (λ w. w.1.left) (λ w. absurd (w.left z)) c.if-k-eq0.branch) c.if-name-names.false c.if-name-names-2.false),
+      (λ z. elim c.if-k-eq0.branch [ then-k-eq0+else-name-ne0 w ↦ w.if-name-ne0.false | else-k-eq0 w ↦ absurd (w.if-k-eq0.false z) ]) c.if-name-names.false c.if-name-names-2.false),
 )
 
 pub returns : goal.returns

@@ -1,7 +1,5 @@
-use Prim.Native.Nat.{◌-◌}
 use native.Mathlib.Omega.{arith}
 use mathlib.Core.Path.{sym, subst, ◌∙◌}
-use borrow.Author.Tests.{not-true, not-false}
 use Rattle.layout.specs.declared.Edition.TheVariants.{Bits64}
 use Rattle.nodes.specs.inner.Doubts.{Trusted}
 use Rattle.nodes.proofs.Attributes.{attribute_is, attributes_start, attributes-none, attributes_more, refused_18, refused_19}

@@ -4,6 +4,7 @@ use Rattle.nodes.proofs.Addresses.{text_sought, other_type, text-nowhere, text_d
 use mathlib.Core.Path.{◌≡◌, refl}
 use Rattle.search.proofs.Halves.{halved_lower}
 use native.Mathlib.Omega.{arith}
+use borrow.Author.Rules.{rules}
 use Rattle.layout.specs.declared.Edition.TheVariants.{Bits64}
 use Rattle.nodes.proofs.attribute.text_right.Goals as goal
 use Rattle.nodes.proofs.attribute.text_right.Goals.{After-spot_at-a}
@@ -47,5 +48,5 @@ run_has-requires c = let p = c.requires in
 pub returns : goal.returns
 returns c = let p = c.requires in
     record { answer = text-told Bits64 _ _ _ _ c.type_word-word.ensures.0 c.kind.ensures.0 c.if-kind-ne3.false _ p.2 p.3 (sought (goal.at.returns c).After-spot_at-a) c.in-At.is _
-          c.remembered_hash.ensures.answer _ c.extended.ensures (λ i. omega (arith, c.shared_slice_known-1.given i)) refl c.if-extended-remembered_hash.false _ c.text_hash-h.ensures.answer _
+          c.remembered_hash.ensures.answer _ c.extended.ensures (λ i. search rules) refl c.if-extended-remembered_hash.false _ c.text_hash-h.ensures.answer _
           c.bucket-k.ensures _ c.value_word-address.ensures.0 c.run_has.ensures; memo = c.text_hash-h.ensures.memo; }

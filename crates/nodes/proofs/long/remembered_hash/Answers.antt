@@ -1,6 +1,5 @@
 use native.Mathlib.Omega.{arith}
 use mathlib.Core.Path.{sym, ◌∙◌}
-use borrow.Author.Tests.{not-false}
 use Rattle.text.proofs.Split.{value-first, value-second, run_small}
 use Rattle.nodes.proofs.Noting.{value-noted, value-small}
 use Rattle.nodes.proofs.long.remembered_hash.Goals as goal

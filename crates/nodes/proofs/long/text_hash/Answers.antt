@@ -1,6 +1,5 @@
 use native.Mathlib.Omega.{arith}
 use mathlib.Core.Path.{sym, ◌∙◌}
-use borrow.Author.Tests.{not-false}
 use Rattle.nodes.proofs.Noting.{hash-noted, hash-small, short-hash}
 use Rattle.nodes.proofs.long.text_hash.Goals as goal
 

@@ -1,17 +1,16 @@
 use Prim.Native.Nat.{◌+◌}
 use native.Mathlib.Omega.{arith}
 use mathlib.Core.Path.{◌≡◌}
-use mathlib.Core.Logic.{⊎_elim}
 use Rattle.layout.specs.declared.Edition.TheVariants.{Bits64}
 use Rattle.nodes.specs.Node.{node_at}
 use Rattle.nodes.specs.Rules.{RootRule}
 use Rattle.nodes.proofs.Named.{node-above, root-right, root_dressed, root_other, nameless, name-high, flags-high, key-told}
 use Rattle.nodes.proofs.node.node_right.Goals as goal
-use Rattle.nodes.proofs.node.node_right.Goals.{Joined-seg-el-eq0}
+use Rattle.nodes.proofs.node.node_right.Goals.{Joined-seg-el-eq0, then-seg-el-eq0+else-name-names+else-attribute_field-ne0, else-seg-el-eq0}
 
 -- the root passed, where this is the root
 root : (c : Joined-seg-el-eq0) → let a = c.args in a.seg + a.el ≡ 0 → RootRule Bits64 a.b.now (node_at Bits64 a.b.now a.seg a.el)
-root c z = ⊎_elim (λ w. root-right Bits64 _ _ c.requires.0 _ _ _ c.requires.2 _ c.node_name-name.ensures.0 _ w.3.ensures.0 w.2.left w.4.left) (λ w. absurd (w.left z)) c.if-seg-el-eq0.branch
+root c z = elim c.if-seg-el-eq0.branch [ then-seg-el-eq0+else-name-names+else-attribute_field-ne0 w ↦ root-right Bits64 _ _ c.requires.0 _ _ _ c.requires.2 _ c.node_name-name.ensures.0 _ w.attribute_field.ensures.0 w.if-name-names.false w.if-attribute_field-ne0.false | else-seg-el-eq0 w ↦ absurd (w.if-seg-el-eq0.false z) ]
 
 pub overflow_add-seg : goal.overflow_add-seg
 overflow_add-seg c = record { fits = omega (arith, node-above Bits64 _ _ _ _ c.requires.2) }

@@ -1,9 +1,8 @@
-use Prim.Native.Nat.{◌-◌}
 use native.Mathlib.Omega.{arith}
-use mathlib.Core.Logic.{⊎_elim}
 use Rattle.layout.specs.declared.Edition.TheVariants.{Bits64}
 use Rattle.nodes.proofs.Climbs.{climb_none, climb_skip, climb_more, climb_falls, climb_whole}
 use Rattle.nodes.proofs.node.rising.Goals as goal
+use Rattle.nodes.proofs.node.rising.Goals.{then-name-ne0+else-name-last, else-name-ne0}
 
 pub loop-i-init : goal.loop-i-init
 loop-i-init c = (omega arith, climb_none Bits64 _ _)
@@ -14,7 +13,7 @@ returns-then-name-last c = climb_falls Bits64 _ _ _ _ c.loop-i.invariant.1 _ c.n
 pub loop-i-preserved : goal.loop-i-preserved
 loop-i-preserved c = let h = c.loop-i.invariant.1 in
     let e = c.node_name-name.ensures.0 in
-    (omega arith, ⊎_elim (λ w. rw w.2 (climb_more Bits64 _ _ _ _ h _ e w.1.left)) (λ w. rw w.1 (climb_skip Bits64 _ _ _ _ h _ e w.0.left)) c.if-name-ne0.branch)
+    (omega arith, elim c.if-name-ne0.branch [ then-name-ne0+else-name-last w ↦ rw w.last-is (climb_more Bits64 _ _ _ _ h _ e w.if-name-last.false) | else-name-ne0 w ↦ rw w.last-is (climb_skip Bits64 _ _ _ _ h _ e w.if-name-ne0.false) ])
 
 pub returns : goal.returns
 returns c = climb_whole Bits64 _ _ _ _ _ (omega arith) c.loop-i.invariant.1

@@ -7,7 +7,7 @@ use Rattle.nodes.proofs.Values.{value-whole, value_truth, value_float, value-tex
 use Rattle.nodes.proofs.value.value_at.Goals as goal
 
 pub returns-then-extended-eq0 : goal.returns-then-extended-eq0
-returns-then-extended-eq0 c = ap Whole (to_z-of_z {w = w32} (sfits_of c.signed.type-inv) ∙ c.signed.ensures)
+returns-then-extended-eq0 c = ap Whole (to_z-of_z {w = w32} (sfits_of c.signed.type_inv) ∙ c.signed.ensures)
     ∙ value-whole _ _ _ _ c.type_word-word.ensures.0 c.kind-kind.ensures.0 c.if-kind-eq1.true _ c.extended.ensures _ c.value_word-w.ensures.0 c.if-extended-eq0.true
 
 pub returns-then-kind-eq1 : goal.returns-then-kind-eq1

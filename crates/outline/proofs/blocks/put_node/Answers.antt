@@ -6,10 +6,6 @@ use Rattle.print.proofs.Puts.{top}
 use Rattle.outline.proofs.Written.{put_four, line_is, node-named}
 use Rattle.outline.proofs.blocks.put_node.Goals as goal
 
--- a buffer's length is a number of 64 bits
-room : (s : tie.Start) → length s.args.out.now ≤ top
-room s = omega arith
-
 pub overflow_mul-level : goal.overflow_mul-level
 overflow_mul-level c = omega (arith, c.requires.2)
 
@@ -23,4 +19,4 @@ pub put_attributes-e-requires : goal.put_attributes-e-requires
 put_attributes-e-requires c = let p = c.requires in (p.0, p.1)
 
 pub returns : goal.returns
-returns c = put_four (room c) c.put_spaces-c.ensures c.put_name-d.ensures c.put_attributes-e.ensures c.put.ensures (line_is Bits64 _ _ c.node_name.ensures.0 c.args.level)
+returns c = put_four (omega arith) c.put_spaces-c.ensures c.put_name-d.ensures c.put_attributes-e.ensures c.put.ensures (line_is Bits64 _ _ c.node_name.ensures.0 c.args.level)

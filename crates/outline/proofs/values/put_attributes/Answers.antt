@@ -12,10 +12,6 @@ use Rattle.outline.proofs.Parts.{regions, attributes-count, attributes_lost, att
 use Rattle.outline.proofs.values.put_attributes.Goals as goal
 use Rattle.outline.proofs.values.put_attributes.Goals.{In-loop-i}
 
--- a buffer's length is a number of 64 bits
-room : (s : tie.Start invariant-loop decreases-loop) → length s.args.out.now ≤ top
-room s = omega arith
-
 -- the attribute lies in the file
 there : (c : In-loop-i) → c.in-At.q + c.loop-i.i * attribute_size Bits64 + attribute_size Bits64 ≤ 1073741824
 there c =
@@ -37,7 +33,7 @@ returns-in_default c = let p = c.requires in absurd (attributes_lost p.0 p.1 c.a
 pub loop-i-init : goal.loop-i-init
 loop-i-init c = let p = c.requires in
     let t = attributes-at p.0 p.1 c.attribute_field-n.ensures.0 c.attribute_segment-seg.ensures.0 c.attribute_element-el.ensures.0 c.range_at.ensures c.in-At.is in
-    (t, (omega arith, left_start (room c) (omega arith) (ranged_start _ 0 _ ∙ ap (ranged _ 0) t.count)))
+    (t, (omega arith, left_start (omega arith) (omega arith) (ranged_start _ 0 _ ∙ ap (ranged _ 0) t.count)))
 
 pub overflow_mul-i : goal.overflow_mul-i
 overflow_mul-i c = omega (arith, there (goal.at.overflow_mul-i c).In-loop-i)

@@ -1,7 +1,7 @@
 use Prim.Native.Nat.{◌≤◌}
 use native.Mathlib.Omega.{arith}
 use mathlib.Core.Path.{sym, ◌∙◌}
-use borrow.Author.Rules.{sfits_of}
+use borrow.Author.Rules.{rules}
 use lib.ListN.{length}
 use mir.Facts.{to_z-of_z}
 use mir.Syntax.{w32}
@@ -11,25 +11,21 @@ use Rattle.outline.proofs.Addressed.{value_held, value-text}
 use Rattle.outline.proofs.Written.{whole_is, truth_is, float_is, text_is}
 use Rattle.outline.proofs.values.put_value.Goals as goal
 
--- a buffer's length is a number of 64 bits
-room : (s : tie.Start) → length s.args.out.now ≤ top
-room s = omega arith
-
 pub put_text-requires : goal.put_text-requires
 put_text-requires c = let p = c.requires in value_held p.0 p.1 p.3 (sym c.value_at-v.ensures ∙ c.in-Text.is) p.2
 
 pub returns-in-Whole : goal.returns-in-Whole
-returns-in-Whole c = put_same (whole_is Bits64 _ c.value_at-v.ensures c.in-Whole.is (to_z-of_z {w = w32} (sfits_of c.known_told-1.given.0.1)))
-    (put_then (room c) c.put_bytes-e.ensures c.put_whole.ensures)
+returns-in-Whole c = put_same (whole_is Bits64 _ c.value_at-v.ensures c.in-Whole.is (to_z-of_z {w = w32} (search rules)))
+    (put_then (omega arith) c.put_bytes-e.ensures c.put_whole.ensures)
 
 pub returns-in-Truth : goal.returns-in-Truth
 returns-in-Truth c = put_same (truth_is Bits64 _ c.value_at-v.ensures c.in-Truth.is) c.put_truth.ensures
 
 pub returns-in-Float : goal.returns-in-Float
-returns-in-Float c = put_same (float_is Bits64 _ c.value_at-v.ensures c.in-Float.is) (put_then (room c) c.put_bytes-e-in-Float.ensures c.put_hex.ensures)
+returns-in-Float c = put_same (float_is Bits64 _ c.value_at-v.ensures c.in-Float.is) (put_then (omega arith) c.put_bytes-e-in-Float.ensures c.put_hex.ensures)
 
 pub returns-in-Text : goal.returns-in-Text
 returns-in-Text c = let p = c.requires in
     let e = c.value_at-v.ensures in
     let v = c.in-Text.is in
-    put_same (text_is Bits64 _ e v (value-text p.0 p.1 p.3 (sym e ∙ v))) (put_then (room c) c.put_bytes-e-in-Text.ensures c.put_text.ensures)
+    put_same (text_is Bits64 _ e v (value-text p.0 p.1 p.3 (sym e ∙ v))) (put_then (omega arith) c.put_bytes-e-in-Text.ensures c.put_text.ensures)

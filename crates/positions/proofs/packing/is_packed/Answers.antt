@@ -1,5 +1,5 @@
 use mathlib.Core.Path.{sym, ◌∙◌}
-use borrow.Author.Tests.{not-false, eqb-true}
+use borrow.Author.Tests.{eqb-true}
 use Rattle.verdict.proofs.Laws.{unsure}
 use Rattle.positions.proofs.Ranks.{packed}
 use Rattle.positions.proofs.packing.is_packed.Goals as goal

@@ -1,4 +1,3 @@
-use Prim.Native.Nat.{◌-◌}
 use Rattle.positions.proofs.Enough.{few-entries}
 use Rattle.positions.proofs.CountedBelow.{summed_start, summed_most, summed_more, summed_end}
 use native.Mathlib.Omega.{arith}

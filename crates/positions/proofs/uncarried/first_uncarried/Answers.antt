@@ -1,4 +1,3 @@
-use Prim.Native.Nat.{◌-◌}
 use Rattle.positions.proofs.CountedBelow.{between_start, between_up, between_down, between_end}
 use native.Mathlib.Omega.{arith}
 use Rattle.positions.proofs.uncarried.first_uncarried.Goals as goal

@@ -13,4 +13,4 @@ pub doubt_wrong-requires : goal.doubt_wrong-requires
 doubt_wrong-requires c = let w = c.requires.tables in (w.0, w.1, w.2, w.3, w.4, w.5, w.6, c.requires.doubts_len.0, c.batch_right.ensures.memo)
 
 pub returns : goal.returns
-returns c = let both = (unsure, c.doubt_wrong.ensures) in record { answer = both.0; doubts = both.1.0; memo = both.1.1; }
+returns c = record { answer = unsure; doubts = c.doubt_wrong.ensures.doubts; memo = c.doubt_wrong.ensures.memo; }

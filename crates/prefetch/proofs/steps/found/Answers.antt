@@ -1,6 +1,7 @@
 use Rattle.prefetch.proofs.Rights.{entry_in}
 use mathlib.Core.Path.{refl}
 use native.Mathlib.Omega.{arith}
+use borrow.Author.Rules.{rules}
 use Rattle.prefetch.proofs.steps.found.Goals as goal
 
 pub run_has-requires : goal.run_has-requires
@@ -9,4 +10,4 @@ run_has-requires c = let p = c.requires in
 
 pub returns : goal.returns
 returns c = let p = c.requires in
-    λ z. entry_in _ (λ i. omega (arith, c.shared_slice_known-1.given i)) _ _ refl _ _ c.bucket-k.ensures.1 c.value_word.ensures.0 (c.run_has.ensures.so z)
+    λ z. entry_in _ (λ i. search rules) _ _ refl _ _ c.bucket-k.ensures.1 c.value_word.ensures.0 (c.run_has.ensures.so z)

@@ -1,4 +1,3 @@
-use Prim.Native.Nat.{◌-◌}
 use Rattle.search.proofs.Groups.{estimated_none, estimated_more, estimated_upto}
 use native.Mathlib.Omega.{arith}
 use Rattle.search.proofs.group.estimate_each.Goals as goal

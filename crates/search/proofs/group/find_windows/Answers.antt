@@ -1,4 +1,3 @@
-use Prim.Native.Nat.{◌-◌}
 use Rattle.search.proofs.Groups.{within_none, within_more, within-upto, estimated_none, estimated_more, estimated_upto}
 use native.Mathlib.Omega.{arith}
 use Rattle.search.proofs.group.find_windows.Goals as goal

@@ -1,5 +1,4 @@
 use Rattle.search.proofs.Groups.{within-at}
-use Prim.Native.Nat.{◌-◌}
 use Rattle.search.proofs.group.probe.Goals as goal
 
 pub u32_at-requires : goal.u32_at-requires

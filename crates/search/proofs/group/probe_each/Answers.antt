@@ -1,8 +1,7 @@
-use Prim.Native.Nat.{◌-◌}
-use mathlib.Core.Logic.{⊎_elim}
 use Rattle.search.proofs.Searches.{looked_none, looked_upto, looked_told, looked_not}
 use native.Mathlib.Omega.{arith}
 use Rattle.search.proofs.group.probe_each.Goals as goal
+use Rattle.search.proofs.group.probe_each.Goals.{then-r-eq-NOT_TOLD, else-r-eq-NOT_TOLD}
 
 pub loop-j-init : goal.loop-j-init
 loop-j-init c = let p = c.requires.3 in (omega arith, looked_none _ _ _ _ p.second p.third)
@@ -12,11 +11,11 @@ loop-j-preserved c = let w = c.loop-j.invariant.1 in
     let l = c.loop-j-test.true in
     let n = c.requires.1 in (
       omega (arith, l),
-      ⊎_elim
-          (λ z. rw z.1 (looked_not _ _ _ _ _ _ w (omega (arith, l, n)) _))
-          (λ z. rw z.1 (looked_told _ _ _ _ _ _ w (omega (arith, l, n)) _ _ _ c.wide-h.ensures.0
-          c.bucket-k.ensures.0 (c.probe_near-r.ensures z.0.left)))
-          c.if-r-eq-NOT_TOLD.branch,
+      elim c.if-r-eq-NOT_TOLD.branch [
+          then-r-eq-NOT_TOLD z ↦ rw z.m-is (looked_not _ _ _ _ _ _ w (omega (arith, l, n)) _)
+        | else-r-eq-NOT_TOLD z ↦ rw z.m-is (looked_told _ _ _ _ _ _ w (omega (arith, l, n)) _ _ _ c.wide-h.ensures.0
+          c.bucket-k.ensures.0 (c.probe_near-r.ensures z.if-r-eq-NOT_TOLD.false))
+      ],
     )
 
 pub returns : goal.returns

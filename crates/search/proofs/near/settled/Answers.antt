@@ -1,16 +1,10 @@
-use mathlib.Core.Logic.{⊎_elim}
-use Rattle.search.proofs.Nearby.{settled_at, all_of, none_of}
-use native.Mathlib.Omega.{arith}
+use Rattle.search.proofs.Nearby.{settled_at}
 use Rattle.search.proofs.near.settled.Goals as goal
-
-pub overflow_add-result : goal.overflow_add-result
-overflow_add-result c = let x = ⊎_elim (λ z. all_of _ _ z.1) (λ z. none_of _ _ z.1) c.if-c-eq0.branch in
-    let y = ⊎_elim (λ z. all_of _ _ z.1) (λ z. none_of _ _ z.1) c.if-c-eq8.branch in
-    record { fits = omega (arith, x, y, c.requires, c.ranges) }
+use Rattle.search.proofs.near.settled.Goals.{then-c-eq0, else-c-eq0, then-c-eq8, else-c-eq8}
 
 pub returns : goal.returns
 returns c = settled_at _ _ _ _ _ c.requires
-    (λ e. ⊎_elim (λ z. z.1) (λ z. absurd (z.0.left e)) c.if-c-eq0.branch)
-    (λ f. ⊎_elim (λ z. absurd (f z.0.taken)) (λ z. z.1) c.if-c-eq0.branch)
-    (λ e. ⊎_elim (λ z. z.1) (λ z. absurd (z.0.left e)) c.if-c-eq8.branch)
-    (λ f. ⊎_elim (λ z. absurd (f z.0.taken)) (λ z. z.1) c.if-c-eq8.branch)
+    (λ e. elim c.if-c-eq0.branch [ then-c-eq0 w ↦ w.before-is | else-c-eq0 w ↦ absurd (w.if-c-eq0.false e) ])
+    (λ f. elim c.if-c-eq0.branch [ then-c-eq0 w ↦ absurd (f w.if-c-eq0.true) | else-c-eq0 w ↦ w.before-is ])
+    (λ e. elim c.if-c-eq8.branch [ then-c-eq8 w ↦ w.behind-is | else-c-eq8 w ↦ absurd (w.if-c-eq8.false e) ])
+    (λ f. elim c.if-c-eq8.branch [ then-c-eq8 w ↦ absurd (f w.if-c-eq8.true) | else-c-eq8 w ↦ w.behind-is ])

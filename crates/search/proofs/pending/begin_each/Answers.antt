@@ -1,4 +1,3 @@
-use Prim.Native.Nat.{◌-◌}
 use Rattle.search.proofs.Searches.{searching-all, searching_in, searches_none, searches_more, searches_upto}
 use native.Mathlib.Omega.{arith}
 use Rattle.search.proofs.pending.begin_each.Goals as goal

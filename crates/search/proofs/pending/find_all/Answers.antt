@@ -1,4 +1,3 @@
-use Prim.Native.Nat.{◌-◌}
 use mathlib.Core.Path.{refl}
 use Rattle.search.proofs.Searches.{searching-of, near_none, near_more, near_upto}
 use native.Mathlib.Omega.{arith}

@@ -1,4 +1,3 @@
-use Prim.Native.Nat.{◌-◌}
 use mathlib.Core.Path.{refl}
 use Rattle.search.proofs.Searches.{listed_wider, near_of, looked_found, looked_end}
 use native.Mathlib.Omega.{arith}

@@ -1,4 +1,3 @@
-use Prim.Native.Nat.{◌-◌}
 use Rattle.search.proofs.Searches.{searching_end}
 use Rattle.search.proofs.pending.finish.Goals as goal
 

@@ -1,4 +1,3 @@
-use Prim.Native.Nat.{◌-◌}
 use mathlib.Core.Path.{refl}
 use Rattle.search.proofs.Searches.{gathered_none, gathered_more, gathered_upto}
 use native.Mathlib.Omega.{arith}

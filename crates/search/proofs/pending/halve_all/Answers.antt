@@ -1,4 +1,3 @@
-use Prim.Native.Nat.{◌-◌}
 use Rattle.search.proofs.Searches.{searches_on}
 use native.Mathlib.Omega.{arith}
 use Rattle.search.proofs.pending.halve_all.Goals as goal

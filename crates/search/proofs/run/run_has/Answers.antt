@@ -1,4 +1,3 @@
-use Prim.Native.Nat.{◌-◌}
 use Rattle.strings.proofs.Places.{here_in, hash_at}
 use Rattle.search.proofs.Runs.{read_start, read_more, read_found, read_none, read_over, word_at}
 use Rattle.search.proofs.run.run_has.Goals as goal

@@ -1,4 +1,3 @@
-use Prim.Native.Nat.{◌-◌}
 use native.Mathlib.Omega.{arith}
 use Rattle.strings.proofs.Prefetched.{stood_none, stood_more, stood_upto}
 use Rattle.strings.proofs.Places.{few-entries}

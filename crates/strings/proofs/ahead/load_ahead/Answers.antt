@@ -1,4 +1,3 @@
-use Prim.Native.Nat.{◌-◌}
 use native.Mathlib.Omega.{arith}
 use mathlib.Core.Path.{refl}
 use Rattle.strings.proofs.Prefetched.{stands_spot, seen_none, seen_more, seen_upto}

@@ -1,4 +1,3 @@
-use Prim.Native.Nat.{◌-◌}
 use native.Mathlib.Omega.{arith}
 use Rattle.strings.proofs.Places.{few-entries}
 use Rattle.strings.proofs.Differing.{rounds_start, rounds_next, rounds_end}

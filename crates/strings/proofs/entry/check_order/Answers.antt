@@ -1,4 +1,3 @@
-use borrow.Author.Tests.{not-true, not-false}
 use Rattle.strings.proofs.Checks.{refused_10, refused_11, refused_12, entry_passes}
 use Rattle.strings.proofs.Runs.{sorted}
 use Rattle.strings.proofs.entry.check_order.Goals as goal

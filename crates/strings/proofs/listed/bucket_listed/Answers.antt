@@ -1,8 +1,6 @@
-use Prim.Native.Nat.{◌-◌}
 use native.Mathlib.Omega.{arith}
 use borrow.Author.Count.{below_none, below_more}
 use borrow.Author.Rules.{rules}
-use borrow.Author.Tests.{not-false}
 use Rattle.verdict.proofs.Laws.{unsure}
 use Rattle.strings.proofs.Places.{here_in}
 use Rattle.strings.proofs.listed.bucket_listed.Goals as goal

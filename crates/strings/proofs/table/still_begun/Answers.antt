@@ -1,4 +1,4 @@
-use borrow.Author.Tests.{not-false, eqb-true}
+use borrow.Author.Tests.{eqb-true}
 use Rattle.verdict.proofs.Laws.{unsure}
 use Rattle.strings.proofs.Begun.{begun_first, begun_behind}
 use Rattle.strings.proofs.Places.{element-at}

@@ -1,8 +1,6 @@
 use mathlib.Core.Path.{refl, sym, ◌∙◌}
-use mathlib.Core.Logic.{⊎_elim}
-use Prim.Native.Nat.{◌+◌, ◌-◌, ◌≤◌, ◌<◌}
+use Prim.Native.Nat.{◌+◌, ◌≤◌, ◌<◌}
 use native.Mathlib.Omega.{arith}
-use borrow.Author.Tests.{not-true, not-false}
 use lib.ListN.{length}
 use Rattle.region.specs.Region.{Resolves, used_of}
 use Rattle.layout.specs.Edition.{node_size}
@@ -14,7 +12,7 @@ use Rattle.tree.specs.File.{used_node_count}
 use Rattle.tree.proofs.Passing.{Passed, Inside, inside, pass_start, pass_open, pass_next, pass_end, pass_node, pass_stop, left_refused, left_accepted}
 use Rattle.tree.proofs.Children.{rules-hold}
 use Rattle.tree.proofs.marks.mark_nodes.Goals as goal
-use Rattle.tree.proofs.marks.mark_nodes.Goals.{At-segments, In-loop-el, In-segments, Left-segments}
+use Rattle.tree.proofs.marks.mark_nodes.Goals.{At-segments, In-loop-el, In-segments, Left-segments, else-segments-test, then-segments-test+then-loop-el-test+then-not-mark_node}
 
 -- the code is in a segment
 here : (c : In-segments) → Inside Bits64 c.args.b.now c.segments.seg c.segments.at
@@ -22,7 +20,7 @@ here c =
     inside Bits64 c.args.b.now c.requires.0.nodes _ _ c.segments-test.true c.segments.invariant.1.at_is
 
 -- the workspace has room for the used nodes all the time
-room-from : (c : At-segments) → used_node_count Bits64 c.args.b.now ≤ length c.set_range.new.0
+room-from : (c : At-segments) → used_node_count Bits64 c.args.b.now ≤ length c.set_range.new.ws
 room-from c = omega (arith, c.requires.3)
 
 room-here : (c : At-segments) → used_node_count Bits64 c.args.b.now ≤ length c.segments.ws
@@ -33,25 +31,26 @@ below : (c : In-loop-el) → c.loop-el.el < used_of (node_size Bits64) c.args.b.
 below c = omega (arith, c.loop-el-test.true, c.loop-el.invariant.0)
 
 there : (c : In-loop-el) → Resolves (node_size Bits64) c.args.b.now (nodes_at Bits64 c.args.b.now) c.segments.seg c.loop-el.el
-there c = record { seg_in = ((let it : Inside Bits64 c.args.b.now c.segments.seg c.segments.at = inside Bits64 c.args.b.now c.requires.0.nodes _ _ c.segments-test.true c.segments.invariant.1.at_is in it)).seg_in; el_in = below c }
+there c = record { seg_in = omega (arith, c.segments-test.true, c.requires.0.nodes.count_is); el_in = below c }
 
 inside_file : (c : In-loop-el) → c.loop-el.p + node_size Bits64 ≤ length c.args.b.now
 inside_file c = node-fits Bits64 _ _ _ _ c.requires.0.laid.nodes (there c) c.loop-el.invariant.3
 
 -- where the ways out of the segments meet
-passed : (c : Left-segments) → Passed Bits64 c.args.b.now c.set_range.new.0 c.segments-test.fault c.segments-test.ws
+passed : (c : Left-segments) → Passed Bits64 c.args.b.now c.set_range.new.ws c.segments-test.fault c.segments-test.ws
 passed c =
     let g = c.requires.0.laid.nodes in
     let i = c.segments.invariant in
-    ⊎_elim
-    (λ w. rw (w.1, w.2 ∙ i.0)
-    (pass_end Bits64 c.args.b.now _ ((let it : used_node_count Bits64 c.args.b.now ≤ length c.set_range.new.0 = omega (arith, c.requires.3) in it)) g _ _ _ (omega (arith, w.0.left, c.requires.0.nodes.count_is)) i.1))
-    (λ w.
-    let n : tie.In-loop invariant-loop decreases-loop invariant-segments decreases-segments = record { before = record { before = record { before = record { before = c; if1 = w.0 }; used-count = w.1 }; loop = w.2 }; loop-test = w.3 } in
-    rw (w.9, w.10)
-    (pass_stop Bits64 c.args.b.now _ ((let it : used_node_count Bits64 c.args.b.now ≤ length c.segments.ws = omega (arith, (let it : used_node_count Bits64 c.args.b.now ≤ length c.set_range.new.0 = omega (arith, c.requires.3) in it), c.segments.invariant.1.marks.long) in it)) g (rules-hold c.requires.0) _ _ _ (there n) w.2.inv.3
-    _ _ _ w.5.ensures _ _ i.1 w.2.inv.2 (not-true _ w.8.taken)))
-    c.segments-test.branch
+    let room : used_node_count Bits64 c.args.b.now ≤ length c.set_range.new.ws = omega (arith, c.requires.3) in
+    elim c.segments-test.branch [
+      else-segments-test w ↦ rw (w.ws-is, w.fault-is ∙ i.0) (pass_end Bits64 c.args.b.now _ room g _ _ _ (omega (arith, w.segments-test.false, c.requires.0.nodes.count_is)) i.1)
+    | then-segments-test+then-loop-el-test+then-not-mark_node w ↦
+        let l = w.loop-el.invariant in
+        let s = inside Bits64 c.args.b.now c.requires.0.nodes _ _ w.segments-test.true i.1.at_is in
+        let n : Resolves (node_size Bits64) c.args.b.now (nodes_at Bits64 c.args.b.now) c.segments.seg w.loop-el.el = record { seg_in = s.seg_in; el_in = omega (arith, w.loop-el-test.true, l.0) } in
+        rw (w.ws-is, w.fault-is)
+        (pass_stop Bits64 c.args.b.now _ (omega (arith, room, i.1.marks.long)) g (rules-hold c.requires.0) _ _ _ n l.3 _ _ _ w.mark_node.ensures _ _ i.1 l.2 w.if-not-mark_node.true)
+    ]
 
 pub first_start-at-requires : goal.first_start-at-requires
 first_start-at-requires c = let m = c.requires.0.nodes in omega (arith, m.at_is, m.short, m.laid.head)
@@ -60,7 +59,7 @@ pub segments-init : goal.segments-init
 segments-init c = (refl, pass_start Bits64 c.args.b.now c.args.ws.now c.requires.3 _ _ _ c.first_start-at.ensures c.requires.0.nodes.at_is (rw (sym c.requires.2) c.set_range.ensures))
 
 pub used_count-n-requires : goal.used_count-n-requires
-used_count-n-requires c = omega (arith, (here (goal.at.used_count-n-requires c).In-segments).ranges)
+used_count-n-requires c = omega (arith, (here (goal.at.used_count-n-requires c).In-segments).fits)
 
 pub loop-el-init : goal.loop-el-init
 loop-el-init c = let l = c.segments in

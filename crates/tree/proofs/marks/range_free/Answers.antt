@@ -1,6 +1,5 @@
 use borrow.Author.Rules.{rules}
 use borrow.Author.Count.{below_more}
-use Prim.Native.Nat.{◌-◌}
 use native.Mathlib.Omega.{arith}
 use Rattle.verdict.proofs.Laws.{tells_yes, tells_no}
 use Rattle.tree.proofs.marks.range_free.Goals as goal

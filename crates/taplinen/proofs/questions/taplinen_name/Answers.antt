@@ -1,0 +1,7 @@
+use Rattle.lookup.specs.Kinds.{told_in, table_of}
+use Rattle.taplinen.specs.Questions.{text_answer, name_answer}
+use Rattle.taplinen.proofs.questions.taplinen_name.Goals as goal
+
+pub returns : goal.returns
+unfolding name_answer text_answer told_in table_of
+returns c = record { answer = c.ask.ensures.answer; workspace = c.ask.ensures.workspace; }
