@@ -1,5 +1,4 @@
 use native.Mathlib.Omega.{arith}
-use Prim.Native.Nat.{◌-◌}
 use mathlib.Core.Path.{sym, ◌∙◌}
 use Rattle.path.proofs.Formed.{looking_start, looking_on, looking_end}
 use Rattle.path.proofs.names.name_end.Goals as goal

@@ -1,4 +1,3 @@
-use Prim.Native.Nat.{◌-◌}
 use mathlib.Core.Path.{◌∙◌}
 use Rattle.prefetch.proofs.Doubting.{examined_none, examined_more, examined_upto}
 use native.Mathlib.Omega.{arith}

@@ -3,7 +3,7 @@ use Rattle.le.specs.Le.{u32_at}
 use Rattle.region.proofs.Samples.{start_more, used-at}
 use Rattle.prefetch.proofs.Rights.{rows_start, segment_in, row_in, rows_none, rows_still, rows_more, rows_all}
 use Rattle.prefetch.proofs.Doubting.{still}
-use Prim.Native.Nat.{◌+◌, ◌-◌, ◌*◌, ◌≤◌}
+use Prim.Native.Nat.{◌+◌, ◌*◌, ◌≤◌}
 use mathlib.Core.Path.{refl, ◌∙◌}
 use lib.ListN.{length}
 use Rattle.layout.specs.Edition.{attribute_size}

@@ -1,6 +1,5 @@
 use mathlib.Core.Path.{sym}
 use Rattle.nodes.proofs.Types.{kind_is}
-use Prim.Native.Nat.{◌-◌}
 use Rattle.prefetch.proofs.Taking.{slotted_start, slotted_step}
 use native.Mathlib.Omega.{arith}
 use Rattle.layout.specs.declared.Edition.TheVariants.{Bits64}

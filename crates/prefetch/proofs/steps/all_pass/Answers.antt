@@ -1,9 +1,7 @@
 use Rattle.verdict.proofs.Laws.{unsure}
 use Rattle.prefetch.proofs.Filling.{fit_read, seen_read}
 use Rattle.prefetch.proofs.Rights.{passed_more}
-use Prim.Native.Nat.{◌-◌}
 use borrow.Author.Count.{below_none}
-use borrow.Author.Tests.{not-false}
 use native.Mathlib.Omega.{arith}
 use Rattle.prefetch.proofs.steps.all_pass.Goals as goal
 

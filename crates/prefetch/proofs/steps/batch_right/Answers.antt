@@ -1,5 +1,4 @@
 use mathlib.Core.Path.{refl, sym, subst}
-use borrow.Author.Tests.{not-false}
 use Rattle.verdict.proofs.Laws.{unsure}
 use Rattle.layout.specs.Table.{Table}
 use Rattle.layout.specs.declared.Edition.TheVariants.{Bits64}

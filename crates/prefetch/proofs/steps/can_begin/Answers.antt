@@ -1,7 +1,7 @@
 use mathlib.Core.Bool.{false≢true}
 use mathlib.Core.Path.{sym, ◌∙◌}
 use mathlib.Core.Logic.{inl, inr}
-use borrow.Author.Tests.{not-true, eqb-true}
+use borrow.Author.Tests.{eqb-true}
 use Rattle.prefetch.proofs.steps.can_begin.Goals as goal
 
 pub returns-then-not-packed : goal.returns-then-not-packed

@@ -1,10 +1,8 @@
 use mathlib.Core.Path.{refl}
 use Rattle.search.proofs.Groups.{low_read}
-use Prim.Native.Nat.{◌-◌}
 use borrow.Author.Count.{below_none, below_more}
 use Rattle.verdict.proofs.Laws.{unsure}
 use Rattle.prefetch.proofs.Rights.{found_at}
-use borrow.Author.Tests.{not-false}
 use native.Mathlib.Omega.{arith}
 use Rattle.prefetch.proofs.steps.find_entries.Goals as goal
 

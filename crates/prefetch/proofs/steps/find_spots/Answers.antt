@@ -3,7 +3,7 @@ use Rattle.prefetch.proofs.Rights.{spot_of, fits-of}
 use Rattle.prefetch.proofs.Filling.{spots_none, spots_more, spots_upto, fit_none, fit_more, fit_upto}
 use Rattle.nodes.proofs.Addresses.{spot-fits}
 use lib.ListN.{length, length-set}
-use Prim.Native.Nat.{◌+◌, ◌*◌, ◌≤◌, ◌-◌}
+use Prim.Native.Nat.{◌+◌, ◌*◌, ◌≤◌}
 use native.Mathlib.Omega.{arith}
 use Rattle.prefetch.proofs.steps.find_spots.Goals as goal
 use Rattle.prefetch.proofs.steps.find_spots.Goals.{In-At}

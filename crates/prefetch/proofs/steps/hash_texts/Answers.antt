@@ -1,6 +1,5 @@
 use Rattle.nodes.proofs.Noting.{hash-small}
 use Rattle.prefetch.proofs.Filling.{fit_read, length-kept}
-use Prim.Native.Nat.{◌-◌}
 use native.Mathlib.Omega.{arith}
 use Rattle.prefetch.proofs.steps.hash_texts.Goals as goal
 

@@ -1,6 +1,5 @@
 use Rattle.prefetch.proofs.Filling.{seen_none, seen_more, seen_upto, fit_read}
 use lib.ListN.{length-set}
-use Prim.Native.Nat.{◌-◌}
 use native.Mathlib.Omega.{arith}
 use Rattle.prefetch.proofs.steps.load_before.Goals as goal
 

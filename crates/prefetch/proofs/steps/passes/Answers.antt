@@ -1,5 +1,5 @@
 use mathlib.Core.Logic.{⊎_elim}
-use borrow.Author.Tests.{not-false, eqb-true}
+use borrow.Author.Tests.{eqb-true}
 use Rattle.verdict.proofs.Laws.{unsure}
 use Rattle.prefetch.proofs.Rights.{hashed-here, behind_first, behind_zero}
 use Rattle.prefetch.proofs.steps.passes.Goals as goal
