@@ -11,10 +11,10 @@ returns-then-k-eq1 c = let e = c.char_on.ensures in (hash-one _ _ _ _ _ _ c.if-k
 
 pub returns-then-k-eq2 : goal.returns-then-k-eq2
 returns-then-k-eq2 c = (
-      hash-two _ _ _ _ 0 _ _ _ (λ i. omega (arith, c.shared_slice_known-1.given i)) c.if-k-eq2.true c.u32_at.ensures.0
-          c.pair_on-g.ensures.0 (hash-none _ _ _ _ refl),
-      c.pair_on-g.ensures.1,
-    )
+  hash-two _ _ _ _ 0 _ _ _ (λ i. omega (arith, c.shared_slice_known-1.given i)) c.if-k-eq2.true c.u32_at.ensures.0
+      c.pair_on-g.ensures.0 (hash-none _ _ _ _ refl),
+  c.pair_on-g.ensures.1,
+)
 
 pub returns : goal.returns
 returns c = let e = c.char_on-2.ensures in

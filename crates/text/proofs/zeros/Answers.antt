@@ -23,8 +23,8 @@ loop-at-preserved c = let w = c.loop-at.invariant in
     let l = c.loop-at-test.true in
     let r = c.u16_at.ensures.0 in
     elim c.if-u16_at-eq0.branch [
-      then-u16_at-eq0 z ↦ rw z.found-is (counted_zero w l (sym r ∙ z.if-u16_at-eq0.true))
-    | else-u16_at-eq0 z ↦ rw z.found-is (counted_other w l (λ e. z.if-u16_at-eq0.false (r ∙ e)))
+      | then-u16_at-eq0 z ↦ rw z.found-is (counted_zero w l (sym r ∙ z.if-u16_at-eq0.true))
+      | else-u16_at-eq0 z ↦ rw z.found-is (counted_other w l (λ e. z.if-u16_at-eq0.false (r ∙ e)))
     ]
 
 pub returns : goal.returns

@@ -8,10 +8,10 @@ pub overflow_sub-n : goal.overflow_sub-n
 overflow_sub-n c = omega (arith, list_is _ _ _ _ c.requires.0 _ c.u32_at-n.ensures.0, c.requires.0.laid.some)
 
 pub listed_is-requires : goal.listed_is-requires
-listed_is-requires c = record { held = (c.requires.0, c.requires.2); le_i = (omega arith, omega (arith, list_is _ _ _ _ c.requires.0 _ c.u32_at-n.ensures.0), omega arith); }
+listed_is-requires c = record { held = (c.requires.0, c.requires.2); le_i = (omega arith, omega (arith, list_is _ _ _ _ c.requires.0 _ c.u32_at-n.ensures.0), omega arith) }
 
 pub listed_is-requires-then-listed_is : goal.listed_is-requires-then-listed_is
-listed_is-requires-then-listed_is c = record { held = (c.requires.0, c.requires.2); le_i = (omega arith, omega (arith, list_is _ _ _ _ c.requires.0 _ c.u32_at-n.ensures.0), omega arith); }
+listed_is-requires-then-listed_is c = record { held = (c.requires.0, c.requires.2); le_i = (omega arith, omega (arith, list_is _ _ _ _ c.requires.0 _ c.u32_at-n.ensures.0), omega arith) }
 
 pub returns-then-listed_is-2 : goal.returns-then-listed_is-2
 returns-then-listed_is-2 c = root_top Bits64 _ _ c.requires.1 _ (name-count Bits64 _ _ c.requires.1 _ (list_is _ _ _ _ c.requires.0 _ c.u32_at-n.ensures.0)) c.requires.2 c.if-n-ge2.true
@@ -19,10 +19,10 @@ returns-then-listed_is-2 c = root_top Bits64 _ _ c.requires.1 _ (name-count Bits
     ((named Bits64 _ _ c.requires.1 _ _ _ value-chars c.listed_is-then-listed_is.ensures).so c.if-listed_is-2.true)
 
 pub listed_is-requires-else-listed_is : goal.listed_is-requires-else-listed_is
-listed_is-requires-else-listed_is c = record { held = (c.requires.0, c.requires.2); le_i = (omega arith, omega (arith, list_is _ _ _ _ c.requires.0 _ c.u32_at-n.ensures.0), omega arith); }
+listed_is-requires-else-listed_is c = record { held = (c.requires.0, c.requires.2); le_i = (omega arith, omega (arith, list_is _ _ _ _ c.requires.0 _ c.u32_at-n.ensures.0), omega arith) }
 
 pub listed_is-requires-then-listed_is-3 : goal.listed_is-requires-then-listed_is-3
-listed_is-requires-then-listed_is-3 c = record { held = (c.requires.0, c.requires.2); le_i = (omega arith, omega (arith, list_is _ _ _ _ c.requires.0 _ c.u32_at-n.ensures.0), omega arith); }
+listed_is-requires-then-listed_is-3 c = record { held = (c.requires.0, c.requires.2); le_i = (omega arith, omega (arith, list_is _ _ _ _ c.requires.0 _ c.u32_at-n.ensures.0), omega arith) }
 
 pub returns-then-listed_is-4 : goal.returns-then-listed_is-4
 returns-then-listed_is-4 c = value_top Bits64 _ _ c.requires.1 _ (name-count Bits64 _ _ c.requires.1 _ (list_is _ _ _ _ c.requires.0 _ c.u32_at-n.ensures.0)) c.requires.2 c.if-n-ge2.true

@@ -24,7 +24,7 @@ here c = node_in Bits64 _ _ c.requires.1.placed.nodes _ _ c.segments-test.true c
 
 pub returns-then-nodes-eq0 : goal.returns-then-nodes-eq0
 returns-then-nodes-eq0 c = let p = c.requires in
-    record { answer = no_segment Bits64 _ _ p.1.placed.nodes c.if-nodes-eq0.true; memo = p.4; }
+    record { answer = no_segment Bits64 _ _ p.1.placed.nodes c.if-nodes-eq0.true; memo = p.4 }
 
 pub first_start-at-requires : goal.first_start-at-requires
 first_start-at-requires c = let w = c.requires.1.placed.nodes in omega (arith, w.at_is, w.short, w.laid.head)
@@ -35,7 +35,7 @@ used_count-requires c = let w = c.requires.1.placed.nodes in
 
 pub returns-then-used_count-eq0 : goal.returns-then-used_count-eq0
 returns-then-used_count-eq0 c = let p = c.requires in
-    record { answer = no_node Bits64 _ _ p.1.placed.nodes _ _ c.first_start-at.ensures c.used_count.ensures.0 c.if-used_count-eq0.true; memo = p.4; }
+    record { answer = no_node Bits64 _ _ p.1.placed.nodes _ _ c.first_start-at.ensures c.used_count.ensures.0 c.if-used_count-eq0.true; memo = p.4 }
 
 pub segments-init : goal.segments-init
 segments-init c = let p = c.requires in
@@ -81,8 +81,8 @@ segments-preserved c = let q = c.segments.invariant.1 in
 
 pub returns-after-segments : goal.returns-after-segments
 returns-after-segments c = let i = c.segments.invariant in
-    record { answer = i.2 ∙ sym (i.3 ∙ left_none _ _ _ _ (omega (arith, c.segments-test.false, c.requires.1.placed.nodes.count_is))); memo = i.4; }
+    record { answer = i.2 ∙ sym (i.3 ∙ left_none _ _ _ _ (omega (arith, c.segments-test.false, c.requires.1.placed.nodes.count_is))); memo = i.4 }
 
 pub returns-in-Refused : goal.returns-in-Refused
 returns-in-Refused c = let w = c.check_node.ensures in
-    record { answer = sym (c.loop-el.invariant.3 ∙ left_stop _ _ _ _ _ (here (goal.at.returns-in-Refused c).In-loop-el).el_in w.answer c.in-Refused.is); memo = w.memo; }
+    record { answer = sym (c.loop-el.invariant.3 ∙ left_stop _ _ _ _ _ (here (goal.at.returns-in-Refused c).In-loop-el).el_in w.answer c.in-Refused.is); memo = w.memo }

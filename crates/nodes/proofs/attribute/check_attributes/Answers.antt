@@ -14,7 +14,7 @@ attribute_right-requires c = (c.requires.tables.1, attribute_is Bits64 _ _ _ _ c
 pub returns-then-not-attribute_right : goal.returns-then-not-attribute_right
 returns-then-not-attribute_right c = let i = c.loop-i.invariant in
     let p = c.requires.n_value in
-    record { answer = sym (i.0 ∙ refused_18 Bits64 _ _ _ _ p.0 c.loop-i-test.true _ (attribute_is Bits64 _ _ _ _ p.1) (c.attribute_right.ensures.not c.if-not-attribute_right.true)); memo = i.1; }
+    record { answer = sym (i.0 ∙ refused_18 Bits64 _ _ _ _ p.0 c.loop-i-test.true _ (attribute_is Bits64 _ _ _ _ p.1) (c.attribute_right.ensures.not c.if-not-attribute_right.true)); memo = i.1 }
 
 pub text_passes-requires : goal.text_passes-requires
 text_passes-requires c = let p = c.requires.tables in
@@ -22,7 +22,7 @@ text_passes-requires c = let p = c.requires.tables in
 
 pub returns-then-not-text_passes : goal.returns-then-not-text_passes
 returns-then-not-text_passes c = let p = c.requires.n_value in
-    record { answer = sym (c.loop-i.invariant.0 ∙ refused_19 Bits64 _ _ _ _ p.0 c.loop-i-test.true _ (attribute_is Bits64 _ _ _ _ p.1) (c.attribute_right.ensures.so c.if-not-attribute_right.false) (c.text_passes.ensures.answer.not c.if-not-text_passes.true)); memo = c.text_passes.ensures.memo; }
+    record { answer = sym (c.loop-i.invariant.0 ∙ refused_19 Bits64 _ _ _ _ p.0 c.loop-i-test.true _ (attribute_is Bits64 _ _ _ _ p.1) (c.attribute_right.ensures.so c.if-not-attribute_right.false) (c.text_passes.ensures.answer.not c.if-not-text_passes.true)); memo = c.text_passes.ensures.memo }
 
 pub loop-i-preserved : goal.loop-i-preserved
 loop-i-preserved c = let p = c.requires.n_value in
@@ -30,4 +30,4 @@ loop-i-preserved c = let p = c.requires.n_value in
 
 pub returns : goal.returns
 returns c = let i = c.loop-i.invariant in
-    record { answer = sym (i.0 ∙ attributes-none Bits64 _ _ _ _ c.requires.n_value.0 c.loop-i-test.false); memo = i.1; }
+    record { answer = sym (i.0 ∙ attributes-none Bits64 _ _ _ _ c.requires.n_value.0 c.loop-i-test.false); memo = i.1 }

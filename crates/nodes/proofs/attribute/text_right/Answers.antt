@@ -16,19 +16,22 @@ sought : (c : After-spot_at-a)
 sought c = text_sought _ _ _ c.text_segment.ensures.0 c.text_element.ensures.0 c.spot_at-a.ensures
 
 pub returns-then-kind-ne3 : goal.returns-then-kind-ne3
-returns-then-kind-ne3 c = record { answer = other_type Bits64 _ _ _ _ c.type_word-word.ensures.0 c.kind.ensures.0 c.if-kind-ne3.true; memo = c.requires.5; }
+returns-then-kind-ne3 c = record { answer = other_type Bits64 _ _ _ _ c.type_word-word.ensures.0 c.kind.ensures.0 c.if-kind-ne3.true; memo = c.requires.5 }
 
 pub returns-in_default : goal.returns-in_default
 returns-in_default c = let p = c.requires in
-    record { answer = text-nowhere Bits64 _ _ _ _ c.type_word-word.ensures.0 c.kind.ensures.0 c.if-kind-ne3.false _ p.2 p.3 (sought (goal.at.returns-in_default c).After-spot_at-a) c.in_default.is; memo = p.5; }
+    record { answer = text-nowhere Bits64 _ _ _ _ c.type_word-word.ensures.0 c.kind.ensures.0 c.if-kind-ne3.false _ p.2 p.3 (sought (goal.at.returns-in_default c).After-spot_at-a) c.in_default.is; memo = p.5 }
 
 pub remembered_hash-requires : goal.remembered_hash-requires
 remembered_hash-requires c = let p = c.requires in (p.0, spot-fits _ _ _ _ p.1.laid.characters (sought (goal.at.remembered_hash-requires c).After-spot_at-a) c.in-At.is, omega (arith, p.1.small), p.5)
 
 pub returns-then-extended-remembered_hash : goal.returns-then-extended-remembered_hash
 returns-then-extended-remembered_hash c = let p = c.requires in
-    record { answer = text_differs Bits64 _ _ _ _ c.type_word-word.ensures.0 c.kind.ensures.0 c.if-kind-ne3.false _ p.2 p.3 (sought (goal.at.returns-then-extended-remembered_hash c).After-spot_at-a) c.in-At.is _
-          c.remembered_hash.ensures.answer _ c.extended.ensures c.if-extended-remembered_hash.true; memo = c.remembered_hash.ensures.memo; }
+    record {
+      answer = text_differs Bits64 _ _ _ _ c.type_word-word.ensures.0 c.kind.ensures.0 c.if-kind-ne3.false _ p.2 p.3 (sought (goal.at.returns-then-extended-remembered_hash c).After-spot_at-a) c.in-At.is _
+          c.remembered_hash.ensures.answer _ c.extended.ensures c.if-extended-remembered_hash.true;
+      memo = c.remembered_hash.ensures.memo;
+    }
 
 pub text_hash-h-requires : goal.text_hash-h-requires
 text_hash-h-requires c = let p = c.requires in (p.0, spot-fits _ _ _ _ p.1.laid.characters (sought (goal.at.text_hash-h-requires c).After-spot_at-a) c.in-At.is, omega (arith, p.1.small), c.remembered_hash.ensures.memo)
@@ -47,6 +50,9 @@ run_has-requires c = let p = c.requires in
 
 pub returns : goal.returns
 returns c = let p = c.requires in
-    record { answer = text-told Bits64 _ _ _ _ c.type_word-word.ensures.0 c.kind.ensures.0 c.if-kind-ne3.false _ p.2 p.3 (sought (goal.at.returns c).After-spot_at-a) c.in-At.is _
+    record {
+      answer = text-told Bits64 _ _ _ _ c.type_word-word.ensures.0 c.kind.ensures.0 c.if-kind-ne3.false _ p.2 p.3 (sought (goal.at.returns c).After-spot_at-a) c.in-At.is _
           c.remembered_hash.ensures.answer _ c.extended.ensures (λ i. search rules) refl c.if-extended-remembered_hash.false _ c.text_hash-h.ensures.answer _
-          c.bucket-k.ensures _ c.value_word-address.ensures.0 c.run_has.ensures; memo = c.text_hash-h.ensures.memo; }
+          c.bucket-k.ensures _ c.value_word-address.ensures.0 c.run_has.ensures;
+      memo = c.text_hash-h.ensures.memo;
+    }

@@ -9,11 +9,11 @@ value_run-first-requires c = let p = c.requires in
     (p.0, omega (arith, p.1, (c.worth.ensures c.if-not-worth.false).0), omega arith)
 
 pub returns-then-first-lt16384 : goal.returns-then-first-lt16384
-returns-then-first-lt16384 c = record { answer = value-first _ _ _ _ _ (c.worth.ensures c.if-not-worth.false).0 c.value_run-first.ensures c.if-first-lt16384.true; memo = c.requires.3; }
+returns-then-first-lt16384 c = record { answer = value-first _ _ _ _ _ (c.worth.ensures c.if-not-worth.false).0 c.value_run-first.ensures c.if-first-lt16384.true; memo = c.requires.3 }
 
 pub returns-then-known-lt4294967296 : goal.returns-then-known-lt4294967296
 returns-then-known-lt4294967296 c = let m = c.requires.3 in
-    record { answer = c.recall-known.ensures.right _ m (omega (arith, c.if-known-lt4294967296.true)) ∙ value-noted _ _ _ (c.worth.ensures c.if-not-worth.false).1; memo = m; }
+    record { answer = c.recall-known.ensures.right _ m (omega (arith, c.if-known-lt4294967296.true)) ∙ value-noted _ _ _ (c.worth.ensures c.if-not-worth.false).1; memo = m }
 
 pub overflow_sub-n : goal.overflow_sub-n
 overflow_sub-n c = omega (arith, (c.worth.ensures c.if-not-worth.false).0)
@@ -32,4 +32,4 @@ pub returns : goal.returns
 returns c = let p = c.requires in
     let w = c.worth.ensures c.if-not-worth.false in
     let r = value-second _ _ _ _ _ w.0 c.value_run-first.ensures _ c.if-first-lt16384.false c.value_hash-r.ensures in
-    record { answer = r; memo = c.remember.ensures.right _ p.3 (r ∙ sym (value-noted _ _ _ w.1)); }
+    record { answer = r; memo = c.remember.ensures.right _ p.3 (r ∙ sym (value-noted _ _ _ w.1)) }

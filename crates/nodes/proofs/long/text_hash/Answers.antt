@@ -8,11 +8,11 @@ measure-first-requires c = let p = c.requires in
     (p.0, omega (arith, p.1, (c.worth.ensures c.if-not-worth.false).0))
 
 pub returns-then-first-lt64 : goal.returns-then-first-lt64
-returns-then-first-lt64 c = record { answer = short-hash _ _ _ _ (c.worth.ensures c.if-not-worth.false).0 c.measure-first.ensures c.if-first-lt64.true; memo = c.requires.3; }
+returns-then-first-lt64 c = record { answer = short-hash _ _ _ _ (c.worth.ensures c.if-not-worth.false).0 c.measure-first.ensures c.if-first-lt64.true; memo = c.requires.3 }
 
 pub returns-then-known-lt4294967296 : goal.returns-then-known-lt4294967296
 returns-then-known-lt4294967296 c = let m = c.requires.3 in
-    record { answer = c.recall-known.ensures.right _ m (omega (arith, c.if-known-lt4294967296.true)) ∙ hash-noted _ _ _; memo = m; }
+    record { answer = c.recall-known.ensures.right _ m (omega (arith, c.if-known-lt4294967296.true)) ∙ hash-noted _ _ _; memo = m }
 
 pub remember-requires : goal.remember-requires
 remember-requires c = let p = c.requires in
@@ -21,4 +21,4 @@ remember-requires c = let p = c.requires in
 
 pub returns : goal.returns
 returns c = let r = c.measure-m.ensures.hashed in
-    record { answer = r; memo = c.remember.ensures.right _ c.requires.3 (r ∙ sym (hash-noted _ _ _)); }
+    record { answer = r; memo = c.remember.ensures.right _ c.requires.3 (r ∙ sym (hash-noted _ _ _)) }

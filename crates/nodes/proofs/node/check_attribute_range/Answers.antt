@@ -19,21 +19,21 @@ range : (c : After-range_at-r)
 range c = attributes_sought Bits64 _ _ _ _ c.requires.mapped.0 _ _ c.attribute_segment.ensures.0 c.attribute_element.ensures.0 _ c.range_at-r.ensures
 
 pub returns-then-n-eq0 : goal.returns-then-n-eq0
-returns-then-n-eq0 c = record { answer = range_none Bits64 _ _ _ (count (goal.at.returns-then-n-eq0 c).After-attribute_field-n) c.if-n-eq0.true; memo = c.requires.mapped.6; }
+returns-then-n-eq0 c = record { answer = range_none Bits64 _ _ _ (count (goal.at.returns-then-n-eq0 c).After-attribute_field-n) c.if-n-eq0.true; memo = c.requires.mapped.6 }
 
 pub range_at-r-requires : goal.range_at-r-requires
 range_at-r-requires c = let p = c.requires.mapped in
-    record { mapped = lent p.0 p.1; el_bound = (c.attribute_element.ensures.1, c.attribute_field-n.ensures.1); }
+    record { mapped = lent p.0 p.1; el_bound = (c.attribute_element.ensures.1, c.attribute_field-n.ensures.1) }
 
 pub check_attributes-requires : goal.check_attributes-requires
 check_attributes-requires c = let p = c.requires.mapped in
     let n = count (goal.at.check_attributes-requires c).After-attribute_field-n in
     let f = range (goal.at.check_attributes-requires c).After-range_at-r in
     let e = c.in-At.is in
-    record { tables = c.requires.tables; n_value = (n, attributes_start Bits64 _ _ _ n _ f _ e, attributes_fit Bits64 _ _ _ n _ f _ e p.0.laid, p.4, attributes-known Bits64 _ _ _ n _ f _ e (Trusted Bits64 _ _) p.5, p.6); }
+    record { tables = c.requires.tables; n_value = (n, attributes_start Bits64 _ _ _ n _ f _ e, attributes_fit Bits64 _ _ _ n _ f _ e p.0.laid, p.4, attributes-known Bits64 _ _ _ n _ f _ e (Trusted Bits64 _ _) p.5, p.6) }
 
 pub returns-in-At : goal.returns-in-At
-returns-in-At c = record { answer = range-told Bits64 _ _ _ (count (goal.at.returns-in-At c).After-attribute_field-n) _ (range (goal.at.returns-in-At c).After-range_at-r) _ c.in-At.is _ c.check_attributes.ensures.answer; memo = c.check_attributes.ensures.memo; }
+returns-in-At c = record { answer = range-told Bits64 _ _ _ (count (goal.at.returns-in-At c).After-attribute_field-n) _ (range (goal.at.returns-in-At c).After-range_at-r) _ c.in-At.is _ c.check_attributes.ensures.answer; memo = c.check_attributes.ensures.memo }
 
 pub returns-in-Nowhere : goal.returns-in-Nowhere
-returns-in-Nowhere c = record { answer = range-nowhere Bits64 _ _ _ (count (goal.at.returns-in-Nowhere c).After-attribute_field-n) _ (range (goal.at.returns-in-Nowhere c).After-range_at-r) c.if-n-eq0.false c.in-Nowhere.is; memo = c.requires.mapped.6; }
+returns-in-Nowhere c = record { answer = range-nowhere Bits64 _ _ _ (count (goal.at.returns-in-Nowhere c).After-attribute_field-n) _ (range (goal.at.returns-in-Nowhere c).After-range_at-r) c.if-n-eq0.false c.in-Nowhere.is; memo = c.requires.mapped.6 }

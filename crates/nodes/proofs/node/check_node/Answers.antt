@@ -25,29 +25,29 @@ node_right-requires c = (c.requires.1.known, c.requires.1.placed.keys, c.require
 
 pub returns-then-not-node_right : goal.returns-then-not-node_right
 returns-then-not-node_right c = let p = c.requires in
-    record { answer = refused_16 Bits64 _ _ _ _ p.3 (c.node_right.ensures.not c.if-not-node_right.true); memo = p.6; }
+    record { answer = refused_16 Bits64 _ _ _ _ p.3 (c.node_right.ensures.not c.if-not-node_right.true); memo = p.6 }
 
 pub node_name-requires : goal.node_name-requires
 node_name-requires c = omega (arith, fits (goal.at.node_name-requires c).Start)
 
 pub returns-then-node_name-eq0 : goal.returns-then-node_name-eq0
 returns-then-node_name-eq0 c = let p = c.requires in
-    record { answer = nameless_passes Bits64 _ _ _ _ p.3 (rule (goal.at.returns-then-node_name-eq0 c).Else-not-node_right) _ c.node_name.ensures.0 c.if-node_name-eq0.true; memo = p.6; }
+    record { answer = nameless_passes Bits64 _ _ _ _ p.3 (rule (goal.at.returns-then-node_name-eq0 c).Else-not-node_right) _ c.node_name.ensures.0 c.if-node_name-eq0.true; memo = p.6 }
 
 pub check_attribute_range-v-requires : goal.check_attribute_range-v-requires
 unfolding value_strings
 check_attribute_range-v-requires c = let p = c.requires in
     let y = p.1 in
-    record { tables = (p.0, y.known, y.strings, y.table, y.accepted); mapped = (y.placed.attributes, y.attributes, fits (goal.at.check_attribute_range-v-requires c).Start, live (goal.at.check_attribute_range-v-requires c).Else-node_name-eq0, p.4, p.5, p.6); }
+    record { tables = (p.0, y.known, y.strings, y.table, y.accepted); mapped = (y.placed.attributes, y.attributes, fits (goal.at.check_attribute_range-v-requires c).Start, live (goal.at.check_attribute_range-v-requires c).Else-node_name-eq0, p.4, p.5, p.6) }
 
 pub returns-in-Refused : goal.returns-in-Refused
-returns-in-Refused c = record { answer = refused-range Bits64 _ _ _ _ c.requires.3 (rule (goal.at.returns-in-Refused c).Else-not-node_right) (sym c.check_attribute_range-v.ensures.answer ∙ c.in-Refused.is); memo = c.check_attribute_range-v.ensures.memo; }
+returns-in-Refused c = record { answer = refused-range Bits64 _ _ _ _ c.requires.3 (rule (goal.at.returns-in-Refused c).Else-not-node_right) (sym c.check_attribute_range-v.ensures.answer ∙ c.in-Refused.is); memo = c.check_attribute_range-v.ensures.memo }
 
 pub children_right-requires : goal.children_right-requires
-children_right-requires c = record { mapped = (c.requires.1.placed.nodes, c.requires.1.nodes); node_size_in_bounds = (fits (goal.at.children_right-requires c).Start, live (goal.at.children_right-requires c).Else-node_name-eq0); }
+children_right-requires c = record { mapped = (c.requires.1.placed.nodes, c.requires.1.nodes); node_size_in_bounds = (fits (goal.at.children_right-requires c).Start, live (goal.at.children_right-requires c).Else-node_name-eq0) }
 
 pub returns-then-not-children_right : goal.returns-then-not-children_right
-returns-then-not-children_right c = record { answer = refused_23 Bits64 _ _ _ _ c.requires.3 (rule (goal.at.returns-then-not-children_right c).Else-not-node_right) (sym c.check_attribute_range-v.ensures.answer ∙ c.in_default.is) (c.children_right.ensures.not c.if-not-children_right.true); memo = c.check_attribute_range-v.ensures.memo; }
+returns-then-not-children_right c = record { answer = refused_23 Bits64 _ _ _ _ c.requires.3 (rule (goal.at.returns-then-not-children_right c).Else-not-node_right) (sym c.check_attribute_range-v.ensures.answer ∙ c.in_default.is) (c.children_right.ensures.not c.if-not-children_right.true); memo = c.check_attribute_range-v.ensures.memo }
 
 pub returns : goal.returns
-returns c = record { answer = node_passes Bits64 _ _ _ _ c.requires.3 (rule (goal.at.returns c).Else-not-node_right) (sym c.check_attribute_range-v.ensures.answer ∙ c.in_default.is) (c.children_right.ensures.so c.if-not-children_right.false); memo = c.check_attribute_range-v.ensures.memo; }
+returns c = record { answer = node_passes Bits64 _ _ _ _ c.requires.3 (rule (goal.at.returns c).Else-not-node_right) (sym c.check_attribute_range-v.ensures.answer ∙ c.in_default.is) (c.children_right.ensures.so c.if-not-children_right.false); memo = c.check_attribute_range-v.ensures.memo }

@@ -23,7 +23,7 @@ returns-then-n-eq0 c = children-none Bits64 _ _ _ (count (goal.at.returns-then-n
 
 pub range_at-r-requires : goal.range_at-r-requires
 range_at-r-requires c = let w = c.requires.mapped in
-    record { mapped = lent w.0 w.1; el_bound = (c.child_element.ensures.1, c.child_field-n.ensures.1); }
+    record { mapped = lent w.0 w.1; el_bound = (c.child_element.ensures.1, c.child_field-n.ensures.1) }
 
 pub rising-requires : goal.rising-requires
 rising-requires c = children_fit Bits64 _ _ _ (count (goal.at.rising-requires c).After-child_field-n) _ (range (goal.at.rising-requires c).After-range_at-r) _ c.in-At.is c.requires.mapped.0.laid

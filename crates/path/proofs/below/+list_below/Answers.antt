@@ -33,6 +33,7 @@ named t c = child-name c.requires.tree_ready.0 c.children_of-c.ensures c.loop-j.
 pub returns-then-at-n : goal.returns-then-at-n
 returns-then-at-n t c =
     wrote_same
+    -- the node itself
     (elim c.if-k-list.branch [
       then-k-list w ↦ wrote_one _ _ _ w.if-k-list.true (w.list-is ∙ w.put_u32.ensures)
     | else-k-list w ↦ wrote_not _ _ _ w.if-k-list.false w.list-is

@@ -42,11 +42,11 @@ next_start-p-requires c = segment-fits 2 _ _ c.requires _ _ c.loop-seg-test.true
 
 pub loop-seg-preserved : goal.loop-seg-preserved
 loop-seg-preserved c = let i = c.loop-seg.invariant in (
-      omega arith,
-      start_more 2 _ _ _ _ _ _ refl i.1 c.next_start-p.ensures,
-      begun_next _ _ _ _ _ _ _ i.2 i.1 (used-at 2 _ _ _ _ _ i.1 c.u32_at.ensures.0) c.begun_in-n.ensures.0,
-      omega (arith, i.3, c.begun_in-n.ensures.1, (turn (goal.at.loop-seg-preserved c).After-u32_at).1),
-    )
+  omega arith,
+  start_more 2 _ _ _ _ _ _ refl i.1 c.next_start-p.ensures,
+  begun_next _ _ _ _ _ _ _ i.2 i.1 (used-at 2 _ _ _ _ _ i.1 c.u32_at.ensures.0) c.begun_in-n.ensures.0,
+  omega (arith, i.3, c.begun_in-n.ensures.1, (turn (goal.at.loop-seg-preserved c).After-u32_at).1),
+)
 
 pub returns : goal.returns
 returns c = let i = c.loop-seg.invariant in begun_all _ _ _ _ i.2 (omega (arith, i.0, c.loop-seg-test.false, c.requires.count_is))

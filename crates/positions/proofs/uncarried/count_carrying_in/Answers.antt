@@ -16,7 +16,7 @@ loop-j-preserved c = let l = c.loop-j-test.true in
     let i = c.loop-j.invariant in
     let x = index_at _ _ _ _ _ c.entry_at-e.ensures.0 c.index.ensures in
     elim c.if-index-m.branch [
-        then-index-m w ↦ rw w.c-is (counted_one _ _ _ _ _ i _ (omega (arith, l, n)) x w.if-index-m.true)
+      | then-index-m w ↦ rw w.c-is (counted_one _ _ _ _ _ i _ (omega (arith, l, n)) x w.if-index-m.true)
       | else-index-m w ↦ rw w.c-is (counted_other _ _ _ _ _ i _ (omega (arith, l, n)) x w.if-index-m.false)
     ]
 

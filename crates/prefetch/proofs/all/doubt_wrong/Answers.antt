@@ -18,4 +18,4 @@ loop-j-preserved c = let i = c.loop-j.invariant in
 
 pub returns : goal.returns
 returns c = let i = c.loop-j.invariant in
-    record { doubts = examined_upto c.loop-j-test.false i.1; memo = i.2; }
+    record { doubts = examined_upto c.loop-j-test.false i.1; memo = i.2 }

@@ -42,7 +42,7 @@ pub examine_batch-known-requires : goal.examine_batch-known-requires
 examine_batch-known-requires c = let p = c.requires.tables in
     let t = c.take_texts-taken.ensures.slotted in
     let i = c.loop-el.invariant in
-    record { tables = (p.0, p.1, p.2, p.3, t.long, t.within, t.few, p.4, i.6); doubts_len = (i.2, i.3); }
+    record { tables = (p.0, p.1, p.2, p.3, t.long, t.within, t.few, p.4, i.6); doubts_len = (i.2, i.3) }
 
 pub loop-el-smaller : goal.loop-el-smaller
 loop-el-smaller c = let t = c.take_texts-taken.ensures in omega (arith, t.on c.loop-el-test.true, t.upto)
@@ -63,4 +63,4 @@ loop-seg-preserved c = let i = c.loop-seg.invariant in
 
 pub returns : goal.returns
 returns c = let i = c.loop-seg.invariant in
-    record { answer = i.4; doubts = rows_all Bits64 _ _ _ i.5 (omega (arith, c.loop-seg-test.false, c.requires.tables.5.count_is)); memo = i.6; }
+    record { answer = i.4; doubts = rows_all Bits64 _ _ _ i.5 (omega (arith, c.loop-seg-test.false, c.requires.tables.5.count_is)); memo = i.6 }

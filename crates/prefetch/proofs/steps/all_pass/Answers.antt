@@ -14,7 +14,7 @@ passes-requires c = let p = c.requires in
     (p.0, omega (arith, c.wide.ensures.0, p.2 _ l), fit_read p.5 _ l c.wide-in-loop-j.ensures.0 c.wide-in-loop-j-2.ensures.0, seen_read p.6 _ l c.wide-in-loop-j.ensures.0 c.wide-in-loop-j-3.ensures.0, p.7, c.loop-j.invariant.2)
 
 pub returns-then-not-passes : goal.returns-then-not-passes
-returns-then-not-passes c = record { answer = unsure; memo = c.passes.ensures.memo; }
+returns-then-not-passes c = record { answer = unsure; memo = c.passes.ensures.memo }
 
 pub loop-j-preserved : goal.loop-j-preserved
 loop-j-preserved c = let g = c.args in
@@ -24,4 +24,4 @@ loop-j-preserved c = let g = c.args in
 
 pub returns : goal.returns
 returns c = let i = c.loop-j.invariant in
-    record { answer = λ z. (λ k l. i.0 k (omega (arith, c.loop-j-test.false)), λ y k l. i.1 y k (omega (arith, c.loop-j-test.false))); memo = i.2; }
+    record { answer = λ z. (λ k l. i.0 k (omega (arith, c.loop-j-test.false)), λ y k l. i.1 y k (omega (arith, c.loop-j-test.false))); memo = i.2 }

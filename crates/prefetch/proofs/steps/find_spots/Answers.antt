@@ -24,7 +24,7 @@ pub spot_at-a-requires : goal.spot_at-a-requires
 spot_at-a-requires c = let p = c.requires in (p.0, p.1, c.text_element.ensures.1)
 
 pub returns-in_default : goal.returns-in_default
-returns-in_default c = record { answer = unsure; lengths = (c.loop-j.invariant.0, c.loop-j.invariant.1); }
+returns-in_default c = record { answer = unsure; lengths = (c.loop-j.invariant.0, c.loop-j.invariant.1) }
 
 pub overflow_cast-at : goal.overflow_cast-at
 overflow_cast-at c = record { fits = omega (arith, fits (goal.at.overflow_cast-at c).In-At, c.requires.2) }
@@ -34,12 +34,12 @@ overflow_cast-left c = record { fits = omega (arith, fits (goal.at.overflow_cast
 
 pub loop-j-preserved : goal.loop-j-preserved
 loop-j-preserved c = let i = c.loop-j.invariant in (
-      simp length-set i.0,
-      simp length-set i.1,
-      spots_more i.0 i.1 (omega (arith, c.loop-j-test.true, c.requires.5)) i.2 c.wide-q.ensures.0 (spot_of c.text_segment.ensures.0 c.text_element.ensures.0 c.spot_at-a.ensures c.in-At.is),
-      fit_more i.0 i.1 (omega (arith, c.loop-j-test.true, c.requires.5)) i.3 (fits-of _ _ c.requires.0.laid c.spot_at-a.ensures c.in-At.is),
-    )
+  simp length-set i.0,
+  simp length-set i.1,
+  spots_more i.0 i.1 (omega (arith, c.loop-j-test.true, c.requires.5)) i.2 c.wide-q.ensures.0 (spot_of c.text_segment.ensures.0 c.text_element.ensures.0 c.spot_at-a.ensures c.in-At.is),
+  fit_more i.0 i.1 (omega (arith, c.loop-j-test.true, c.requires.5)) i.3 (fits-of _ _ c.requires.0.laid c.spot_at-a.ensures c.in-At.is),
+)
 
 pub returns : goal.returns
 returns c = let i = c.loop-j.invariant in
-    record { answer = λ z. (spots_upto c.loop-j-test.false i.2, fit_upto c.loop-j-test.false i.3); lengths = (i.0, i.1); }
+    record { answer = λ z. (spots_upto c.loop-j-test.false i.2, fit_upto c.loop-j-test.false i.3); lengths = (i.0, i.1) }

@@ -18,4 +18,4 @@ loop-j-preserved c = let l = c.loop-j in (length-kept l.hashes l.j c.text_hash.r
 
 pub returns : goal.returns
 returns c = let i = c.loop-j.invariant in
-    record { hashes = i.0; memo = i.1; }
+    record { hashes = i.0; memo = i.1 }

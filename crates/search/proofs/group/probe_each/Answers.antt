@@ -12,9 +12,9 @@ loop-j-preserved c = let w = c.loop-j.invariant.1 in
     let n = c.requires.1 in (
       omega (arith, l),
       elim c.if-r-eq-NOT_TOLD.branch [
-          then-r-eq-NOT_TOLD z ↦ rw z.m-is (looked_not _ _ _ _ _ _ w (omega (arith, l, n)) _)
+        | then-r-eq-NOT_TOLD z ↦ rw z.m-is (looked_not _ _ _ _ _ _ w (omega (arith, l, n)) _)
         | else-r-eq-NOT_TOLD z ↦ rw z.m-is (looked_told _ _ _ _ _ _ w (omega (arith, l, n)) _ _ _ c.wide-h.ensures.0
-          c.bucket-k.ensures.0 (c.probe_near-r.ensures z.if-r-eq-NOT_TOLD.false))
+            c.bucket-k.ensures.0 (c.probe_near-r.ensures z.if-r-eq-NOT_TOLD.false))
       ],
     )
 

@@ -15,7 +15,7 @@ loop-i-preserved c = let l = c.loop-i-test.true in
     let i = c.loop-i.invariant in
     let x = few-read _ _ _ _ _ _ c.or_last.ensures (hash_at _ _ _ _ _ c.entry_at-e.ensures.0 c.hash.ensures.0) in
     elim c.if-hash-h.branch [
-        then-hash-h w ↦ rw w.c-is (counting_one _ _ _ _ _ _ i l _ x w.if-hash-h.true)
+      | then-hash-h w ↦ rw w.c-is (counting_one _ _ _ _ _ _ i l _ x w.if-hash-h.true)
       | else-hash-h w ↦ rw w.c-is (counting_other _ _ _ _ _ _ i l _ x w.if-hash-h.false)
     ]
 

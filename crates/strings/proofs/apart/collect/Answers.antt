@@ -24,7 +24,7 @@ met-requires c = let p = c.requires in
 
 pub returns-then-met : goal.returns-then-met
 returns-then-met c = let v = c.loop-n.invariant in
-    record { answer = sifted _ _ _ _ _ _ v (λ h. c.met.ensures.some c.if-met.true); map = v.collected; }
+    record { answer = sifted _ _ _ _ _ _ v (λ h. c.met.ensures.some c.if-met.true); map = v.collected }
 
 pub insert-requires : goal.insert-requires
 insert-requires c = let p = c.requires in
@@ -38,4 +38,4 @@ loop-n-preserved c = collecting_next _ _ _ _ _ _ c.loop-n.invariant _ _ c.loop-n
 
 pub returns : goal.returns
 returns c = let v = c.loop-n.invariant in
-    record { answer = sifted _ _ _ _ _ _ v (λ h. omega (arith, v.few, c.loop-n-test.false)); map = v.collected; }
+    record { answer = sifted _ _ _ _ _ _ v (λ h. omega (arith, v.few, c.loop-n-test.false)); map = v.collected }

@@ -15,13 +15,18 @@ inner c =
 
 pub overflow_sub-result-then-k-buckets : goal.overflow_sub-result-then-k-buckets
 overflow_sub-result-then-k-buckets c = omega (arith, inner (goal.at.overflow_sub-result-then-k-buckets c).After-wide)
+
 pub overflow_sub-result : goal.overflow_sub-result
 overflow_sub-result c = omega (arith, inner (goal.at.overflow_sub-result c).After-wide)
+
 pub returns-then-k-buckets : goal.returns-then-k-buckets
 returns-then-k-buckets c = omega (arith, inner (goal.at.returns-then-k-buckets c).After-wide)
+
 pub overflow_sub-result-2 : goal.overflow_sub-result-2
 overflow_sub-result-2 c = omega (arith, let p = c.requires in ends_at _ _ _ _ p.0 _ _ _ p.1 c.wide-at.ensures.0 (last_end _ _ _ _ p.0 _ p.1 c.if-k-buckets.false))
+
 pub overflow_sub-result-3 : goal.overflow_sub-result-3
 overflow_sub-result-3 c = omega (arith, let p = c.requires in ends_at _ _ _ _ p.0 _ _ _ p.1 c.wide-at.ensures.0 (last_end _ _ _ _ p.0 _ p.1 c.if-k-buckets.false))
+
 pub returns : goal.returns
 returns c = omega (arith, let p = c.requires in ends_at _ _ _ _ p.0 _ _ _ p.1 c.wide-at.ensures.0 (last_end _ _ _ _ p.0 _ p.1 c.if-k-buckets.false))

@@ -67,8 +67,8 @@ buckets-preserved c = let l = c.loop-j.invariant in
 
 pub returns-after-buckets : goal.returns-after-buckets
 returns-after-buckets c = let b = c.buckets.invariant in
-    record { answer = b.1 ∙ sym (b.2 ∙ left_none _ _ c.buckets-test.false); begun = λ z. before-all _ _ (b.4 z) c.buckets-test.false; }
+    record { answer = b.1 ∙ sym (b.2 ∙ left_none _ _ c.buckets-test.false); begun = λ z. before-all _ _ (b.4 z) c.buckets-test.false }
 
 pub returns-in-Refused : goal.returns-in-Refused
 returns-in-Refused c = let l = c.loop-j.invariant in
-    record { answer = sym (l.3 ∙ left_stop _ _ _ (omega (arith, l.1)) (sym c.check_entry.ensures ∙ c.in-Refused.is)); begun = unsure; }
+    record { answer = sym (l.3 ∙ left_stop _ _ _ (omega (arith, l.1)) (sym c.check_entry.ensures ∙ c.in-Refused.is)); begun = unsure }

@@ -9,10 +9,10 @@ loop-i-init c = (omega arith, c.requires.1, folded_start _ _ _ _)
 
 pub loop-i-preserved : goal.loop-i-preserved
 loop-i-preserved c = let e = char_bytes _ _ _ _ c.byte_on.ensures.0 c.byte_on-g.ensures.0 in (
-      omega arith,
-      c.byte_on-g.ensures.1,
-      c.loop-i.invariant.2 ∙ folded_next _ _ _ _ _ _ _ _ _ c.loop-i-test.true refl c.u16_at.ensures.0 c.fold-c.ensures.0 e,
-    )
+  omega arith,
+  c.byte_on-g.ensures.1,
+  c.loop-i.invariant.2 ∙ folded_next _ _ _ _ _ _ _ _ _ c.loop-i-test.true refl c.u16_at.ensures.0 c.fold-c.ensures.0 e,
+)
 
 pub returns : goal.returns
 returns c = let v = c.loop-i.invariant in sym (v.2 ∙ folded_over _ _ _ _ _ c.loop-i-test.false)
