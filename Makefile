@@ -23,7 +23,7 @@ DUMP := target/bin/dcdump
 EXAMPLES := $(patsubst examples/%.c,target/%,$(wildcard examples/*.c))
 
 # What is proved. A file that is added or removed changes its directory, so the directories are in the list.
-CRATES := crates.txt $(shell find crates -name must-fail -prune -o -print)
+CRATES := crates.txt $(shell find crates \( -name must-fail -o -name out \) -prune -o -print)
 
 COMPILE = $(CC) -std=gnu11 -Iinclude $(CPPFLAGS) $(CFLAGS)
 
@@ -36,10 +36,10 @@ all: built ## prove and build the libraries, taplinen and dcdump (the default)
 built: $(STATIC) $(SHARED) $(TOOL) $(DUMP)
 
 $(STATIC): $(CRATES)
-	@scripts/build staticlib taplinen
+	@scripts/build library
 
 $(DUMP): $(CRATES)
-	@scripts/build check dcdump
+	@scripts/build program
 
 # -z text refuses text relocations.
 $(SHARED): $(STATIC) taplinen.map Makefile
@@ -82,11 +82,11 @@ uninstall: ## remove what `make install` with the same variables has installed
 	  "$(DESTDIR)$(MANDIR)/man1/dcdump.1" "$(DESTDIR)$(MANDIR)/man3/taplinen.3"
 	$(RUN_LDCONFIG)
 
-test: ## remove target/, then run all proofs and all tests: about 25 minutes
+test: ## run all proofs and all tests
 	.ci/run
 
 check: ## prove the crate CRATE and what it needs; without CRATE all crates
-	rt check $(CRATE)
+	$(if $(CRATE),cd crates/$(CRATE) && rt check,rt all check)
 
 compare: $(STATIC) ## compare the library with the second program, that of compare/, for ten minutes (needs cargo)
 	cd compare && TAPLINEN_LIB=$(CURDIR)/target/staticlib cargo build --quiet --release --offline -p compare --features rattle
@@ -107,9 +107,8 @@ dump: $(DUMP) ## print FILE (at most 32,768 bytes) with dcdump
 examples: $(EXAMPLES) ## build examples/NAME.c as target/NAME
 
 clean: ## remove all that was built, the proofs as well
-	rm -rf target compare/target
+	rm -rf target compare/target crates/*/out
 
 help: ## list the targets
 	@awk -F ':.*## ' '/^[a-z]+:.*## / { printf "make %-10s %s\n", $$1, $$2 }' Makefile
 	@echo "Variables: CC CPPFLAGS CFLAGS LDFLAGS LDLIBS DESTDIR PREFIX BINDIR LIBDIR INCLUDEDIR MANDIR PKGCONFIGDIR INSTALL LDCONFIG"
-	@echo "RT_JOBS: how many crates are proved at a time, 4 if it is not set. Each takes up to 1 GB of memory."

@@ -1,5 +1,4 @@
 use Rattle.batch.proofs.Placed.{counted_start, block_on, counted_all}
-use Prim.Native.Nat.{◌-◌}
 use native.Mathlib.Omega.{arith}
 use Rattle.batch.proofs.count_texts.Goals as goal
 

@@ -1,5 +1,4 @@
 use Rattle.frames.proofs.Pairs.{count_start, count_end, count_newline, count_single, count_other, count_more, count-all}
-use Prim.Native.Nat.{◌-◌}
 use Rattle.frames.proofs.count_bytes.Goals as goal
 
 pub loop-k-init : goal.loop-k-init

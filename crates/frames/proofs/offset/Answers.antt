@@ -1,5 +1,4 @@
 use Rattle.frames.proofs.Offsets.{offset_start, offset_fits, offset_more, offset_other, offset_end, offset_spaceless}
-use Prim.Native.Nat.{◌-◌}
 use native.Mathlib.Omega.{arith}
 use Rattle.frames.proofs.offset.Goals as goal
 

@@ -1,5 +1,4 @@
 use mathlib.Core.Path.{sym, ◌∙◌}
-use Prim.Native.Nat.{◌-◌}
 use native.Mathlib.Omega.{arith}
 use Rattle.frames.proofs.Steps.{reach_start, reach_end, reach_other, reach-on, reach_frame}
 use Rattle.frames.proofs.read_frames.Goals as goal

@@ -1,4 +1,3 @@
-use Prim.Native.Nat.{◌-◌}
 use native.Mathlib.Omega.{arith}
 use Rattle.frames.proofs.Written.{write_start, write_next, write_more, write_end}
 use Rattle.frames.proofs.write_bytes.Goals as goal

@@ -1,4 +1,3 @@
-use Prim.Native.Nat.{◌-◌}
 use Rattle.strings.proofs.Places.{here_in, hash_at}
 use Rattle.lookup.proofs.Bucket.{searched_start, searched_more, searched_over, searched_end, searched_found}
 use Rattle.lookup.proofs.find_entry.Goals as goal

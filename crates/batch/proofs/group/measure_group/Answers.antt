@@ -1,4 +1,3 @@
-use Prim.Native.Nat.{◌-◌}
 use mathlib.Core.Path.{sym}
 use Rattle.batch.proofs.Placed.{TextAt, text_measured}
 use Rattle.batch.proofs.Slots.{stands_first, stands_even, stands_more, some_taken, read_of, read_small, group_none, group_more}

@@ -1,4 +1,3 @@
-use Prim.Native.Nat.{◌-◌}
 use mathlib.Core.Path.{refl}
 use Rattle.batch.proofs.Slots.{texts-none, texts_more, texts-upto, picked_none, picked_more, picked_upto}
 use native.Mathlib.Omega.{arith}

@@ -1,4 +1,3 @@
-use Prim.Native.Nat.{◌-◌}
 use mathlib.Core.Path.{refl}
 use Rattle.batch.proofs.Slots.{same_start, same_more}
 use native.Mathlib.Omega.{arith}

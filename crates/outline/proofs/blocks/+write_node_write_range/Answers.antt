@@ -2,7 +2,6 @@ use Prim.Native.Nat.{◌<◌}
 use native.Mathlib.Omega.{arith}
 use mathlib.Core.Path.{sym, ◌∙◌}
 use Rattle.layout.specs.declared.Edition.TheVariants.{Bits64}
-use Rattle.nodes.proofs.Ways.{live-node}
 use Rattle.tree.proofs.Children.{node-fits, node_reached, child-name, child_fits}
 use Rattle.print.proofs.Puts.{left_start, left_more, left_end, put_none, put_same}
 use Rattle.outline.proofs.Rules.{tree_held, node_ready}

@@ -1,8 +1,5 @@
-use Prim.Native.Nat.{◌≤◌}
 use native.Mathlib.Omega.{arith}
-use lib.ListN.{length}
 use Rattle.layout.specs.declared.Edition.TheVariants.{Bits64}
-use Rattle.print.proofs.Puts.{top}
 use Rattle.outline.proofs.Written.{put_four, line_is, node-named}
 use Rattle.outline.proofs.blocks.put_node.Goals as goal
 
@@ -18,5 +15,6 @@ put_name-d-requires c = let p = c.requires in let n = node-named Bits64 _ _ c.no
 pub put_attributes-e-requires : goal.put_attributes-e-requires
 put_attributes-e-requires c = let p = c.requires in (p.0, p.1)
 
+-- a buffer's length is a number of 64 bits
 pub returns : goal.returns
 returns c = put_four (omega arith) c.put_spaces-c.ensures c.put_name-d.ensures c.put_attributes-e.ensures c.put.ensures (line_is Bits64 _ _ c.node_name.ensures.0 c.args.level)

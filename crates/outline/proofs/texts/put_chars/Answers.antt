@@ -1,4 +1,3 @@
-use Prim.Native.Nat.{◌-◌}
 use native.Mathlib.Omega.{arith}
 use Rattle.print.proofs.Puts.{left_start, left_more, left_end}
 use Rattle.outline.proofs.Written.{text-start, text_next, text-zero, text-past}

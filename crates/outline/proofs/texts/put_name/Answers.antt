@@ -1,7 +1,5 @@
-use Prim.Native.Nat.{◌+◌, ◌*◌, ◌≤◌}
 use native.Mathlib.Omega.{arith}
 use mathlib.Core.Path.{refl, ap}
-use lib.ListN.{length}
 use Rattle.print.specs.Text.{escaped}
 use Rattle.print.proofs.Puts.{put_same}
 use Rattle.outline.proofs.Addressed.{name_in, name_held, name-text}

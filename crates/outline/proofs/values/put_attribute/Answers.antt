@@ -1,13 +1,11 @@
-use Prim.Native.Nat.{◌≤◌}
 use native.Mathlib.Omega.{arith}
-use lib.ListN.{length}
 use Rattle.layout.specs.declared.Edition.TheVariants.{Bits64}
-use Rattle.print.proofs.Puts.{top}
 use Rattle.outline.proofs.Written.{put_four, attribute_is, attribute-named}
 use Rattle.outline.proofs.values.put_attribute.Goals as goal
 
 pub put_name-d-requires : goal.put_name-d-requires
 put_name-d-requires c = let p = c.requires in let n = attribute-named Bits64 _ _ c.attribute_name.ensures.0 p.4 in (p.0, p.1, p.3, n.0, n.1)
 
+-- a buffer's length is a number of 64 bits
 pub returns : goal.returns
 returns c = put_four (omega arith) c.put-c.ensures c.put_name-d.ensures c.put-e.ensures c.put_value.ensures (attribute_is Bits64 _ _ c.attribute_name.ensures.0)

@@ -1,12 +1,11 @@
-use Prim.Native.Nat.{◌+◌, ◌-◌, ◌*◌, ◌≤◌}
+use Prim.Native.Nat.{◌+◌, ◌*◌, ◌≤◌}
 use native.Mathlib.Omega.{arith}
 use mathlib.Core.Path.{sym, ap, ◌∙◌}
-use lib.ListN.{length}
 use Rattle.layout.specs.Edition.{attribute_size}
 use Rattle.layout.specs.declared.Edition.TheVariants.{Bits64}
 use Rattle.tree.specs.Chain.{ranged}
 use Rattle.tree.proofs.Ranged.{ranged-none}
-use Rattle.print.proofs.Puts.{top, left_start, left_more, left_end, put_none, put_same}
+use Rattle.print.proofs.Puts.{left_start, left_more, left_end, put_none, put_same}
 use Rattle.outline.proofs.Written.{ranged_start, ranged_next, ranged-past}
 use Rattle.outline.proofs.Parts.{regions, attributes-count, attributes_lost, attributes-at, attribute_ready, attribute-text}
 use Rattle.outline.proofs.values.put_attributes.Goals as goal
@@ -30,6 +29,7 @@ range_at-requires c = let p = c.requires in
 pub returns-in_default : goal.returns-in_default
 returns-in_default c = let p = c.requires in absurd (attributes_lost p.0 p.1 c.attribute_field-n.ensures.0 c.attribute_segment-seg.ensures.0 c.attribute_element-el.ensures.0 c.range_at.ensures c.if-n-eq0.false c.in_default.is)
 
+-- a buffer's length is a number of 64 bits
 pub loop-i-init : goal.loop-i-init
 loop-i-init c = let p = c.requires in
     let t = attributes-at p.0 p.1 c.attribute_field-n.ensures.0 c.attribute_segment-seg.ensures.0 c.attribute_element-el.ensures.0 c.range_at.ensures c.in-At.is in

@@ -1,12 +1,10 @@
-use Prim.Native.Nat.{◌≤◌}
 use native.Mathlib.Omega.{arith}
 use mathlib.Core.Path.{sym, ◌∙◌}
 use borrow.Author.Rules.{rules}
-use lib.ListN.{length}
 use mir.Facts.{to_z-of_z}
 use mir.Syntax.{w32}
 use Rattle.layout.specs.declared.Edition.TheVariants.{Bits64}
-use Rattle.print.proofs.Puts.{top, put_then, put_same}
+use Rattle.print.proofs.Puts.{put_then, put_same}
 use Rattle.outline.proofs.Addressed.{value_held, value-text}
 use Rattle.outline.proofs.Written.{whole_is, truth_is, float_is, text_is}
 use Rattle.outline.proofs.values.put_value.Goals as goal
@@ -14,6 +12,7 @@ use Rattle.outline.proofs.values.put_value.Goals as goal
 pub put_text-requires : goal.put_text-requires
 put_text-requires c = let p = c.requires in value_held p.0 p.1 p.3 (sym c.value_at-v.ensures ∙ c.in-Text.is) p.2
 
+-- a buffer's length is a number of 64 bits, here and below
 pub returns-in-Whole : goal.returns-in-Whole
 returns-in-Whole c = put_same (whole_is Bits64 _ c.value_at-v.ensures c.in-Whole.is (to_z-of_z {w = w32} (search rules)))
     (put_then (omega arith) c.put_bytes-e.ensures c.put_whole.ensures)
