@@ -27,12 +27,7 @@ fn ask_each(file: &[u8], ws: &mut [u8], kind: Kind, texts: &[u8], answers: &mut 
 }
 
 // The indices of many names.
-pub fn taplinen_names(
-    file: &[u8],
-    ws: &mut [u8],
-    texts: &[u8],
-    answers: &mut [u8],
-) -> Answer
+pub fn taplinen_names(file: &[u8], ws: &mut [u8], texts: &[u8], answers: &mut [u8]) -> Answer
     ensures answer { result ≡ batch_answer Bits64 file.now (length ws.old) texts.now (length answers.old) }
     ensures workspace { ws.new ≡ workspace_left Bits64 file.now ws.old }
     ensures answers { answers.new ≡ name_places Bits64 file.now (length ws.old) texts.now answers.old }
@@ -41,12 +36,7 @@ pub fn taplinen_names(
 }
 
 // The addresses of many values.
-pub fn taplinen_values(
-    file: &[u8],
-    ws: &mut [u8],
-    texts: &[u8],
-    answers: &mut [u8],
-) -> Answer
+pub fn taplinen_values(file: &[u8], ws: &mut [u8], texts: &[u8], answers: &mut [u8]) -> Answer
     ensures answer { result ≡ batch_answer Bits64 file.now (length ws.old) texts.now (length answers.old) }
     ensures workspace { ws.new ≡ workspace_left Bits64 file.now ws.old }
     ensures answers { answers.new ≡ value_places Bits64 file.now (length ws.old) texts.now answers.old }

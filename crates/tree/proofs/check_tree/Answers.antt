@@ -14,17 +14,17 @@ room : (c : Else-ws-used) → used_node_count Bits64 c.args.b.now ≤ length c.a
 room c = omega (arith, c.if-ws-used.false, c.requires.2)
 
 pub returns-then-ws-used : goal.returns-then-ws-used
-returns-then-ws-used c = let both = told-room Bits64 _ _ _ c.requires.2 (omega arith) in record { answer = both.0; workspace = both.1; }
+returns-then-ws-used c = let both = told-room Bits64 _ _ _ c.requires.2 (omega arith) in record { answer = both.0; workspace = both.1 }
 
 pub returns-in-Refused : goal.returns-in-Refused
-returns-in-Refused c = let both = told-range Bits64 _ _ (room (goal.at.returns-in-Refused c).Else-ws-used) _ _ c.mark_nodes-m.ensures.answer c.mark_nodes-m.ensures.workspace c.in-Refused.is in record { answer = both.0; workspace = both.1; }
+returns-in-Refused c = let both = told-range Bits64 _ _ (room (goal.at.returns-in-Refused c).Else-ws-used) _ _ c.mark_nodes-m.ensures.answer c.mark_nodes-m.ensures.workspace c.in-Refused.is in record { answer = both.0; workspace = both.1 }
 
 pub find_deep-requires : goal.find_deep-requires
 find_deep-requires c = (c.requires.0, (rules-hold c.requires.0).root, root-place Bits64 _ _ _ c.root_at.ensures c.requires.0.nodes.at_is, omega arith)
 
 pub returns-in-At : goal.returns-in-At
 returns-in-At c = let both = told_deep Bits64 _ _ (room (goal.at.returns-in-At c).Else-ws-used) _ _ c.mark_nodes-m.ensures.answer c.mark_nodes-m.ensures.workspace c.in_default.is _ c.find_deep.ensures c.requires.0.laid.nodes _ c.in-At.is
-    (rw (sym c.requires.2) c.set_range.ensures) in record { answer = both.0; workspace = both.1; }
+    (rw (sym c.requires.2) c.set_range.ensures) in record { answer = both.0; workspace = both.1 }
 
 pub returns-in-Nothing : goal.returns-in-Nothing
-returns-in-Nothing c = let both = told_flat Bits64 _ _ (room (goal.at.returns-in-Nothing c).Else-ws-used) _ _ c.mark_nodes-m.ensures.answer c.mark_nodes-m.ensures.workspace c.in_default.is _ c.find_deep.ensures c.in-Nothing.is in record { answer = both.0; workspace = both.1; }
+returns-in-Nothing c = let both = told_flat Bits64 _ _ (room (goal.at.returns-in-Nothing c).Else-ws-used) _ _ c.mark_nodes-m.ensures.answer c.mark_nodes-m.ensures.workspace c.in_default.is _ c.find_deep.ensures c.in-Nothing.is in record { answer = both.0; workspace = both.1 }

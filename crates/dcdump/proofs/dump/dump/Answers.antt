@@ -15,9 +15,9 @@ slice_bounds-judge-end c = part_long _ _ ((let k = c.read_frames in
 pub returns-in-Bytes : goal.returns-in-Bytes
 returns-in-Bytes c = let x = c.args.input.now in
     let k = c.read_frames in
-    let both = output_whole x (framed_file x _ k.ensures.answer c.in-Bytes.is _ k.new.out k.ensures.file) c.requires c.judge.ensures in record { long = both.0; bytes = both.1; }
+    let both = output_whole x (framed_file x _ k.ensures.answer c.in-Bytes.is _ k.new.out k.ensures.file) c.requires c.judge.ensures in record { long = both.0; bytes = both.1 }
 
 pub returns-in-Bad : goal.returns-in-Bad
 unfolding bad_line
 returns-in-Bad c = let x = c.args.input.now in
-    let both = output_whole x (framed_bad x c.read_frames.ensures.answer c.in-Bad.is) c.requires c.put_line.ensures in record { long = both.0; bytes = both.1; }
+    let both = output_whole x (framed_bad x c.read_frames.ensures.answer c.in-Bad.is) c.requires c.put_line.ensures in record { long = both.0; bytes = both.1 }

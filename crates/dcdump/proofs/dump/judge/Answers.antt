@@ -10,7 +10,7 @@ use Rattle.dcdump.proofs.dump.judge.Goals as goal
 pub show-requires : goal.show-requires
 show-requires c = let k = c.accept-r.ensures.answer in
     let a = c.in-Accepted.is in
-    record { file_rules = ((accepted_iff Bits64 _ _).0 (sym k.answer ∙ a)).0; fits = k.view a; }
+    record { file_rules = ((accepted_iff Bits64 _ _).0 (sym k.answer ∙ a)).0; fits = k.view a }
 
 pub returns-in-Refused : goal.returns-in-Refused
 unfolding report_file

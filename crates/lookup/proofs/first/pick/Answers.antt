@@ -16,18 +16,18 @@ found c = let p = c.requires in stands _ _ _ _ p.1 ((let it : let a = c.args in 
 
 pub returns-then-entry_count-low : goal.returns-then-entry_count-low
 returns-then-entry_count-low c = let z = c.no_candidate.ensures in
-    let both = not_picked _ _ _ _ _ c.requires.0.laid z.0 z.1 in record { places = both.0; bears = both.1; }
+    let both = not_picked _ _ _ _ _ c.requires.0.laid z.0 z.1 in record { places = both.0; bears = both.1 }
 
 pub returns-then-hash-h : goal.returns-then-hash-h
 returns-then-hash-h c = let z = c.no_candidate-then-hash-h.ensures in
-    let both = not_picked _ _ _ _ _ c.requires.0.laid z.0 z.1 in record { places = both.0; bears = both.1; }
+    let both = not_picked _ _ _ _ _ c.requires.0.laid z.0 z.1 in record { places = both.0; bears = both.1 }
 
 pub overflow_sub-length : goal.overflow_sub-length
 overflow_sub-length c = omega (arith, long-read _ _ _ _ c.requires.1 (here (goal.at.overflow_sub-length c).After-entry_at-e) c.entry_at-e.ensures.0 _ c.length.ensures)
 
 pub returns-then-length-n : goal.returns-then-length-n
 returns-then-length-n c = let z = c.no_candidate-then-length-n.ensures in
-    let both = not_picked _ _ _ _ _ c.requires.0.laid z.0 z.1 in record { places = both.0; bears = both.1; }
+    let both = not_picked _ _ _ _ _ c.requires.0.laid z.0 z.1 in record { places = both.0; bears = both.1 }
 
 pub text_at-x-requires : goal.text_at-x-requires
 text_at-x-requires c = let p = c.requires in (p.0.chars, p.0.sampled, c.entry_at-e.ensures.1, resolved-at _ _ _ _ p.1 (here (goal.at.text_at-x-requires c).After-entry_at-e) c.entry_at-e.ensures.0)
@@ -41,4 +41,4 @@ overflow_add-result c = record { fits = omega (arith, (found (goal.at.overflow_a
 pub returns : goal.returns
 returns c = let p = c.requires in
     let z = (found (goal.at.returns c).After-text_at-x).ends in
-    record { places = (omega arith, omega arith); bears = λ f. picked _ _ _ _ p.1 (here (goal.at.returns c).After-entry_at-e) c.entry_at-e.ensures.0 _ c.length.ensures p.0.laid _ _ c.text_at-x.ensures c.if-length-n.false _ _ c.result_at.ensures; }
+    record { places = (omega arith, omega arith); bears = λ f. picked _ _ _ _ p.1 (here (goal.at.returns c).After-entry_at-e) c.entry_at-e.ensures.0 _ c.length.ensures p.0.laid _ _ c.text_at-x.ensures c.if-length-n.false _ _ c.result_at.ensures }

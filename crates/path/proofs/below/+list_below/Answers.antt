@@ -35,8 +35,8 @@ returns-then-at-n t c =
     wrote_same
     -- the node itself
     (elim c.if-k-list.branch [
-      then-k-list w ↦ wrote_one _ _ _ w.if-k-list.true (w.list-is ∙ w.put_u32.ensures)
-    | else-k-list w ↦ wrote_not _ _ _ w.if-k-list.false w.list-is
+      | then-k-list w ↦ wrote_one _ _ _ w.if-k-list.true (w.list-is ∙ w.put_u32.ensures)
+      | else-k-list w ↦ wrote_not _ _ _ w.if-k-list.false w.list-is
     ])
     (at_end Bits64 _ _ _ _ (long t (goal.at.returns-then-at-n t c).Start) _ c.if-at-n.true) refl refl
 
@@ -76,9 +76,9 @@ loop-j-preserved t c =
     let g = c.wide-name.ensures.0 in (
       omega arith,
       elim c.if-node_name-name.branch [
-        then-node_name-name w ↦
-          wrote_same (wrote_then l.invariant.1 w.list_below-m.ensures) (range_hit Bits64 a.b.now a.wanted.now a.n a.at _ l.j (sym n ∙ w.if-node_name-name.true ∙ g)) w.m-is w.list-is
-      | else-node_name-name w ↦ wrote_same l.invariant.1 (range_skip Bits64 a.b.now a.wanted.now a.n a.at _ l.j (λ z. w.if-node_name-name.false (n ∙ z ∙ sym g))) w.m-is w.list-is
+        | then-node_name-name w ↦
+            wrote_same (wrote_then l.invariant.1 w.list_below-m.ensures) (range_hit Bits64 a.b.now a.wanted.now a.n a.at _ l.j (sym n ∙ w.if-node_name-name.true ∙ g)) w.m-is w.list-is
+        | else-node_name-name w ↦ wrote_same l.invariant.1 (range_skip Bits64 a.b.now a.wanted.now a.n a.at _ l.j (λ z. w.if-node_name-name.false (n ∙ z ∙ sym g))) w.m-is w.list-is
       ],
     )
 

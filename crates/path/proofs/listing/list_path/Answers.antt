@@ -32,30 +32,30 @@ counted : (c : After-list_below-k) → c.list_below-k.result ≡ length (path_ma
 counted c = c.list_below-k.ensures.next_is ∙ zero-add _ ∙ ap length (matches-known Bits64 _ _ c.requires.4 _ c.find_names-w.ensures (not-false _ c.if-not-w.false))
 
 pub returns-in-Refused : goal.returns-in-Refused
-returns-in-Refused c = let both = path-refused Bits64 _ _ _ (sym c.check_path-c.ensures ∙ c.in-Refused.is) in record { answer = both.0; listing = both.1; }
+returns-in-Refused c = let both = path-refused Bits64 _ _ _ (sym c.check_path-c.ensures ∙ c.in-Refused.is) in record { answer = both.0; listing = both.1 }
 
 pub find_names-w-requires : goal.find_names-w-requires
 find_names-w-requires c = (c.requires.0, c.requires.1, c.requires.2, (strings_iff _).1 c.requires.4.name-table, formed (goal.at.find_names-w-requires c).In_default)
 
 pub returns-then-not-w : goal.returns-then-not-w
-returns-then-not-w c = let both = none_match Bits64 _ _ _ (formed (goal.at.returns-then-not-w c).In_default) (matches_unknown Bits64 _ _ c.requires.4 _ c.find_names-w.ensures (not-true _ c.if-not-w.true)) in record { answer = both.0; listing = both.1; }
+returns-then-not-w c = let both = none_match Bits64 _ _ _ (formed (goal.at.returns-then-not-w c).In_default) (matches_unknown Bits64 _ _ c.requires.4 _ c.find_names-w.ensures (not-true _ c.if-not-w.true)) in record { answer = both.0; listing = both.1 }
 
 pub root_at-root-requires : goal.root_at-root-requires
 root_at-root-requires c = let m = c.requires.3.nodes in omega (arith, m.short, m.at_is, m.laid.head)
 
 pub list_below-k-requires : goal.list_below-k-requires
 list_below-k-requires c = let w = c.find_names-w.ensures in
-    record { tree_ready = (c.requires.3, c.requires.4.nodes.root, root-place Bits64 _ _ _ c.root_at-root.ensures c.requires.3.nodes.at_is); wanted_len = (w.long, omega arith, w.few, omega (arith, ap length (found (goal.at.list_below-k-requires c).Else-not-w), few Bits64 _ c.requires.4 c.args.path.now)); }
+    record { tree_ready = (c.requires.3, c.requires.4.nodes.root, root-place Bits64 _ _ _ c.root_at-root.ensures c.requires.3.nodes.at_is); wanted_len = (w.long, omega arith, w.few, omega (arith, ap length (found (goal.at.list_below-k-requires c).Else-not-w), few Bits64 _ c.requires.4 c.args.path.now)) }
 
 pub returns-then-list-k : goal.returns-then-list-k
-returns-then-list-k c = let both = too_many Bits64 _ _ _ (formed (goal.at.returns-then-list-k c).In_default) _ (counted (goal.at.returns-then-list-k c).After-list_below-k) c.if-list-k.true in record { answer = both.0; listing = both.1; }
+returns-then-list-k c = let both = too_many Bits64 _ _ _ (formed (goal.at.returns-then-list-k c).In_default) _ (counted (goal.at.returns-then-list-k c).After-list_below-k) c.if-list-k.true in record { answer = both.0; listing = both.1 }
 
 pub list_below-m-requires : goal.list_below-m-requires
 list_below-m-requires c = let w = c.find_names-w.ensures in
-    record { tree_ready = (c.requires.3, c.requires.4.nodes.root, root-place Bits64 _ _ _ c.root_at-root.ensures c.requires.3.nodes.at_is); wanted_len = (w.long, omega arith, w.few, omega (arith, ap length (found (goal.at.list_below-m-requires c).Else-not-w), few Bits64 _ c.requires.4 c.args.path.now)); }
+    record { tree_ready = (c.requires.3, c.requires.4.nodes.root, root-place Bits64 _ _ _ c.root_at-root.ensures c.requires.3.nodes.at_is); wanted_len = (w.long, omega arith, w.few, omega (arith, ap length (found (goal.at.list_below-m-requires c).Else-not-w), few Bits64 _ c.requires.4 c.args.path.now)) }
 
 pub returns : goal.returns
 returns c = let w = c.list_below-m.ensures in
     let l = found (goal.at.returns c).Else-not-w in
     let h = counted (goal.at.returns c).After-list_below-k in
-    let both = all_listed Bits64 _ _ _ (formed (goal.at.returns c).In_default) _ _ _ l (omega (arith, c.if-list-k.false, h, ap length l)) w.next_is (w.bytes_are (omega (arith, c.if-list-k.false, h, ap length l, w.next_is))) in record { answer = both.0; listing = both.1; }
+    let both = all_listed Bits64 _ _ _ (formed (goal.at.returns c).In_default) _ _ _ l (omega (arith, c.if-list-k.false, h, ap length l)) w.next_is (w.bytes_are (omega (arith, c.if-list-k.false, h, ap length l, w.next_is))) in record { answer = both.0; listing = both.1 }

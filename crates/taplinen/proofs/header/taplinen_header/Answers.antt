@@ -21,9 +21,9 @@ overflow_cast-result-in-Accepted c = let h = (c.accept-a.ensures.answer.view c.i
 
 pub returns-in-Refused : goal.returns-in-Refused
 unfolding workspace_left reported
-returns-in-Refused c = record { answer = header_refused Bits64 _ _ c.accept-a.ensures.answer.answer c.in-Refused.is refl; workspace = c.accept-a.ensures.workspace; }
+returns-in-Refused c = record { answer = header_refused Bits64 _ _ c.accept-a.ensures.answer.answer c.in-Refused.is refl; workspace = c.accept-a.ensures.workspace }
 
 pub returns-in-Accepted : goal.returns-in-Accepted
 unfolding workspace_left reported
 returns-in-Accepted c = let e = c.in-Accepted.is in
-    record { answer = header-told Bits64 _ _ c.accept-a.ensures.answer.answer e (c.accept-a.ensures.answer.view e).header refl; workspace = c.accept-a.ensures.workspace; }
+    record { answer = header-told Bits64 _ _ c.accept-a.ensures.answer.answer e (c.accept-a.ensures.answer.view e).header refl; workspace = c.accept-a.ensures.workspace }

@@ -17,8 +17,8 @@ find_each-requires-in-Value c = let s = c.requires in
 
 pub returns-in-Name : goal.returns-in-Name
 unfolding name_strings
-returns-in-Name c = record { answer = c.find_each.ensures.answer; answers = answers_same _ _ _ _ (name-table Bits64 _ _ c.requires.0 c.in-Name.is) c.find_each.ensures.answers; }
+returns-in-Name c = record { answer = c.find_each.ensures.answer; answers = answers_same _ _ _ _ (name-table Bits64 _ _ c.requires.0 c.in-Name.is) c.find_each.ensures.answers }
 
 pub returns-in-Value : goal.returns-in-Value
 unfolding value_strings
-returns-in-Value c = record { answer = c.find_each-in-Value.ensures.answer; answers = answers_same _ _ _ _ (value-table Bits64 _ _ c.requires.0 c.in-Value.is) c.find_each-in-Value.ensures.answers; }
+returns-in-Value c = record { answer = c.find_each-in-Value.ensures.answer; answers = answers_same _ _ _ _ (value-table Bits64 _ _ c.requires.0 c.in-Value.is) c.find_each-in-Value.ensures.answers }

@@ -10,11 +10,11 @@ use Rattle.taplinen.proofs.questions.ask.Goals as goal
 
 pub returns-in-Refused : goal.returns-in-Refused
 unfolding text_answer text_verdict workspace_left
-returns-in-Refused c = record { answer = first-answer Bits64 _ _ _ c.accept-a.ensures.answer.answer _ _ c.in-Refused.is c.answered.ensures; workspace = c.accept-a.ensures.workspace; }
+returns-in-Refused c = record { answer = first-answer Bits64 _ _ _ c.accept-a.ensures.answer.answer _ _ c.in-Refused.is c.answered.ensures; workspace = c.accept-a.ensures.workspace }
 
 pub returns-then-n-ne0 : goal.returns-then-n-ne0
 unfolding text_answer text_verdict workspace_left
-returns-then-n-ne0 c = record { answer = own_answer Bits64 _ _ _ c.accept-a.ensures.answer.answer _ _ c.in_default.is (text_odd _ c.if-n-ne0.true) (λ z. absurd (never refl z)) c.answered-then-n-ne0.ensures; workspace = c.accept-a.ensures.workspace; }
+returns-then-n-ne0 c = record { answer = own_answer Bits64 _ _ _ c.accept-a.ensures.answer.answer _ _ c.in_default.is (text_odd _ c.if-n-ne0.true) (λ z. absurd (never refl z)) c.answered-then-n-ne0.ensures; workspace = c.accept-a.ensures.workspace }
 
 pub find-requires : goal.find-requires
 find-requires c = let f = to_find c.accept-a.ensures.answer c.in_default.is in
@@ -23,4 +23,4 @@ find-requires c = let f = to_find c.accept-a.ensures.answer c.in_default.is in
 pub returns : goal.returns
 unfolding text_answer text_verdict workspace_left
 returns c = let f = c.find.ensures in
-    record { answer = own_answer Bits64 _ _ _ c.accept-a.ensures.answer.answer _ _ c.in_default.is (text-even _ c.if-n-ne0.false) (λ z. (ap kind_of f, ap told_number f)) c.told.ensures; workspace = c.accept-a.ensures.workspace; }
+    record { answer = own_answer Bits64 _ _ _ c.accept-a.ensures.answer.answer _ _ c.in_default.is (text-even _ c.if-n-ne0.false) (λ z. (ap kind_of f, ap told_number f)) c.told.ensures; workspace = c.accept-a.ensures.workspace }

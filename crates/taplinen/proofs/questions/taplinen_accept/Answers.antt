@@ -7,4 +7,4 @@ use Rattle.taplinen.proofs.questions.taplinen_accept.Goals as goal
 
 pub returns : goal.returns
 unfolding accept_answer workspace_left
-returns c = record { answer = answer_by (sym c.accept-a.ensures.answer.answer) (λ z. (refl, used-told Bits64 _ _ (c.accept-a.ensures.answer.view z))) c.answered.ensures; workspace = c.accept-a.ensures.workspace; }
+returns c = record { answer = answer_by (sym c.accept-a.ensures.answer.answer) (λ z. (refl, used-told Bits64 _ _ (c.accept-a.ensures.answer.view z))) c.answered.ensures; workspace = c.accept-a.ensures.workspace }

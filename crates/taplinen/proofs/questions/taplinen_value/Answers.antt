@@ -4,4 +4,4 @@ use Rattle.taplinen.proofs.questions.taplinen_value.Goals as goal
 
 pub returns : goal.returns
 unfolding value_answer text_answer told_in table_of
-returns c = record { answer = c.ask.ensures.answer; workspace = c.ask.ensures.workspace; }
+returns c = record { answer = c.ask.ensures.answer; workspace = c.ask.ensures.workspace }

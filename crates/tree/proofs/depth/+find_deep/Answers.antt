@@ -50,8 +50,8 @@ loop-j-preserved t c = let l = c.loop-j in
       omega arith,
       l.invariant.1
           ∙ elim c.if-node_name-ne0.branch [
-            then-node_name-ne0+in_default w ↦ deep_miss Bits64 _ _ _ _ l.j (omega arith) (λ z. w.if-node_name-ne0.true (n ∙ z)) (sym w.find_deep.ensures ∙ w.in_default.is)
-          | else-node_name-ne0 w ↦ deep_skip Bits64 _ _ _ _ l.j (omega arith) (sym n ∙ w.if-node_name-ne0.false)
+            | then-node_name-ne0+in_default w ↦ deep_miss Bits64 _ _ _ _ l.j (omega arith) (λ z. w.if-node_name-ne0.true (n ∙ z)) (sym w.find_deep.ensures ∙ w.in_default.is)
+            | else-node_name-ne0 w ↦ deep_skip Bits64 _ _ _ _ l.j (omega arith) (sym n ∙ w.if-node_name-ne0.false)
           ],
     )
 

@@ -25,7 +25,7 @@ returns-then-n-eq0 c = marked-none Bits64 _ _ _ (sym (counted (goal.at.returns-t
 
 pub number-i-requires : goal.number-i-requires
 number-i-requires c = let seg = segment_there Bits64 c.args.b.now c.args.p _ _ (counted (goal.at.number-i-requires c).After-child_field-n) c.child_segment.ensures.0 c.if-n-eq0.false c.requires.reached in
-    record { mapped = own_counts c.requires.tree_ready.0 c.requires.tree_ready.1; seg_lt_count = (omega (arith, c.requires.tree_ready.0.nodes.count_is), search rules); }
+    record { mapped = own_counts c.requires.tree_ready.0 c.requires.tree_ready.1; seg_lt_count = (omega (arith, c.requires.tree_ready.0.nodes.count_is), search rules) }
 
 pub range_free-requires : goal.range_free-requires
 range_free-requires c = range_there Bits64 c.args.b.now c.args.p _ _ c.args.ws.now (numbered (goal.at.range_free-requires c).After-number-i) (counted (goal.at.range_free-requires c).After-child_field-n) c.if-n-eq0.false c.requires.reached c.requires.tree_ready.3

@@ -43,13 +43,13 @@ passed c =
     let i = c.segments.invariant in
     let room : used_node_count Bits64 c.args.b.now ≤ length c.set_range.new.ws = omega (arith, c.requires.3) in
     elim c.segments-test.branch [
-      else-segments-test w ↦ rw (w.ws-is, w.fault-is ∙ i.0) (pass_end Bits64 c.args.b.now _ room g _ _ _ (omega (arith, w.segments-test.false, c.requires.0.nodes.count_is)) i.1)
-    | then-segments-test+then-loop-el-test+then-not-mark_node w ↦
-        let l = w.loop-el.invariant in
-        let s = inside Bits64 c.args.b.now c.requires.0.nodes _ _ w.segments-test.true i.1.at_is in
-        let n : Resolves (node_size Bits64) c.args.b.now (nodes_at Bits64 c.args.b.now) c.segments.seg w.loop-el.el = record { seg_in = s.seg_in; el_in = omega (arith, w.loop-el-test.true, l.0) } in
-        rw (w.ws-is, w.fault-is)
-        (pass_stop Bits64 c.args.b.now _ (omega (arith, room, i.1.marks.long)) g (rules-hold c.requires.0) _ _ _ n l.3 _ _ _ w.mark_node.ensures _ _ i.1 l.2 w.if-not-mark_node.true)
+      | else-segments-test w ↦ rw (w.ws-is, w.fault-is ∙ i.0) (pass_end Bits64 c.args.b.now _ room g _ _ _ (omega (arith, w.segments-test.false, c.requires.0.nodes.count_is)) i.1)
+      | then-segments-test+then-loop-el-test+then-not-mark_node w ↦
+          let l = w.loop-el.invariant in
+          let s = inside Bits64 c.args.b.now c.requires.0.nodes _ _ w.segments-test.true i.1.at_is in
+          let n : Resolves (node_size Bits64) c.args.b.now (nodes_at Bits64 c.args.b.now) c.segments.seg w.loop-el.el = record { seg_in = s.seg_in; el_in = omega (arith, w.loop-el-test.true, l.0) } in
+          rw (w.ws-is, w.fault-is)
+          (pass_stop Bits64 c.args.b.now _ (omega (arith, room, i.1.marks.long)) g (rules-hold c.requires.0) _ _ _ n l.3 _ _ _ w.mark_node.ensures _ _ i.1 l.2 w.if-not-mark_node.true)
     ]
 
 pub first_start-at-requires : goal.first_start-at-requires
@@ -73,22 +73,24 @@ overflow_add-p-in-loop-el c = omega (arith, inside_file (goal.at.overflow_add-p-
 
 pub mark_node-requires : goal.mark_node-requires
 mark_node-requires c = let l = c.loop-el in
-    record { tree_ready = (
+    record {
+      tree_ready = (
         c.requires.0,
         c.requires.1,
         inside_file (goal.at.mark_node-requires c).In-loop-el,
         omega (arith, room-here (goal.at.mark_node-requires c).At-segments, l.invariant.2.marks.long),
-      ); reached = rw l.invariant.3 ((rules-hold c.requires.0).each _ _ (there (goal.at.mark_node-requires c).In-loop-el)).children.reach; }
+      );
+      reached = rw l.invariant.3 ((rules-hold c.requires.0).each _ _ (there (goal.at.mark_node-requires c).In-loop-el)).children.reach;
+    }
 
 pub loop-el-preserved : goal.loop-el-preserved
-loop-el-preserved c = let l = c.loop-el in
-    (
-      l.invariant.0,
-      l.invariant.1,
-      pass_node Bits64 c.args.b.now _ (room-here (goal.at.loop-el-preserved c).At-segments) c.requires.0.laid.nodes (rules-hold c.requires.0) _ _ _ (there (goal.at.loop-el-preserved c).In-loop-el) l.invariant.3
-          _ _ _ c.mark_node.ensures l.invariant.2 c.if-not-mark_node.false,
-      node_next Bits64 _ _ _ _ l.invariant.3,
-    )
+loop-el-preserved c = let l = c.loop-el in (
+  l.invariant.0,
+  l.invariant.1,
+  pass_node Bits64 c.args.b.now _ (room-here (goal.at.loop-el-preserved c).At-segments) c.requires.0.laid.nodes (rules-hold c.requires.0) _ _ _ (there (goal.at.loop-el-preserved c).In-loop-el) l.invariant.3
+      _ _ _ c.mark_node.ensures l.invariant.2 c.if-not-mark_node.false,
+  node_next Bits64 _ _ _ _ l.invariant.3,
+)
 
 pub next_start-at-requires : goal.next_start-at-requires
 next_start-at-requires c = (here (goal.at.next_start-at-requires c).In-segments).fits
@@ -115,12 +117,15 @@ shape_of-ws-in-Refused c = omega (arith, (passed (goal.at.shape_of-ws-in-Refused
 
 pub returns-in-Refused : goal.returns-in-Refused
 returns-in-Refused c = let h = passed (goal.at.returns-in-Refused c).Left-segments in
-    record { answer = h.answer; workspace = left_refused Bits64 c.args.b.now c.args.ws.now c.requires.3 _ _ _ (rw (sym c.requires.2) c.set_range.ensures) h _ _ _ c.in-Refused.is
-          (rw (sym c.requires.2) c.set_range-in-Refused.ensures); }
+    record {
+      answer = h.answer;
+      workspace = left_refused Bits64 c.args.b.now c.args.ws.now c.requires.3 _ _ _ (rw (sym c.requires.2) c.set_range.ensures) h _ _ _ c.in-Refused.is
+          (rw (sym c.requires.2) c.set_range-in-Refused.ensures);
+    }
 
 pub shape_of-ws-in_default : goal.shape_of-ws-in_default
 shape_of-ws-in_default c = omega (arith, (passed (goal.at.shape_of-ws-in_default c).Left-segments).long)
 
 pub returns-in_default : goal.returns-in_default
 returns-in_default c = let h = passed (goal.at.returns-in_default c).Left-segments in
-    record { answer = h.answer; workspace = left_accepted Bits64 c.args.b.now c.args.ws.now c.requires.3 _ _ _ (rw (sym c.requires.2) c.set_range.ensures) h c.in_default.is; }
+    record { answer = h.answer; workspace = left_accepted Bits64 c.args.b.now c.args.ws.now c.requires.3 _ _ _ (rw (sym c.requires.2) c.set_range.ensures) h c.in_default.is }

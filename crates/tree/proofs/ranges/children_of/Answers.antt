@@ -19,7 +19,7 @@ pub returns-then-count-eq0 : goal.returns-then-count-eq0
 returns-then-count-eq0 c = no_children c.requires.0 _ c.child_segment-seg.ensures c.child_element-el.ensures (sym c.if-count-eq0.true ∙ counted (goal.at.returns-then-count-eq0 c).After-child_field-count) refl
 
 pub range_at-requires : goal.range_at-requires
-range_at-requires c = record { mapped = own_region c.requires.0; el_bound = (c.child_element-el.ensures.1, c.child_field-count.ensures.1); }
+range_at-requires c = record { mapped = own_region c.requires.0; el_bound = (c.child_element-el.ensures.1, c.child_field-count.ensures.1) }
 
 pub returns-in_default : goal.returns-in_default
 returns-in_default c = absurd
