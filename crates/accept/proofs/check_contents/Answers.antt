@@ -47,7 +47,7 @@ check_table-found-requires c = (c.tables-t.ensures, values_held Bits64 c.args.b.
 pub returns-in-Refused : goal.returns-in-Refused
 unfolding value_strings
 returns-in-Refused c = let both = settled Bits64 _ _ _ _ (left_values Bits64 _ c.args.v c.requires _) (calm_strings _)
-    (values-told Bits64 c.args.b.now c.args.v c.requires c.check_table-found.ensures.answer c.in-Refused.is) in record { answer = both.0; workspace = both.1; }
+    (values-told Bits64 c.args.b.now c.args.v c.requires c.check_table-found.ensures.answer c.in-Refused.is) in record { answer = both.0; workspace = both.1 }
 
 pub slice_bounds-check_table-end-2 : goal.slice_bounds-check_table-end-2
 slice_bounds-check_table-end-2 c = names-long Bits64 c.args.b.now c.args.v c.requires
@@ -59,7 +59,7 @@ check_table-named-requires c = (c.tables-t.ensures, names_held Bits64 c.args.b.n
 pub returns-in-Refused-c : goal.returns-in-Refused-c
 unfolding name_strings
 returns-in-Refused-c c = let both = settled Bits64 _ _ _ _ (left_names Bits64 _ c.args.v c.requires _ (values_done (goal.at.returns-in-Refused-c c).In_default)) (calm_strings _)
-    (names-told Bits64 c.args.b.now c.args.v c.requires c.check_table-named.ensures.answer c.in-Refused-c.is) in record { answer = both.0; workspace = both.1; }
+    (names-told Bits64 c.args.b.now c.args.v c.requires c.check_table-named.ensures.answer c.in-Refused-c.is) in record { answer = both.0; workspace = both.1 }
 
 pub slice_bounds-check_special-end : goal.slice_bounds-check_special-end
 slice_bounds-check_special-end c = names-long Bits64 c.args.b.now c.args.v c.requires
@@ -71,7 +71,7 @@ check_special-known-requires c = let t = names_table Bits64 c.args.b.now c.args.
 
 pub returns-in-Refused-d : goal.returns-in-Refused-d
 returns-in-Refused-d c = let both = settled Bits64 _ _ _ _ (left_special Bits64 _ c.args.v c.requires _ (values_done (goal.at.returns-in-Refused-d c).In_default) (names_done (goal.at.returns-in-Refused-d c).In_default-c)) (calm_special Bits64 _)
-    (sym c.check_special-known.ensures.answer ∙ c.in-Refused-d.is) in record { answer = both.0; workspace = both.1; }
+    (sym c.check_special-known.ensures.answer ∙ c.in-Refused-d.is) in record { answer = both.0; workspace = both.1 }
 
 pub check_keys-e-requires : goal.check_keys-e-requires
 check_keys-e-requires c = (c.requires.laid, c.check_special-known.ensures.names c.in_default-d.is)
@@ -79,7 +79,7 @@ check_keys-e-requires c = (c.requires.laid, c.check_special-known.ensures.names 
 pub returns-in-Refused-e : goal.returns-in-Refused-e
 returns-in-Refused-e c = let both = settled Bits64 _ _ _ _
     (left_keys Bits64 _ c.args.v c.requires _ (values_done (goal.at.returns-in-Refused-e c).In_default) (names_done (goal.at.returns-in-Refused-e c).In_default-c) (special_done (goal.at.returns-in-Refused-e c).In_default-d)) (calm_keys Bits64 _)
-    (sym c.check_keys-e.ensures ∙ c.in-Refused-e.is) in record { answer = both.0; workspace = both.1; }
+    (sym c.check_keys-e.ensures ∙ c.in-Refused-e.is) in record { answer = both.0; workspace = both.1 }
 
 pub slice_bounds-check_nodes_in_batches-end : goal.slice_bounds-check_nodes_in_batches-end
 slice_bounds-check_nodes_in_batches-end c = values-long Bits64 c.args.b.now c.args.v c.requires
@@ -87,15 +87,15 @@ slice_bounds-check_nodes_in_batches-end c = values-long Bits64 c.args.b.now c.ar
 pub check_nodes_in_batches-f-requires : goal.check_nodes_in_batches-f-requires
 unfolding value_strings
 check_nodes_in_batches-f-requires c = (
-      c.tables-t.ensures,
-      nodes_ready Bits64 c.args.b.now c.args.v c.requires _ (c.check_special-known.ensures.names c.in_default-d.is) (values_done (goal.at.check_nodes_in_batches-f-requires c).In_default),
-      values_packed Bits64 c.args.b.now c.args.v c.requires c.check_table-found.ensures.packed,
-    )
+  c.tables-t.ensures,
+  nodes_ready Bits64 c.args.b.now c.args.v c.requires _ (c.check_special-known.ensures.names c.in_default-d.is) (values_done (goal.at.check_nodes_in_batches-f-requires c).In_default),
+  values_packed Bits64 c.args.b.now c.args.v c.requires c.check_table-found.ensures.packed,
+)
 
 pub returns-in-Refused-f : goal.returns-in-Refused-f
 returns-in-Refused-f c = let both = settled Bits64 _ _ _ _
     (left_nodes Bits64 _ c.args.v c.requires _ (values_done (goal.at.returns-in-Refused-f c).In_default) (names_done (goal.at.returns-in-Refused-f c).In_default-c) (special_done (goal.at.returns-in-Refused-f c).In_default-d) (keys_done (goal.at.returns-in-Refused-f c).In_default-e)) (calm_nodes Bits64 _)
-    (sym c.check_nodes_in_batches-f.ensures ∙ c.in-Refused-f.is) in record { answer = both.0; workspace = both.1; }
+    (sym c.check_nodes_in_batches-f.ensures ∙ c.in-Refused-f.is) in record { answer = both.0; workspace = both.1 }
 
 pub check_tree-requires : goal.check_tree-requires
 check_tree-requires c = (tree_ready Bits64 c.args.b.now c.args.v c.requires (nodes_done (goal.at.check_tree-requires c).In_default-f), c.requires.node_counts, used-told Bits64 c.args.b.now c.args.v c.requires)
@@ -103,4 +103,4 @@ check_tree-requires c = (tree_ready Bits64 c.args.b.now c.args.v c.requires (nod
 pub returns : goal.returns
 returns c = let l = left_tree Bits64 c.args.b.now c.args.v c.requires (length c.args.ws.now)
     (values_done (goal.at.returns c).In_default) (names_done (goal.at.returns c).In_default-c) (special_done (goal.at.returns c).In_default-d) (keys_done (goal.at.returns c).In_default-e) (nodes_done (goal.at.returns c).In_default-f) in
-    record { answer = c.check_tree.ensures.answer ∙ sym l; workspace = c.check_tree.ensures.workspace ∙ ap (workspace_after Bits64 c.args.b.now c.args.ws.now) (sym l); }
+    record { answer = c.check_tree.ensures.answer ∙ sym l; workspace = c.check_tree.ensures.workspace ∙ ap (workspace_after Bits64 c.args.b.now c.args.ws.now) (sym l) }

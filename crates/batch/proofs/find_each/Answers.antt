@@ -12,16 +12,16 @@ formed : (c : In_default) → Clean (path_checks c.args.texts.now)
 formed c = sym c.check_path-c.ensures ∙ c.in_default.is
 
 pub returns-in-Refused : goal.returns-in-Refused
-returns-in-Refused c = let both = texts-refused _ _ _ (sym c.check_path-c.ensures ∙ c.in-Refused.is) in record { answer = both.0; answers = both.1; }
+returns-in-Refused c = let both = texts-refused _ _ _ (sym c.check_path-c.ensures ∙ c.in-Refused.is) in record { answer = both.0; answers = both.1 }
 
 pub count_texts-n-requires : goal.count_texts-n-requires
 count_texts-n-requires c = (formed_inv _ (formed (goal.at.count_texts-n-requires c).In_default)).0
 
 pub returns-then-answers-n : goal.returns-then-answers-n
-returns-then-answers-n c = let both = too_few _ _ _ (formed (goal.at.returns-then-answers-n c).In_default) c.count_texts-n.ensures c.if-answers-n.true in record { answer = both.0; answers = both.1; }
+returns-then-answers-n c = let both = too_few _ _ _ (formed (goal.at.returns-then-answers-n c).In_default) c.count_texts-n.ensures c.if-answers-n.true in record { answer = both.0; answers = both.1 }
 
 pub put_places-requires : goal.put_places-requires
-put_places-requires c = record { tables = c.requires; texts_value = (formed (goal.at.put_places-requires c).In_default, omega (arith, c.if-answers-n.false, c.count_texts-n.ensures)); }
+put_places-requires c = record { tables = c.requires; texts_value = (formed (goal.at.put_places-requires c).In_default, omega (arith, c.if-answers-n.false, c.count_texts-n.ensures)) }
 
 pub returns : goal.returns
-returns c = let both = all_told _ _ _ (formed (goal.at.returns c).In_default) c.count_texts-n.ensures c.if-answers-n.false c.put_places.ensures in record { answer = both.0; answers = both.1; }
+returns c = let both = all_told _ _ _ (formed (goal.at.returns c).In_default) c.count_texts-n.ensures c.if-answers-n.false c.put_places.ensures in record { answer = both.0; answers = both.1 }

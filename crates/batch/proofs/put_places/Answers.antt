@@ -42,7 +42,7 @@ loop-at-preserved c = let g = c.loop-j.invariant in
 pub find_picked-l-requires : goal.find_picked-l-requires
 find_picked-l-requires c = let l = c.loop-j-test.true in
     let e = going_text c.loop-j.invariant c.requires.texts_value.0 c.loop-at.invariant.0.even l in
-    record { held = (c.requires.tables.1, c.requires.tables.2); n_in_bounds = (omega (arith, e.within), c.wide.ensures.0 ∙ e.hashed, near_read c.prefetch_texts.ensures.near _ l c.wide.ensures.0 refl); picked_entry = picked_read c.prefetch_texts.ensures.picked _ l refl refl refl; }
+    record { held = (c.requires.tables.1, c.requires.tables.2); n_in_bounds = (omega (arith, e.within), c.wide.ensures.0 ∙ e.hashed, near_read c.prefetch_texts.ensures.near _ l c.wide.ensures.0 refl); picked_entry = picked_read c.prefetch_texts.ensures.picked _ l refl refl refl }
 
 pub put_place-requires : goal.put_place-requires
 put_place-requires c = let i = c.loop-at.invariant.0 in

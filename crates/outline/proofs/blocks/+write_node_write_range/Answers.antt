@@ -46,11 +46,10 @@ write_range-loop-j-preserved t c =
     let v = c.loop-j.invariant.1 in
     let h : c.loop-j.j < c.children_of-k.result.count = omega arith in
     let n = child-name (tree_held c.requires.outline_ready) c.children_of-k.ensures c.loop-j.j h c.node_name.ensures.0 in
-    let g = ranged_next _ _ _ c.loop-j.j h in
-    (
+    let g = ranged_next _ _ _ c.loop-j.j h in (
       omega arith,
       elim c.if-node_name-ne0.branch [
-          write_range-then-node_name-ne0 w ↦ left_same (left_more v (put_same (shown-live Bits64 _ _ _ (λ z. w.if-node_name-ne0.true (n ∙ z))) w.write_node-e.ensures) g) w.e-is w.out-is
+        | write_range-then-node_name-ne0 w ↦ left_same (left_more v (put_same (shown-live Bits64 _ _ _ (λ z. w.if-node_name-ne0.true (n ∙ z))) w.write_node-e.ensures) g) w.e-is w.out-is
         | write_range-else-node_name-ne0 w ↦ left_same (left_more v (put_same (shown-not Bits64 _ _ _ (sym n ∙ w.if-node_name-ne0.false)) (put_none _ _ v.low)) g) w.e-is w.out-is
       ],
     )

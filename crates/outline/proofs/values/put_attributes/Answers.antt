@@ -24,7 +24,7 @@ returns-then-n-eq0 c = let p = c.requires in
 
 pub range_at-requires : goal.range_at-requires
 range_at-requires c = let p = c.requires in
-    record { mapped = regions p.0; el_bound = (c.attribute_element-el.ensures.1, c.attribute_field-n.ensures.1); }
+    record { mapped = regions p.0; el_bound = (c.attribute_element-el.ensures.1, c.attribute_field-n.ensures.1) }
 
 pub returns-in_default : goal.returns-in_default
 returns-in_default c = let p = c.requires in absurd (attributes_lost p.0 p.1 c.attribute_field-n.ensures.0 c.attribute_segment-seg.ensures.0 c.attribute_element-el.ensures.0 c.range_at.ensures c.if-n-eq0.false c.in_default.is)
