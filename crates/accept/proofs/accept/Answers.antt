@@ -1,3 +1,4 @@
+-- `accept::accept` meets its contract: the layout first, then all else. Assumes nothing.
 use Rattle.verdict.proofs.Laws.{never}
 use Rattle.layout.specs.declared.Edition.TheVariants.{Bits64}
 use Rattle.accept.proofs.Groups.{layout_refused}

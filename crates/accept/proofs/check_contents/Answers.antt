@@ -1,3 +1,4 @@
+-- `accept::check_contents` meets its contract: group after group, the verdict is that of what is left. Assumes nothing.
 use mathlib.Core.Path.{◌≡◌, ap, sym, ◌∙◌}
 use lib.ListN.{length}
 use Rattle.verdict.specs.Checks.{first_fault}

@@ -1,6 +1,12 @@
-use mathlib.Core.Path.{sym, ◌∙◌}
+use Prim.Native.Nat.{◌+◌}
+use native.Mathlib.Omega.{arith}
+use mathlib.Core.Path.{◌≡◌}
+use lib.ListN.{get_or}
 use Rattle.memo.proofs.Laws.{recalled}
 use Rattle.memo.proofs.recall.Goals as goal
 
 pub returns : goal.returns
-returns c = recalled _ _ _ _ _ c.slot-s.ensures (sym c.wide.ensures.0 ∙ c.if-wide-x.false) (sym c.wide-2.ensures.0 ∙ c.if-wide-n.false) c.wide-3.ensures.0
+returns c =
+    let p : get_or c.args.memo.now c.slot-s.result 0 ≡ c.args.x = omega arith in
+    let q : get_or c.args.memo.now (1024 + c.slot-s.result) 0 ≡ c.args.n = omega arith in
+    recalled _ _ _ _ _ c.slot-s.ensures p q c.wide-3.ensures.0

@@ -1,3 +1,4 @@
+-- What is left to find wrong from segment s on is what is to be found wrong in all.
 use Prim.Native.Nat.{◌-◌, ◌≤◌}
 use mathlib.Core.Path.{◌≡◌}
 use lib.ListN.{length}

@@ -1,3 +1,4 @@
+-- In any region where p starts out at segment seg - left, it stays there.
 use Prim.Native.Nat.{ℕ, ◌-◌, ◌≤◌}
 use mathlib.Core.Path.{◌≡◌}
 use Rattle.region.specs.Region.{start_of}

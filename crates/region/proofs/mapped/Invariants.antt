@@ -1,3 +1,4 @@
+-- The mask goes with the shift, and the shift is still too small for the segments while it grows.
 use Prim.Native.Nat.{◌+◌, ◌-◌, ◌^◌, ◌≤◌}
 use mathlib.Core.Path.{◌≡◌}
 use Rattle.region.proofs.mapped.Given as goal

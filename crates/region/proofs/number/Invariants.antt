@@ -1,3 +1,4 @@
+-- In any region where p and n start out at segment seg - left, they stay there.
 use Prim.Native.Nat.{ℕ, ◌-◌, ◌≤◌}
 use mathlib.Core.Path.{◌≡◌}
 use mathlib.Core.List.{List}

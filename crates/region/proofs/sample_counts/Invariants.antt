@@ -1,3 +1,4 @@
+-- The samples of the segments before s are set, p is where s starts, and n is what is used before it.
 use Prim.Native.Nat.{◌-◌, ◌^◌, ◌≤◌}
 use mathlib.Core.Path.{◌≡◌}
 use lib.ListN.{length}

@@ -1,3 +1,4 @@
+-- The samples of the segments before s are set, and p is where s starts.
 use Prim.Native.Nat.{◌-◌, ◌^◌, ◌≤◌}
 use mathlib.Core.Path.{◌≡◌}
 use lib.ListN.{length}

@@ -18,7 +18,7 @@ returns-then-u64_at c = tells_no
 
 pub loop-i-preserved : goal.loop-i-preserved
 loop-i-preserved c = let e = sym c.u64_at.ensures ∙ c.if-u64_at.false ∙ c.u64_at-in-loop-i.ensures in
-    let f = four_chars _ _ _ _ _ (λ k. omega (arith, c.shared_slice_known-1.given k)) (λ k. omega (arith, c.shared_slice_known-2-1.given k)) e in
+    let f = four_chars _ _ _ _ _ (λ k. search rules) (λ k. search rules) e in
     (search rules, alike_four _ _ _ _ _ _ (omega arith) _ (omega arith) c.loop-i.invariant.1 f)
 
 pub returns : goal.returns
@@ -32,5 +32,5 @@ returns c = let s = c.args in
     tells_eqb _ _
     (λ e. alike-chars _ _ _ _ _
     (alike_four _ _ _ _ (s.n - 4) s.n g _ h c.loop-i.invariant.1
-    (four_chars _ _ _ _ _ (λ k. omega (arith, c.shared_slice_known-1.given k)) (λ k. omega (arith, c.shared_slice_known-2-1.given k)) (sym u ∙ e ∙ v))))
+    (four_chars _ _ _ _ _ (λ k. search rules) (λ k. search rules) (sym u ∙ e ∙ v))))
     (λ e. u ∙ four_number _ _ _ _ (s.n - 4) (λ j x y. chars-alike _ _ _ _ s.n e j (omega arith)) ∙ sym v)

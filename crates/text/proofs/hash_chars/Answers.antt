@@ -12,8 +12,8 @@ loop-i-init c = (search rules, search rules, ap (hash_on _) (sym (chars_start _ 
 
 pub loop-i-preserved : goal.loop-i-preserved
 loop-i-preserved c = let l = c.loop-i-test.true in
-    let q = first_two _ _ _ _ _ (λ i. omega (arith, c.shared_slice_known-1.given i)) l c.u32_at-v.ensures.0 in
-    let r = next_two _ _ _ _ _ (λ i. omega (arith, c.shared_slice_known-1.given i)) l c.u32_at.ensures.0 in (
+    let q = first_two _ _ _ _ _ (λ i. search rules) l c.u32_at-v.ensures.0 in
+    let r = next_two _ _ _ _ _ (λ i. search rules) l c.u32_at.ensures.0 in (
       omega arith,
       c.quad_on-g.ensures.1,
       c.loop-i.invariant.2 ∙ chars_pair q _ _ _ refl refl ∙ chars_pair r _ _ _ (omega arith) c.quad_on-g.ensures.0,

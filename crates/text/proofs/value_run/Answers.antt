@@ -6,6 +6,7 @@ use Rattle.hash.proofs.Halves.{fold_one}
 use Rattle.text.proofs.Passed.{folded_start, value-rest}
 use Rattle.text.proofs.Words.{Two, first_two, next_two, value_none, value-one, folded_pair}
 use native.Mathlib.Omega.{arith}
+use borrow.Author.Rules.{rules}
 use Rattle.text.proofs.value_run.Goals as goal
 use Rattle.text.proofs.value_run.Goals.{After-u32_at-w}
 
@@ -13,13 +14,13 @@ first : (c : After-u32_at-w)
     → let s = c.args in
     Two s.b.now s.p s.n c.loop-i.i (bit_and c.u32_at-v.result 65535) c.u32_at-v.result
 first c =
-    first_two _ _ _ _ _ (λ i. omega (arith, c.shared_slice_known-1.given i)) c.loop-i-test.true c.u32_at-v.ensures.0
+    first_two _ _ _ _ _ (λ i. search rules) c.loop-i-test.true c.u32_at-v.ensures.0
 
 next : (c : After-u32_at-w)
     → let s = c.args in
     Two s.b.now s.p s.n (c.loop-i.i + 2) (bit_and c.u32_at-w.result 65535) c.u32_at-w.result
 next c =
-    next_two _ _ _ _ _ (λ i. omega (arith, c.shared_slice_known-1.given i)) c.loop-i-test.true c.u32_at-w.ensures.0
+    next_two _ _ _ _ _ (λ i. search rules) c.loop-i-test.true c.u32_at-w.ensures.0
 
 pub loop-i-init : goal.loop-i-init
 loop-i-init c = folded_start _ _ _ _ c.requires.2

@@ -2,6 +2,7 @@ use Prim.Native.Nat.{◌-◌}
 use mathlib.Core.Path.{refl}
 use Rattle.text.proofs.Stirred.{stirring_start, stirring_next, stirring_one, stirring_none}
 use native.Mathlib.Omega.{arith}
+use borrow.Author.Rules.{rules}
 use Rattle.text.proofs.fingerprint.fingerprint.Goals as goal
 
 pub loop-i-init : goal.loop-i-init
@@ -11,7 +12,7 @@ pub stir-g-requires : goal.stir-g-requires
 stir-g-requires c = (c.loop-i.invariant.small, c.u32_at.ensures.1)
 
 pub loop-i-preserved : goal.loop-i-preserved
-loop-i-preserved c = stirring_next _ _ _ _ _ c.loop-i.invariant _ _ _ (λ i. omega (arith, c.shared_slice_known-1.given i)) c.loop-i-test.true c.u32_at.ensures.0 c.stir-g.ensures refl
+loop-i-preserved c = stirring_next _ _ _ _ _ c.loop-i.invariant _ _ _ (λ i. search rules) c.loop-i-test.true c.u32_at.ensures.0 c.stir-g.ensures refl
 
 pub stir-requires : goal.stir-requires
 stir-requires c = (c.loop-i.invariant.small, omega (arith, c.u16_at.ensures.1))

@@ -3,6 +3,7 @@ use mathlib.Core.Path.{refl, sym, ◌∙◌}
 use Rattle.text.proofs.Words.{first_two, next_two}
 use Rattle.text.proofs.AsBytes.{folded_start, folded_two, folded-rest}
 use native.Mathlib.Omega.{arith}
+use borrow.Author.Rules.{rules}
 use Rattle.text.proofs.parts.fold_fours.Goals as goal
 
 pub loop-i-init : goal.loop-i-init
@@ -13,8 +14,8 @@ quad_on-g-requires c = let f = c.fold_quad-f.ensures in
     (c.requires.0, c.loop-i.invariant.1, f.0.small, f.1.small)
 
 pub loop-i-preserved : goal.loop-i-preserved
-loop-i-preserved c = let a = first_two _ _ _ _ _ (λ i. omega (arith, c.shared_slice_known-1.given i)) c.loop-i-test.true c.u32_at.ensures.0 in
-    let b = next_two _ _ _ _ _ (λ i. omega (arith, c.shared_slice_known-1.given i)) c.loop-i-test.true c.u32_at-in-loop-i.ensures.0 in (
+loop-i-preserved c = let a = first_two _ _ _ _ _ (λ i. search rules) c.loop-i-test.true c.u32_at.ensures.0 in
+    let b = next_two _ _ _ _ _ (λ i. search rules) c.loop-i-test.true c.u32_at-in-loop-i.ensures.0 in (
       omega arith,
       c.quad_on-g.ensures.1,
       c.loop-i.invariant.2

@@ -1,6 +1,7 @@
 use Rattle.text.proofs.AsBytes.{bytes_whole}
 use native.Mathlib.Omega.{arith}
+use borrow.Author.Rules.{rules}
 use Rattle.text.proofs.parts.hash_bytes.Goals as goal
 
 pub returns : goal.returns
-returns c = (bytes_whole _ (λ i. omega (arith, c.shared_slice_known-1.given i)) _ _ _ _ (omega arith) c.hash_chars-g.ensures.0 c.hash_each-2.ensures.0, c.hash_each-2.ensures.1)
+returns c = (bytes_whole _ (λ i. search rules) _ _ _ _ (omega arith) c.hash_chars-g.ensures.0 c.hash_each-2.ensures.0, c.hash_each-2.ensures.1)
