@@ -1,6 +1,5 @@
 use native.Mathlib.Omega.{arith}
 use Rattle.dcdump.proofs.Counts.{came-read}
-use Prim.Native.Nat.{◌-◌}
 use Rattle.dcdump.specs.inner.Reading.{came}
 use borrow.Author.Rules.{rules}
 use Rattle.dcdump.proofs.read_input.Goals as goal

@@ -1,6 +1,5 @@
-use Prim.Native.Nat.{◌-◌, ◌≤◌}
+use Prim.Native.Nat.{◌-◌}
 use native.Mathlib.Omega.{arith}
-use mathlib.Core.Path.{refl}
 use lib.ListN.{length}
 use borrow.Rule.Slice.PartMut.{take_put, same_len_mid, mid_len}
 use Rattle.dcdump.specs.inner.Reading.{came}

@@ -1,4 +1,3 @@
-use Prim.Native.Nat.{◌-◌}
 use mathlib.Core.Path.{sym, ◌∙◌}
 use Rattle.verdict.proofs.Laws.{tells_yes, tells_no}
 use Rattle.text.proofs.OneByOne.{alike-chars, chars-alike, alike-none, alike_more, alike-upto}

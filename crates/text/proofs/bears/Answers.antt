@@ -1,4 +1,3 @@
-use Prim.Native.Nat.{◌-◌}
 use mathlib.Core.Path.{refl, sym, ◌∙◌}
 use Rattle.verdict.proofs.Laws.{tells_no}
 use Rattle.text.proofs.Walk.{chars_start, chars_next, text-start, char_end, char_next, char_head, same_start, same_next, none-some, borne_end}

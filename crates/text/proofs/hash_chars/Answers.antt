@@ -1,4 +1,3 @@
-use Prim.Native.Nat.{◌-◌}
 use mathlib.Core.Path.{refl, ap, sym, ◌∙◌}
 use Rattle.hash.specs.Hash.{hash_on}
 use Rattle.text.proofs.Walk.{chars_start, hash-rest}

@@ -1,6 +1,5 @@
 use mathlib.Core.Path.{refl}
 use Rattle.text.proofs.Words.{hash-none, hash-one, hash-two, three}
-use native.Mathlib.Omega.{arith}
 use borrow.Author.Rules.{rules}
 use Rattle.text.proofs.hash_few.Goals as goal
 

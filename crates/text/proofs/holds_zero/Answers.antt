@@ -1,4 +1,3 @@
-use Prim.Native.Nat.{◌-◌}
 use mathlib.Core.Path.{◌∙◌}
 use borrow.Author.Count.{below_none, below_more}
 use Rattle.verdict.proofs.Laws.{tells_yes, tells_no}

@@ -1,4 +1,3 @@
-use Prim.Native.Nat.{◌-◌}
 use mathlib.Core.Path.{refl}
 use Rattle.text.proofs.Walk.{char_end, char_in, char_next}
 use Rattle.text.proofs.Passed.{passed_start, passed_next, measured}

@@ -1,4 +1,3 @@
-use Prim.Native.Nat.{◌-◌}
 use mathlib.Core.Path.{refl, sym, ◌∙◌}
 use Rattle.verdict.proofs.Laws.{tells_yes, tells_no}
 use Rattle.text.proofs.Walk.{text-start, char_end, char_in, char_next, char_head, same_start, same_next}

@@ -1,4 +1,4 @@
-use Prim.Native.Nat.{◌+◌, ◌-◌}
+use Prim.Native.Nat.{◌+◌}
 use mathlib.Core.Path.{refl}
 use lib.Bits.{bit_and}
 use Rattle.hash.proofs.Laws.{char_lt}

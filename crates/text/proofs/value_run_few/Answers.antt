@@ -1,4 +1,3 @@
-use Prim.Native.Nat.{◌-◌}
 use mathlib.Core.Path.{refl}
 use Rattle.text.proofs.Walk.{text_shut, text_next}
 use Rattle.text.proofs.Passed.{folded_start, folded_next, value-met, value-passed}

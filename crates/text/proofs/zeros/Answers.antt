@@ -1,6 +1,4 @@
-use Prim.Native.Nat.{◌-◌}
 use mathlib.Core.Path.{sym, ◌∙◌}
-use mathlib.Core.Logic.{⊎_elim}
 use Rattle.text.proofs.Counted.{counted_start, counted_zero, counted_other, counted_all}
 use native.Mathlib.Omega.{arith}
 use Rattle.text.proofs.zeros.Goals as goal

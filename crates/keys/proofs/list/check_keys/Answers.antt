@@ -1,7 +1,5 @@
-use Prim.Native.Nat.{◌-◌}
 use native.Mathlib.Omega.{arith}
 use mathlib.Core.Path.{sym, ◌∙◌}
-use borrow.Author.Tests.{not-true, not-false}
 use Rattle.layout.specs.Header.{keys_at, key_count}
 use Rattle.layout.specs.declared.Edition.TheVariants.{Bits64}
 use Rattle.layout.proofs.Laws.{keys_fit}

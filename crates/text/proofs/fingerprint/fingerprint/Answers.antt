@@ -1,4 +1,3 @@
-use Prim.Native.Nat.{◌-◌}
 use mathlib.Core.Path.{refl}
 use Rattle.text.proofs.Stirred.{stirring_start, stirring_next, stirring_one, stirring_none}
 use native.Mathlib.Omega.{arith}

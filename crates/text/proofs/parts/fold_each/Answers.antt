@@ -1,4 +1,3 @@
-use Prim.Native.Nat.{◌-◌}
 use mathlib.Core.Path.{refl, sym, ◌∙◌}
 use Rattle.text.proofs.AsBytes.{char_bytes, folded_start, folded_next, folded_over}
 use native.Mathlib.Omega.{arith}

@@ -1,4 +1,3 @@
-use Prim.Native.Nat.{◌-◌}
 use mathlib.Core.Path.{refl, sym, ◌∙◌}
 use Rattle.text.proofs.Words.{first_two, next_two}
 use Rattle.text.proofs.AsBytes.{folded_start, folded_two, folded-rest}

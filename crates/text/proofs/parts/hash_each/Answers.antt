@@ -1,4 +1,3 @@
-use Prim.Native.Nat.{◌-◌}
 use mathlib.Core.Path.{refl, sym, ◌∙◌}
 use Rattle.text.proofs.AsBytes.{bytes_next, bytes_over}
 use Rattle.text.proofs.parts.hash_each.Goals as goal
