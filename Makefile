@@ -23,7 +23,7 @@ DUMP := target/bin/dcdump
 EXAMPLES := $(patsubst examples/%.c,target/%,$(wildcard examples/*.c))
 
 # What is proved. A file that is added or removed changes its directory, so the directories are in the list.
-CRATES := crates.txt $(shell find crates \( -name must-fail -o -name out \) -prune -o -print)
+CRATES := crates.txt $(shell find crates -mindepth 2 \( -name must-fail -o -name out \) -prune -o -print)
 
 COMPILE = $(CC) -std=gnu11 -Iinclude $(CPPFLAGS) $(CFLAGS)
 

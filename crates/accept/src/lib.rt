@@ -20,17 +20,13 @@ pub struct Acceptance {
 }
 
 // Refusals 7 to 23 of a file that is laid out, with what they leave in the workspace.
-fn check_contents(b: &[u8], v: View, ws: &mut [u8]) -> Verdict
-    requires { Fits Bits64 b.now v }
+fn check_contents(b: &[u8], v: &View, ws: &mut [u8]) -> Verdict
+    requires { Fits Bits64 b.now v.now }
     ensures answer { result ≡ verdict_of Bits64 b.now (length ws.old) }
     ensures workspace { ws.new ≡ workspace_after Bits64 b.now ws.old (verdict_of Bits64 b.now (length ws.old)) }
 {
     let t = hash::tables();
     let p = v.places;
-    let value_segments = v.value_segments;
-    let value_buckets = v.value_buckets;
-    let name_segments = v.name_segments;
-    let name_buckets = v.name_buckets;
     let value_chars = p.value_chars;
     let name_chars = p.name_chars;
     let values = Strings {
@@ -41,17 +37,17 @@ fn check_contents(b: &[u8], v: View, ws: &mut [u8]) -> Verdict
         chars: name_chars,
         list: p.name_list,
     };
-    let found = positions::check_table(b, &t, values, &value_segments, &value_buckets);
+    let found = positions::check_table(b, &t, values, &v.value_segments, &v.value_buckets);
     let a = found.answer;
     if let Verdict::Refused(num, place) = a {
         return Verdict::Refused(num, place);
     }
-    let named = positions::check_table(b, &t, names, &name_segments, &name_buckets);
+    let named = positions::check_table(b, &t, names, &v.name_segments, &v.name_buckets);
     let c = named.answer;
     if let Verdict::Refused(num, place) = c {
         return Verdict::Refused(num, place);
     }
-    let known = keys::special::check_special(b, names, &name_segments, &name_buckets);
+    let known = keys::special::check_special(b, names, &v.name_segments, &v.name_buckets);
     let d = known.answer;
     if let Verdict::Refused(num, place) = d {
         return Verdict::Refused(num, place);
@@ -61,25 +57,22 @@ fn check_contents(b: &[u8], v: View, ws: &mut [u8]) -> Verdict
     if let Verdict::Refused(num, place) = e {
         return Verdict::Refused(num, place);
     }
-    let attribute_segments = v.attribute_segments;
-    let node_segments = v.node_segments;
-    let node_counts = v.node_counts;
     let f = prefetch::all::check_nodes_in_batches(
         b,
         &t,
         p,
         special,
-        &attribute_segments,
-        &node_segments,
-        &value_segments,
-        &value_buckets,
+        &v.attribute_segments,
+        &v.node_segments,
+        &v.value_segments,
+        &v.value_buckets,
         found.packed,
     );
     if let Verdict::Refused(num, place) = f {
         return Verdict::Refused(num, place);
     }
     let nodes = p.nodes;
-    tree::check_tree(b, nodes, &node_segments, &node_counts, p.used_nodes, ws)
+    tree::check_tree(b, nodes, &v.node_segments, &v.node_counts, p.used_nodes, ws)
 }
 
 // Accepts a file, or refuses it.
@@ -89,12 +82,14 @@ pub fn accept(b: &[u8], ws: &mut [u8]) -> Acceptance
 {
     let c = layout::whole::check_layout(b);
     let laid = c.answer;
-    let view = c.view;
     if let Verdict::Refused(_, _) = laid {
-        return Acceptance { answer: laid, view };
+        return Acceptance {
+            answer: laid,
+            view: c.view,
+        };
     }
     Acceptance {
-        answer: check_contents(b, view, ws),
-        view,
+        answer: check_contents(b, &c.view, ws),
+        view: c.view,
     }
 }

@@ -173,7 +173,8 @@ fn no_view() -> View {
     }
 }
 
-// Refusals 1 to 6, and the view of a file that passes them.
+// Refusals 1 to 6, and the view of a file that passes them. Not inlined: its arrays are off the stack before the rest of the file is checked.
+#[inline(never)]
 pub fn check_layout(b: &[u8]) -> CheckedLayout
     ensures { Viewed Bits64 b.now result }
 {

@@ -25,21 +25,23 @@ pub fn find(file: &[u8], v: View, kind: Kind, text: &[u8]) -> Lookup
     match kind {
         Kind::Name => {
             let segments = v.name_segments;
+            let buckets = v.name_buckets;
             let chars = p.name_chars;
             let s = Strings {
                 chars,
                 list: p.name_list,
             };
-            lookup::find_text(file, &t, s, &segments, &v.name_buckets, kind, text, 0, n)
+            lookup::find_text(file, &t, s, &segments, &buckets, kind, text, 0, n)
         }
         Kind::Value => {
             let segments = v.value_segments;
+            let buckets = v.value_buckets;
             let chars = p.value_chars;
             let s = Strings {
                 chars,
                 list: p.value_list,
             };
-            lookup::find_text(file, &t, s, &segments, &v.value_buckets, kind, text, 0, n)
+            lookup::find_text(file, &t, s, &segments, &buckets, kind, text, 0, n)
         }
     }
 }
@@ -56,39 +58,23 @@ pub fn find_texts(file: &[u8], v: View, kind: Kind, texts: &[u8], answers: &mut 
     match kind {
         Kind::Name => {
             let segments = v.name_segments;
+            let buckets = v.name_buckets;
             let chars = p.name_chars;
             let s = Strings {
                 chars,
                 list: p.name_list,
             };
-            batch::find_each(
-                file,
-                &t,
-                s,
-                &segments,
-                &v.name_buckets,
-                kind,
-                texts,
-                answers,
-            )
+            batch::find_each(file, &t, s, &segments, &buckets, kind, texts, answers)
         }
         Kind::Value => {
             let segments = v.value_segments;
+            let buckets = v.value_buckets;
             let chars = p.value_chars;
             let s = Strings {
                 chars,
                 list: p.value_list,
             };
-            batch::find_each(
-                file,
-                &t,
-                s,
-                &segments,
-                &v.value_buckets,
-                kind,
-                texts,
-                answers,
-            )
+            batch::find_each(file, &t, s, &segments, &buckets, kind, texts, answers)
         }
     }
 }

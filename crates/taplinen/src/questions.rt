@@ -70,6 +70,7 @@ pub fn taplinen_path(file: &[u8], ws: &mut [u8], path: &[u8], list: &mut [u8]) -
     let view = a.view;
     let p = view.places;
     let name_segments = view.name_segments;
+    let name_buckets = view.name_buckets;
     let node_segments = view.node_segments;
     let chars = p.name_chars;
     let s = Strings {
@@ -82,7 +83,7 @@ pub fn taplinen_path(file: &[u8], ws: &mut [u8], path: &[u8], list: &mut [u8]) -
         &t,
         s,
         &name_segments,
-        &view.name_buckets,
+        &name_buckets,
         p.nodes,
         &node_segments,
         path,

@@ -22,12 +22,12 @@ use Rattle.accept.proofs.check_contents.Goals.{In_default, In_default-c, In_defa
 values_done : (c : In_default) → first_fault (string_checks (values Bits64 c.args.b.now)) ≡ Accepted
 unfolding value_strings
 values_done c =
-    values-told Bits64 c.args.b.now c.args.v c.requires c.check_table-found.ensures.answer c.in_default.is
+    values-told Bits64 c.args.b.now c.args.v.now c.requires c.check_table-found.ensures.answer c.in_default.is
 
 names_done : (c : In_default-c) → first_fault (string_checks (names Bits64 c.args.b.now)) ≡ Accepted
 unfolding name_strings
 names_done c =
-    names-told Bits64 c.args.b.now c.args.v c.requires c.check_table-named.ensures.answer c.in_default-c.is
+    names-told Bits64 c.args.b.now c.args.v.now c.requires c.check_table-named.ensures.answer c.in_default-c.is
 
 special_done : (c : In_default-d) → first_fault (special_checks Bits64 c.args.b.now) ≡ Accepted
 special_done c = sym c.check_special-known.ensures.answer ∙ c.in_default-d.is
@@ -39,39 +39,39 @@ nodes_done : (c : In_default-f) → first_fault (all_node_checks Bits64 c.args.b
 nodes_done c = sym c.check_nodes_in_batches-f.ensures ∙ c.in_default-f.is
 
 pub slice_bounds-check_table-end : goal.slice_bounds-check_table-end
-slice_bounds-check_table-end c = values-long Bits64 c.args.b.now c.args.v c.requires
+slice_bounds-check_table-end c = values-long Bits64 c.args.b.now c.args.v.now c.requires
 
 pub check_table-found-requires : goal.check_table-found-requires
 unfolding value_strings
-check_table-found-requires c = (c.tables-t.ensures, values_held Bits64 c.args.b.now c.args.v c.requires)
+check_table-found-requires c = (c.tables-t.ensures, values_held Bits64 c.args.b.now c.args.v.now c.requires)
 
 pub returns-in-Refused : goal.returns-in-Refused
 unfolding value_strings
-returns-in-Refused c = let both = settled Bits64 _ _ _ _ (left_values Bits64 _ c.args.v c.requires _) (calm_strings _)
-    (values-told Bits64 c.args.b.now c.args.v c.requires c.check_table-found.ensures.answer c.in-Refused.is) in record { answer = both.0; workspace = both.1 }
+returns-in-Refused c = let both = settled Bits64 _ _ _ _ (left_values Bits64 _ c.args.v.now c.requires _) (calm_strings _)
+    (values-told Bits64 c.args.b.now c.args.v.now c.requires c.check_table-found.ensures.answer c.in-Refused.is) in record { answer = both.0; workspace = both.1 }
 
 pub slice_bounds-check_table-end-2 : goal.slice_bounds-check_table-end-2
-slice_bounds-check_table-end-2 c = names-long Bits64 c.args.b.now c.args.v c.requires
+slice_bounds-check_table-end-2 c = names-long Bits64 c.args.b.now c.args.v.now c.requires
 
 pub check_table-named-requires : goal.check_table-named-requires
 unfolding name_strings
-check_table-named-requires c = (c.tables-t.ensures, names_held Bits64 c.args.b.now c.args.v c.requires)
+check_table-named-requires c = (c.tables-t.ensures, names_held Bits64 c.args.b.now c.args.v.now c.requires)
 
 pub returns-in-Refused-c : goal.returns-in-Refused-c
 unfolding name_strings
-returns-in-Refused-c c = let both = settled Bits64 _ _ _ _ (left_names Bits64 _ c.args.v c.requires _ (values_done (goal.at.returns-in-Refused-c c).In_default)) (calm_strings _)
-    (names-told Bits64 c.args.b.now c.args.v c.requires c.check_table-named.ensures.answer c.in-Refused-c.is) in record { answer = both.0; workspace = both.1 }
+returns-in-Refused-c c = let both = settled Bits64 _ _ _ _ (left_names Bits64 _ c.args.v.now c.requires _ (values_done (goal.at.returns-in-Refused-c c).In_default)) (calm_strings _)
+    (names-told Bits64 c.args.b.now c.args.v.now c.requires c.check_table-named.ensures.answer c.in-Refused-c.is) in record { answer = both.0; workspace = both.1 }
 
 pub slice_bounds-check_special-end : goal.slice_bounds-check_special-end
-slice_bounds-check_special-end c = names-long Bits64 c.args.b.now c.args.v c.requires
+slice_bounds-check_special-end c = names-long Bits64 c.args.b.now c.args.v.now c.requires
 
 pub check_special-known-requires : goal.check_special-known-requires
 unfolding name_strings
-check_special-known-requires c = let t = names_table Bits64 c.args.b.now c.args.v c.requires in
-    (names_held Bits64 c.args.b.now c.args.v c.requires, t, ap (λ (x : Table). first_fault (string_checks x)) t ∙ names_done (goal.at.check_special-known-requires c).In_default-c)
+check_special-known-requires c = let t = names_table Bits64 c.args.b.now c.args.v.now c.requires in
+    (names_held Bits64 c.args.b.now c.args.v.now c.requires, t, ap (λ (x : Table). first_fault (string_checks x)) t ∙ names_done (goal.at.check_special-known-requires c).In_default-c)
 
 pub returns-in-Refused-d : goal.returns-in-Refused-d
-returns-in-Refused-d c = let both = settled Bits64 _ _ _ _ (left_special Bits64 _ c.args.v c.requires _ (values_done (goal.at.returns-in-Refused-d c).In_default) (names_done (goal.at.returns-in-Refused-d c).In_default-c)) (calm_special Bits64 _)
+returns-in-Refused-d c = let both = settled Bits64 _ _ _ _ (left_special Bits64 _ c.args.v.now c.requires _ (values_done (goal.at.returns-in-Refused-d c).In_default) (names_done (goal.at.returns-in-Refused-d c).In_default-c)) (calm_special Bits64 _)
     (sym c.check_special-known.ensures.answer ∙ c.in-Refused-d.is) in record { answer = both.0; workspace = both.1 }
 
 pub check_keys-e-requires : goal.check_keys-e-requires
@@ -79,29 +79,29 @@ check_keys-e-requires c = (c.requires.laid, c.check_special-known.ensures.names 
 
 pub returns-in-Refused-e : goal.returns-in-Refused-e
 returns-in-Refused-e c = let both = settled Bits64 _ _ _ _
-    (left_keys Bits64 _ c.args.v c.requires _ (values_done (goal.at.returns-in-Refused-e c).In_default) (names_done (goal.at.returns-in-Refused-e c).In_default-c) (special_done (goal.at.returns-in-Refused-e c).In_default-d)) (calm_keys Bits64 _)
+    (left_keys Bits64 _ c.args.v.now c.requires _ (values_done (goal.at.returns-in-Refused-e c).In_default) (names_done (goal.at.returns-in-Refused-e c).In_default-c) (special_done (goal.at.returns-in-Refused-e c).In_default-d)) (calm_keys Bits64 _)
     (sym c.check_keys-e.ensures ∙ c.in-Refused-e.is) in record { answer = both.0; workspace = both.1 }
 
 pub slice_bounds-check_nodes_in_batches-end : goal.slice_bounds-check_nodes_in_batches-end
-slice_bounds-check_nodes_in_batches-end c = values-long Bits64 c.args.b.now c.args.v c.requires
+slice_bounds-check_nodes_in_batches-end c = values-long Bits64 c.args.b.now c.args.v.now c.requires
 
 pub check_nodes_in_batches-f-requires : goal.check_nodes_in_batches-f-requires
 unfolding value_strings
 check_nodes_in_batches-f-requires c = (
   c.tables-t.ensures,
-  nodes_ready Bits64 c.args.b.now c.args.v c.requires _ (c.check_special-known.ensures.names c.in_default-d.is) (values_done (goal.at.check_nodes_in_batches-f-requires c).In_default),
-  values_packed Bits64 c.args.b.now c.args.v c.requires c.check_table-found.ensures.packed,
+  nodes_ready Bits64 c.args.b.now c.args.v.now c.requires _ (c.check_special-known.ensures.names c.in_default-d.is) (values_done (goal.at.check_nodes_in_batches-f-requires c).In_default),
+  values_packed Bits64 c.args.b.now c.args.v.now c.requires c.check_table-found.ensures.packed,
 )
 
 pub returns-in-Refused-f : goal.returns-in-Refused-f
 returns-in-Refused-f c = let both = settled Bits64 _ _ _ _
-    (left_nodes Bits64 _ c.args.v c.requires _ (values_done (goal.at.returns-in-Refused-f c).In_default) (names_done (goal.at.returns-in-Refused-f c).In_default-c) (special_done (goal.at.returns-in-Refused-f c).In_default-d) (keys_done (goal.at.returns-in-Refused-f c).In_default-e)) (calm_nodes Bits64 _)
+    (left_nodes Bits64 _ c.args.v.now c.requires _ (values_done (goal.at.returns-in-Refused-f c).In_default) (names_done (goal.at.returns-in-Refused-f c).In_default-c) (special_done (goal.at.returns-in-Refused-f c).In_default-d) (keys_done (goal.at.returns-in-Refused-f c).In_default-e)) (calm_nodes Bits64 _)
     (sym c.check_nodes_in_batches-f.ensures ∙ c.in-Refused-f.is) in record { answer = both.0; workspace = both.1 }
 
 pub check_tree-requires : goal.check_tree-requires
-check_tree-requires c = (tree_ready Bits64 c.args.b.now c.args.v c.requires (nodes_done (goal.at.check_tree-requires c).In_default-f), c.requires.node_counts, used-told Bits64 c.args.b.now c.args.v c.requires)
+check_tree-requires c = (tree_ready Bits64 c.args.b.now c.args.v.now c.requires (nodes_done (goal.at.check_tree-requires c).In_default-f), c.requires.node_counts, used-told Bits64 c.args.b.now c.args.v.now c.requires)
 
 pub returns : goal.returns
-returns c = let l = left_tree Bits64 c.args.b.now c.args.v c.requires (length c.args.ws.now)
+returns c = let l = left_tree Bits64 c.args.b.now c.args.v.now c.requires (length c.args.ws.now)
     (values_done (goal.at.returns c).In_default) (names_done (goal.at.returns c).In_default-c) (special_done (goal.at.returns c).In_default-d) (keys_done (goal.at.returns c).In_default-e) (nodes_done (goal.at.returns c).In_default-f) in
     record { answer = c.check_tree.ensures.answer ∙ sym l; workspace = c.check_tree.ensures.workspace ∙ ap (workspace_after Bits64 c.args.b.now c.args.ws.now) (sym l) }
