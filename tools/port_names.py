@@ -46,9 +46,8 @@ def text(p):
 def declared():
     """Every name that a file of ours declares; the names of definitions of specs/; the answers to goals."""
     own, defined, answers = set(), set(), set()
-    # A cycle of calls has its own folder, and only answers in it.
     for p in files(".antt"):
-        if "/+" in p:
+        if "/+" in p:  # a cycle of calls has a folder of its own, and only answers in it
             continue
         for line in text(p).split("\n"):
             m = HEAD.match(line)
@@ -96,7 +95,7 @@ def table():
     own = (own | camels()) - given
     for n in sorted(own - answers, key=lambda n: ("-" in n, n)):
         new = respelled(n, known)
-        if new == n or n in ("◌",):
+        if new == n:
             continue
         if new in own or new in to or new in {"in", "as", "data"}:
             print(f"stays: {n} (would be {new})")

@@ -1,4 +1,4 @@
-// The exported library: questions on a lent file, a workspace and lent buffers, for C. Callers check nothing first.
+// The library: questions on a lent file, a workspace and lent buffers. Callers check nothing first. The crate taplinen_c exports them for C.
 #![tactic(auto)]
 
 pub mod answer;

@@ -1,16 +1,23 @@
+use Prim.Native.Nat.{◌≤◌}
+use lib.ListN.{length}
 use Rattle.dcdump.specs.Messages.{bad_line}
 use Rattle.dcdump.proofs.Counts.{part_long}
 use Rattle.dcdump.proofs.Written.{file_inside, framed_file, framed_bad, output_whole}
 use native.Mathlib.Omega.{arith}
 use Rattle.dcdump.proofs.dump.dump.Goals as goal
+use Rattle.dcdump.proofs.dump.dump.Goals.{In-Bytes}
 
-pub slice_bounds-file-end : goal.slice_bounds-file-end
-slice_bounds-file-end c = let k = c.read_frames in
+-- the bytes of the file lie in the buffer
+fits : (c : In-Bytes) → c.in-Bytes.n ≤ length c.read_frames.new.out
+fits c =
+    let k = c.read_frames in
     omega (arith, file_inside c.args.input.now _ k.ensures.answer c.in-Bytes.is, k.auto.out, c.file-file.ensures)
 
+pub slice_bounds-file-end : goal.slice_bounds-file-end
+slice_bounds-file-end c = fits (goal.at.slice_bounds-file-end c).In-Bytes
+
 pub slice_bounds-judge-end : goal.slice_bounds-judge-end
-slice_bounds-judge-end c = part_long _ _ ((let k = c.read_frames in
-    omega (arith, file_inside c.args.input.now _ k.ensures.answer c.in-Bytes.is, k.auto.out, c.file-file.ensures)))
+slice_bounds-judge-end c = part_long _ _ (fits (goal.at.slice_bounds-judge-end c).In-Bytes)
 
 pub returns-in-Bytes : goal.returns-in-Bytes
 returns-in-Bytes c = let x = c.args.input.now in
