@@ -23,9 +23,7 @@ pub fn put_hex(out: &mut [u8], at: usize, x: usize, n: usize) -> usize
     ensures { Put out.old at (hex_of n x) result out.new }
 {
     let mut p = at;
-    let mut i = n;
-    while 0 < i {
-        i -= 1;
+    for i in (0..n).rev() {
         p = put(out, p, hex_digit(x, i));
     }
     p
