@@ -106,9 +106,9 @@ pub record Counting (s : List ℕ) (p k i : ℕ) : Type 0 where
   pub whole : bytes_written (drop p s) ≡ count_from k (drop i s)
 
 module _ {s : List ℕ} {p : ℕ} where
-  pub count_start : p ≤ length s → Counting s p 0 p
+  pub count_start : p ≤ length s → Counting s p 0 (p + 2 * 0)
   unfolding bytes_written count_from
-  count_start h = record { inside = h; few = omega arith; whole = rw zero-add }
+  count_start h = record { inside = omega arith; few = omega arith; whole = rw (add-zero p, zero-add) }
 
   module _ {k i : ℕ} (h : Counting s p k i) where
     pub count_end : length s ≤ i → 0 ≡ bytes_written (drop p s)
@@ -130,12 +130,12 @@ module _ {s : List ℕ} {p : ℕ} where
         let z = drop-two s i (omega arith) in
         sym (h.whole ∙ ap (count_from k) z ∙ front_other k (get_or s i 0) (get_or s (i + 1) 0) (drop (i + 2) s) e (sym g ∙ v))
 
-    pub count_more : {b : ℕ} → k ≤ 32 → 2 ≤ length s - i → b ≡ byte_of (get_or s i 0) (get_or s (i + 1) 0) → (b ≡ 256 → ⊥)
-        → Counting s p (k + 1) (i + 2)
-    count_more l f g v =
+    pub count_more : {b : ℕ} (j : ℕ) → j ≡ i + 2 → k ≤ 32 → 2 ≤ length s - i → b ≡ byte_of (get_or s i 0) (get_or s (i + 1) 0) → (b ≡ 256 → ⊥)
+        → Counting s p (k + 1) j
+    count_more j m l f g v =
         let z = drop-two s i (omega arith) in
         let w = front_more k (get_or s i 0) (get_or s (i + 1) 0) (drop (i + 2) s) (λ e. v (g ∙ e)) in
-        record { inside = omega arith; few = omega arith; whole = h.whole ∙ ap (count_from k) z ∙ w }
+        record { inside = omega arith; few = omega arith; whole = h.whole ∙ ap (count_from k) z ∙ w ∙ ap (λ (x : ℕ). count_from (k + 1) (drop x s)) (sym m) }
 
     pub count-all : 32 < k → 0 ≡ bytes_written (drop p s)
     count-all b = sym (h.whole ∙ count_over k (drop i s) b)

@@ -63,14 +63,12 @@ fn offset(input: &[u8], p: usize) -> usize
     ensures { result ≡ offset_of (drop p input.now) }
 {
     let mut number = 0;
-    let mut i = 0;
-    while i < 8 {
+    for i in 0..8 {
         let d = digit(input[p + i]);
         if 15 < d {
             return 4294967296;
         }
         number = number * 16 + d;
-        i += 1;
     }
     if input[p + 8] == 32 {
         return number;
@@ -78,14 +76,14 @@ fn offset(input: &[u8], p: usize) -> usize
     4294967296
 }
 
-// How many bytes the digits from p up to a newline write; 0 where other bytes stand there, or digits for more than 32.
+// How many bytes the digits from p up to a newline write; 0 where other bytes stand there, or digits for more than 32. So the newline
+// follows 0 to 32 bytes.
 fn count_bytes(input: &[u8], p: usize) -> usize
     requires { p ≤ length input.now }
     ensures { result ≡ bytes_written (drop p input.now) }
 {
-    let mut k = 0;
-    let mut at = p;
-    while k <= 32 {
+    for k in 0..33 {
+        let at = p + 2 * k;
         if input.len() <= at {
             return 0;
         }
@@ -98,8 +96,6 @@ fn count_bytes(input: &[u8], p: usize) -> usize
         if digit_pair(input, at) == 256 {
             return 0;
         }
-        k += 1;
-        at += 2;
     }
     0
 }
@@ -111,12 +107,8 @@ fn write_bytes(input: &[u8], p: usize, k: usize, out: &mut [u8], n: usize)
     requires k_in_bounds { n + k ≤ length out.old }
     ensures { out.new ≡ splice out.old n (bytes_of (first_line (drop p input.now))) }
 {
-    let mut i = 0;
-    let mut at = p;
-    while i < k {
-        out[n + i] = digit_pair(input, at) as u8;
-        i += 1;
-        at += 2;
+    for i in 0..k {
+        out[n + i] = digit_pair(input, p + 2 * i) as u8;
     }
 }
 

@@ -71,15 +71,10 @@ pub fn tables() -> [u32; 2048]
 {
     let source = T;
     let mut t = [0u32; 2048];
-    let mut i = 0;
-    while i < 256 {
-        t[i] = source[i];
-        i += 1;
-    }
-    while i < 2048 {
+    t[..256].copy_from_slice(&source);
+    for i in 256..2048 {
         let e = t[i - 256];
         t[i] = source[low(le::wide(e))] ^ (e >> 8);
-        i += 1;
     }
     t
 }
