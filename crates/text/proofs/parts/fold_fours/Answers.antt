@@ -1,4 +1,4 @@
-use Prim.Native.Nat.{◌/◌}
+use Prim.Native.Nat.{◌*◌, ◌/◌}
 use mathlib.Core.Path.{◌≡◌, refl, sym, ◌∙◌}
 use Rattle.text.proofs.Words.{first_two, next_two}
 use Rattle.text.proofs.AsBytes.{folded_start, folded_two, folded-rest}
@@ -14,8 +14,10 @@ quad_on-g-requires c = let f = c.fold_quad-f.ensures in
     (c.requires.0, c.loop-k.invariant.0, f.0.small, f.1.small)
 
 pub loop-k-preserved : goal.loop-k-preserved
-loop-k-preserved c = let a = first_two _ _ _ _ _ (λ i. search rules) (omega arith) c.u32_at.ensures.0 in
-    let b = next_two _ _ _ _ _ (λ i. search rules) (omega arith) c.u32_at-in-loop-k.ensures.0 in (
+loop-k-preserved c = let s = c.args in
+    let i = 4 * c.loop-k.k in
+    let a = first_two s.s.now s.p s.n i _ (λ i. search rules) (omega arith) c.u32_at.ensures.0 in
+    let b = next_two s.s.now s.p s.n i _ (λ i. search rules) (omega arith) c.u32_at-in-loop-k.ensures.0 in (
       c.quad_on-g.ensures.1,
       c.loop-k.invariant.1
           ∙ folded_two _ _ _ _ _ _ _ _ _ _ a c.fold_quad-f.ensures.0 refl refl
