@@ -8,6 +8,7 @@ use native.Mathlib.Omega.{arith}
 use lib.ListN.{length, get_or, drop, set, length-set}
 use Rattle.laws.specs.inner.Lists.{splice}
 use Rattle.laws.proofs.Splice.{splice_nil, splice_cons}
+use Rattle.std.specs.Prelude.{Some}
 use Rattle.frames.specs.Lines.{are_bytes, bytes_of}
 use Rattle.frames.specs.inner.Reading.{first_line, byte_of}
 use Rattle.frames.proofs.Pairs.{Next, next_bytes}
@@ -29,13 +30,13 @@ module _ {s : List ℕ} {p k n : ℕ} {d₀ : List ℕ} where
     pub write_next : i < k → Next s at
     write_next b = next_bytes s at h.bytes (omega (arith, h.left))
 
-    pub write_more : (j v : ℕ) → j ≡ at + 2 → i < k → v ≡ byte_of (get_or s at 0) (get_or s (at + 1) 0)
+    pub write_more : (j v : ℕ) → j ≡ at + 2 → i < k → Some v ≡ byte_of (get_or s at 0) (get_or s (at + 1) 0)
         → Writing s p k n d₀ (i + 1) j (set d (n + i) v)
     write_more j v q b e =
         let x = write_next b in
         let r : List ℕ = bytes_of (first_line (drop (at + 2) s)) in
         let m : n + i + 1 ≡ n + (i + 1) = omega arith in
-        let f : bytes_of (first_line (drop at s)) ≡ v ∷ r = x.bytes ∙ ap (λ (y : ℕ). y ∷ r) (sym e) in
+        let f : bytes_of (first_line (drop at s)) ≡ v ∷ r = (let z : x.value ≡ v = (let u = x.pair in cc) in x.bytes ∙ ap (λ (y : ℕ). y ∷ r) z) in
         rw q (record {
           bytes = x.more;
           left = omega (arith, h.left, ap length f);
