@@ -101,8 +101,7 @@ pub fn lay(b: &[u8], at: usize, size: usize) -> Scan
         return Scan::Fault(5, at);
     }
     let mut p = at + COUNT_SIZE;
-    let mut s = 0;
-    while s < n {
+    for s in 0..n {
         match check_segment(b, at, size, s, p) {
             Scan::End(q) => {
                 p = q;
@@ -111,7 +110,6 @@ pub fn lay(b: &[u8], at: usize, size: usize) -> Scan
                 return Scan::Fault(num, place);
             }
         }
-        s += 1;
     }
     Scan::End(p)
 }
@@ -143,13 +141,11 @@ pub fn sample_starts(b: &[u8], r: Region, size: usize, segments: &mut [u32; SAMP
 {
     let mask = r.mask;
     let mut p = first_start(r);
-    let mut s = 0;
-    while s < r.count {
+    for s in 0..r.count {
         if s & mask == 0 {
             segments[s >> r.shift] = p as u32;
         }
         p = next_start(b, p, size);
-        s += 1;
     }
 }
 
@@ -161,14 +157,12 @@ pub fn sample_counts(b: &[u8], r: Region, size: usize, counts: &mut [u32; SAMPLE
     let mask = r.mask;
     let mut p = first_start(r);
     let mut n = 0;
-    let mut s = 0;
-    while s < r.count {
+    for s in 0..r.count {
         if s & mask == 0 {
             counts[s >> r.shift] = n as u32;
         }
         n += used_count(b, p);
         p = next_start(b, p, size);
-        s += 1;
     }
     n
 }
@@ -178,11 +172,9 @@ pub fn locate(b: &[u8], r: Region, size: usize, segments: &[u32; SAMPLES], seg: 
     requires { Mapped size b.now r.at r × Starts size b.now r.at r.shift segments.now × (seg < r.count) }
     ensures { result ≡ start_of size b.now r.at seg }
 {
-    let mut left = seg & r.mask;
-    let mut p = le::wide(segments[seg >> r.shift]);
-    while left > 0 {
+    let mut p = segments[seg >> r.shift] as usize;
+    for _ in 0..seg & r.mask {
         p = next_start(b, p, size);
-        left -= 1;
     }
     p
 }
@@ -226,13 +218,11 @@ pub fn number(
     ensures { result ≡ number_of size b.now r.at seg el }
 {
     let k = seg >> r.shift;
-    let mut left = seg & r.mask;
-    let mut p = le::wide(segments[k]);
-    let mut n = le::wide(counts[k]);
-    while left > 0 {
+    let mut p = segments[k] as usize;
+    let mut n = counts[k] as usize;
+    for _ in 0..seg & r.mask {
         n += used_count(b, p);
         p = next_start(b, p, size);
-        left -= 1;
     }
     n + el
 }

@@ -17,17 +17,24 @@ unfolding region_checks count_of
 returns-then-n-gt65535 c = fault_told _ _ (pass _ _ _ _ _ (omega arith) ∙ stop _ _ _ _ _ (λ h. omega arith))
 
 pub loop-s-init : goal.loop-s-init
-loop-s-init c = (omega arith, start_zero _ _ _, omega arith, region_open _ _ _ _ (omega arith) (omega arith) (omega arith))
+loop-s-init c = record {
+  inside = omega arith;
+  place = start_zero _ _ _;
+  rest = region_open _ _ _ _ (omega arith) (omega arith) (omega arith);
+}
 
 pub returns-in-Fault : goal.returns-in-Fault
 returns-in-Fault c = let t = scanned_fault _ _ c.check_segment.ensures c.in-Fault.is in
-    fault_told _ _ (c.loop-s.invariant.3 ∙ each_stop _ _ _ (omega arith) t)
+    fault_told _ _ (c.loop-s.invariant.rest ∙ each_stop _ _ _ (omega arith) t)
 
 pub loop-s-preserved : goal.loop-s-preserved
 loop-s-preserved c = let t = scanned_end _ _ c.check_segment.ensures c.in-End.is in
-    let l = c.loop-s in
-    (omega (arith, segment_in _ _ _ _ t.0), t.1, omega arith, l.invariant.3 ∙ each_more _ _ _ _ (omega arith) t.0)
+    record {
+      inside = omega (arith, segment_in _ _ _ _ t.0);
+      place = t.1;
+      rest = c.loop-s.invariant.rest ∙ each_more _ _ _ _ (omega arith) t.0;
+    }
 
 pub returns : goal.returns
 returns c = let l = c.loop-s in
-    end_told _ _ (l.invariant.3 ∙ each_end _ _ _ (omega arith)) (region_end _ _ _ l.s _ (omega arith) l.invariant.1)
+    end_told _ _ (l.invariant.rest ∙ each_end _ _ _ (omega arith)) (region_end _ _ _ l.s _ (omega arith) l.invariant.place)
