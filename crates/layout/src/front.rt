@@ -14,19 +14,16 @@ fn zero_words(b: &[u8]) -> Scan
     requires { 16 ≤ length b.now }
     ensures { result ≡ scanned (first_fault (each (zero_word_checks b.now) 4 0)) keys_at }
 {
-    let mut p = 16;
-    let mut i = 0usize;
-    while i < 4 {
+    for i in 0..4 {
+        let p = 16 + 4 * i;
         if b.len() - p < 4 {
             return Scan::Fault(2, p);
         }
         if le::u32_at(b, p) != 0 {
             return Scan::Fault(4, p);
         }
-        p += 4;
-        i += 1;
     }
-    Scan::End(p)
+    Scan::End(KEYS_AT)
 }
 
 // Refusals 2 to 4 of the header, or where it ends.

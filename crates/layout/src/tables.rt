@@ -31,18 +31,16 @@ fn check_buckets(b: &[u8], at: usize, from: usize, buckets: &mut [u32]) -> Scan
 {
     let n = buckets.len();
     let mut p = from;
-    let mut k = 0;
-    while k < n {
+    for (k, start) in buckets.iter_mut().enumerate() {
         match check_bucket(b, at, n, k, p) {
             Scan::End(q) => {
-                buckets[k] = p as u32;
+                *start = p as u32;
                 p = q;
             }
             Scan::Fault(num, place) => {
                 return Scan::Fault(num, place);
             }
         }
-        k += 1;
     }
     Scan::End(p)
 }

@@ -21,7 +21,7 @@ pub const SEGMENT_HEADER: usize = 8;
 pub const SAMPLES: usize = 1024;
 
 // A region of the file: its offset, its segment count, and how its samples are spaced.
-#[derive(Clone, Copy)]
+#[derive(Clone, Copy, Debug, PartialEq, Eq)]
 pub struct Region {
     pub at: usize,
     pub count: usize,
@@ -30,7 +30,7 @@ pub struct Region {
 }
 
 // Where a range stands.
-#[derive(Clone, Copy)]
+#[derive(Clone, Copy, Debug, PartialEq, Eq)]
 pub enum Place {
     At(usize),
     Nowhere,
