@@ -4,12 +4,12 @@
 ghost use Rattle.std.specs.Prelude.{◌≡◌, ◌+◌, ◌*◌, ◌≤◌, ◌<◌, ◌^◌, length};
 ghost use Rattle.le.specs.Le.{u32_at};
 ghost use Rattle.verdict.specs.Checks.{first_fault};
-ghost use Rattle.verdict.specs.inner.Scans.{scanned};
+ghost use Rattle.verdict.specs.inner.Gives.{Ends};
 ghost use Rattle.region.specs.Region.{Laid, start_of, end_of, total_of, range_at, number_of};
 ghost use Rattle.region.specs.Checks.{segment_checks, region_checks};
 ghost use Rattle.region.specs.inner.Samples.{Mapped, Starts, Counts};
 
-use verdict::Scan;
+use verdict::{Refusal, Rule};
 
 // The bytes of a count. A region starts with its segment count, a segment with its full count and its used count.
 pub const COUNT_SIZE: usize = 4;
@@ -27,13 +27,6 @@ pub struct Region {
     pub count: usize,
     pub shift: u32,
     pub mask: usize,
-}
-
-// Where a range stands.
-#[derive(Clone, Copy, Debug, PartialEq, Eq)]
-pub enum Place {
-    At(usize),
-    Nowhere,
 }
 
 // Where the first segment starts.
@@ -61,57 +54,50 @@ pub fn next_start(b: &[u8], p: usize, size: usize) -> usize
 }
 
 // Refusals 2 and 5 of segment s, which starts at p.
-fn check_segment(b: &[u8], at: usize, size: usize, s: usize, p: usize) -> Scan
+fn check_segment(b: &[u8], at: usize, size: usize, s: usize, p: usize) -> Result<usize, Refusal>
     requires { (size ≤ 24) × (p ≡ start_of size b.now at s) × (p ≤ length b.now) }
-    ensures { result ≡ scanned (first_fault (segment_checks size b.now at s)) (start_of size b.now at (s + 1)) }
+    ensures { Ends (first_fault (segment_checks size b.now at s)) (start_of size b.now at (s + 1)) result }
 {
     if b.len() - p < COUNT_SIZE {
-        return Scan::Fault(2, p);
+        return Err(Refusal(Rule::CutShort, p));
     }
     let full = le::u32_at(b, p);
     if full > 65535 {
-        return Scan::Fault(5, p);
+        return Err(Refusal(Rule::Count, p));
     }
     let u = p + COUNT_SIZE;
     if b.len() - u < COUNT_SIZE {
-        return Scan::Fault(2, u);
+        return Err(Refusal(Rule::CutShort, u));
     }
     let used = le::u32_at(b, u);
     if used > full {
-        return Scan::Fault(5, u);
+        return Err(Refusal(Rule::Count, u));
     }
     let e = p + SEGMENT_HEADER;
     let bytes = full * size;
     if b.len() - e < bytes {
-        return Scan::Fault(2, e);
+        return Err(Refusal(Rule::CutShort, e));
     }
-    Scan::End(e + bytes)
+    Ok(e + bytes)
 }
 
 // Refusals 2 and 5 of the region at an offset, or where it ends.
-pub fn lay(b: &[u8], at: usize, size: usize) -> Scan
+pub fn lay(b: &[u8], at: usize, size: usize) -> Result<usize, Refusal>
     requires { (at ≤ length b.now) × (size ≤ 24) }
-    ensures { result ≡ scanned (first_fault (region_checks size b.now at)) (end_of size b.now at) }
+    ensures { Ends (first_fault (region_checks size b.now at)) (end_of size b.now at) result }
 {
     if b.len() - at < COUNT_SIZE {
-        return Scan::Fault(2, at);
+        return Err(Refusal(Rule::CutShort, at));
     }
     let n = le::u32_at(b, at);
     if n > 65535 {
-        return Scan::Fault(5, at);
+        return Err(Refusal(Rule::Count, at));
     }
     let mut p = at + COUNT_SIZE;
     for s in 0..n {
-        match check_segment(b, at, size, s, p) {
-            Scan::End(q) => {
-                p = q;
-            }
-            Scan::Fault(num, place) => {
-                return Scan::Fault(num, place);
-            }
-        }
+        p = check_segment(b, at, size, s, p)?;
     }
-    Scan::End(p)
+    Ok(p)
 }
 
 // The region at an offset that is laid, with the widest spacing of samples that its segments need.
@@ -188,19 +174,19 @@ pub fn range_at(
     seg: usize,
     el: usize,
     n: usize,
-) -> Place
+) -> Option<usize>
     requires mapped { Mapped size b.now r.at r × Starts size b.now r.at r.shift segments.now }
     requires el_bound { (el < 65536) × (n < 65536) }
     ensures { result ≡ range_at size b.now r.at seg el n }
 {
     if seg >= r.count {
-        return Place::Nowhere;
+        return None;
     }
     let p = locate(b, r, size, segments, seg);
     if el + n > used_count(b, p) {
-        return Place::Nowhere;
+        return None;
     }
-    Place::At(p + SEGMENT_HEADER + el * size)
+    Some(p + SEGMENT_HEADER + el * size)
 }
 
 // The running number of seg:el among the used elements.

@@ -1,2 +1,2 @@
-pub mod Scans
+pub mod Gives
 pub mod Tells
