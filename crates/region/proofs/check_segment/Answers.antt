@@ -20,8 +20,8 @@ returns-then-b-u-lt-COUNT_SIZE c =
 pub returns-then-used-full : goal.returns-then-used-full
 returns-then-used-full c =
     gives_err (
-      segment-told _ _ _ _ _ c.requires.1
-      (pass _ _ _ _ _ (omega arith) ∙ pass _ _ _ _ _ (omega arith) ∙ pass _ _ _ _ _ (omega arith) ∙ stop _ _ _ _ _ (λ h. omega arith))
+    segment-told _ _ _ _ _ c.requires.1
+    (pass _ _ _ _ _ (omega arith) ∙ pass _ _ _ _ _ (omega arith) ∙ pass _ _ _ _ _ (omega arith) ∙ stop _ _ _ _ _ (λ h. omega arith))
     )
 
 pub overflow_mul-bytes : goal.overflow_mul-bytes
@@ -30,9 +30,9 @@ overflow_mul-bytes c = record { fits = product_small _ _ (omega arith) (omega ar
 pub returns-then-b-e : goal.returns-then-b-e
 returns-then-b-e c = let q = ap (λ (x : ℕ). x * c.args.size) c.u32_at-full.ensures.0 in
     gives_err (
-      segment-told _ _ _ _ _ c.requires.1
-      (pass _ _ _ _ _ (omega arith) ∙ pass _ _ _ _ _ (omega arith) ∙ pass _ _ _ _ _ (omega arith) ∙ pass _ _ _ _ _ (omega arith)
-      ∙ stop _ _ _ _ _ (λ h. omega arith))
+    segment-told _ _ _ _ _ c.requires.1
+    (pass _ _ _ _ _ (omega arith) ∙ pass _ _ _ _ _ (omega arith) ∙ pass _ _ _ _ _ (omega arith) ∙ pass _ _ _ _ _ (omega arith)
+    ∙ stop _ _ _ _ _ (λ h. omega arith))
     )
 
 pub returns : goal.returns

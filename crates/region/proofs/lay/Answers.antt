@@ -1,7 +1,7 @@
 use native.Mathlib.Omega.{arith}
 use mathlib.Core.Path.{◌∙◌}
 use Rattle.verdict.proofs.Laws.{pass, stop}
-use Rattle.verdict.proofs.Gives.{gives_ok, gives_err, given, refuses}
+use Rattle.verdict.proofs.Gives.{gives_ok, gives_err, gives_exit, given, refuses}
 use Rattle.verdict.proofs.Scans.{each_more, each_stop, each_end}
 use Rattle.region.specs.Region.{count_of}
 use Rattle.region.specs.Checks.{region_checks}
@@ -25,7 +25,8 @@ loop-s-init c = record {
 }
 
 pub returns-in_err-p : goal.returns-in_err-p
-returns-in_err-p c = let h = c.from_residual.ensures in let g = c.in_err-p.was in let k = c.in_err-p in ?
+returns-in_err-p c =
+    gives_exit _ _ c.from_residual.ensures.1 (c.loop-s.invariant.rest ∙ each_stop _ _ _ (omega arith) (refuses c.check_segment.ensures c.in_err-p.was))
 
 pub loop-s-preserved : goal.loop-s-preserved
 loop-s-preserved c = let t = given c.check_segment.ensures c.in_ok-p.was in
