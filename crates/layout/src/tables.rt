@@ -69,7 +69,12 @@ pub struct TableEnds {
 }
 
 // The table at an offset, of as many buckets as there are starts to fill.
-pub fn scan_table(b: &[u8], at: usize, buckets: &mut [u32], most: usize) -> Result<TableEnds, Refusal>
+pub fn scan_table(
+    b: &[u8],
+    at: usize,
+    buckets: &mut [u32],
+    most: usize,
+) -> Result<TableEnds, Refusal>
     requires { (at ≤ length b.now) × (length b.now ≤ 1073741824) }
     ensures { TableScanned (table b.now at (length buckets.old)) most result buckets.new }
 {

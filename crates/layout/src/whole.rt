@@ -7,8 +7,8 @@ ghost use Rattle.layout.specs.inner.View.{WalkFits, Walked, Fits, Viewed};
 ghost use Rattle.layout.specs.declared.Edition.TheVariants.{Bits64};
 
 use crate::{
-    ATTRIBUTE_SIZE, CHARACTER_SIZE, KEYS_AT, MOST_NAMES, MOST_VALUES,
-    NAME_BUCKETS, NODE_SIZE, Places, VALUE_BUCKETS, View, front, tables,
+    ATTRIBUTE_SIZE, CHARACTER_SIZE, KEYS_AT, MOST_NAMES, MOST_VALUES, NAME_BUCKETS, NODE_SIZE,
+    Places, VALUE_BUCKETS, View, front, tables,
 };
 use region::SAMPLES;
 use verdict::{Refusal, Rule};
