@@ -68,10 +68,8 @@ fn doubt_wrong(
     ensures doubts { Examined Bits64 b.now slots.now n doubts.old doubts.new }
     ensures memo { Remembers (noted b.now) memo.new }
 {
-    let mut j = 0;
-    while j < n {
+    for j in 0..n {
         doubt(b, t, s, segments, buckets, le::wide(slots[j]), doubts, memo);
-        j += 1;
     }
 }
 

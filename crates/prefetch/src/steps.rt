@@ -47,8 +47,7 @@ fn find_spots(
         × AllFit b.now n at.new left.new) result }
     ensures lengths { (length at.new ≡ 64) × (length left.new ≡ 64) }
 {
-    let mut j = 0;
-    while j < n {
+    for j in 0..n {
         let q = le::wide(slots[j]);
         let a = spot::spot_at(
             b,
@@ -62,7 +61,6 @@ fn find_spots(
         };
         at[j] = x as u32;
         left[j] = m as u32;
-        j += 1;
     }
     true
 }
@@ -73,10 +71,8 @@ fn load_before(b: &[u8], n: usize, at: &[u32; 64], left: &[u32; 64], seen: &mut 
     requires { (n ≤ 64) × Lengths at.now left.now seen.old × AllFit b.now n at.now left.now }
     ensures { AllSeen b.now n at.now seen.new × (length seen.new ≡ 64) }
 {
-    let mut j = 0;
-    while j < n {
+    for j in 0..n {
         seen[j] = ahead::touch(b, le::wide(at[j]), le::wide(left[j])) as u32;
-        j += 1;
     }
 }
 
@@ -137,8 +133,7 @@ fn all_pass(
         × Sure (AllBehind b.now slots.now n at.now) packed) result }
     ensures memo { Remembers (noted b.now) memo.new }
 {
-    let mut j = 0;
-    while j < n {
+    for j in 0..n {
         if !passes(
             b,
             t,
@@ -151,7 +146,6 @@ fn all_pass(
         ) {
             return false;
         }
-        j += 1;
     }
     true
 }
@@ -171,10 +165,8 @@ fn hash_texts(
     ensures hashes { length hashes.new ≡ 64 }
     ensures memo { Remembers (noted b.now) memo.new }
 {
-    let mut j = 0;
-    while j < n {
+    for j in 0..n {
         hashes[j] = long::text_hash(b, t, le::wide(at[j]), le::wide(left[j]), memo) as u32;
-        j += 1;
     }
 }
 
@@ -222,8 +214,7 @@ fn find_entries(
         × LowerBounds (held_table b.now s buckets.now) hashes.now n low.now }
     ensures { Sure (AllFound b.now (held_table b.now s buckets.now) slots.now n) result }
 {
-    let mut j = 0;
-    while j < n {
+    for j in 0..n {
         if !found(
             b,
             s,
@@ -235,7 +226,6 @@ fn find_entries(
         ) {
             return false;
         }
-        j += 1;
     }
     true
 }

@@ -86,8 +86,7 @@ fn estimate_each(
         × (length estimate.old ≡ 64) × (length at.old ≡ 64) }
     ensures { Estimated b.now n estimate.new at.new }
 {
-    let mut j = 0;
-    while j < n {
+    for j in 0..n {
         let a = estimate_at(
             b,
             s,
@@ -99,7 +98,6 @@ fn estimate_each(
         );
         estimate[j] = a.entry;
         at[j] = a.at;
-        j += 1;
     }
 }
 
@@ -108,10 +106,8 @@ fn probe(b: &[u8], n: usize, at: &[u32; 64], met: &mut [u32; 64])
     requires { (n ≤ 64) × Within b.now n at.now × (length met.old ≡ 64) }
     ensures { length met.new ≡ 64 }
 {
-    let mut j = 0;
-    while j < n {
+    for j in 0..n {
         met[j] = le::u32_at(b, le::wide(at[j])) as u32;
-        j += 1;
     }
 }
 
@@ -199,8 +195,7 @@ fn find_windows(
         × Lengths estimate.old first.old last.old }
     ensures { Estimated b.now n estimate.new first.new × Within b.now n last.new }
 {
-    let mut j = 0;
-    while j < n {
+    for j in 0..n {
         let a = window_at(
             b,
             s,
@@ -213,7 +208,6 @@ fn find_windows(
         estimate[j] = a.start;
         first[j] = a.first;
         last[j] = a.last;
-        j += 1;
     }
 }
 
@@ -270,8 +264,7 @@ fn shift_each(
     requires { (n ≤ 64) × (length hashes.now ≡ 64) × Lengths estimate.old least.now most.now }
     ensures { length estimate.new ≡ 64 }
 {
-    let mut j = 0;
-    while j < n {
+    for j in 0..n {
         let g = shifted(
             le::wide(hashes[j]),
             le::wide(estimate[j]),
@@ -279,7 +272,6 @@ fn shift_each(
             le::wide(most[j]),
         );
         estimate[j] = g as u32;
-        j += 1;
     }
 }
 
@@ -323,8 +315,7 @@ fn probe_each(
     ensures { Looked (held_table b.now s buckets.now) hashes.now n low.new which.new result 0 }
 {
     let mut m = 0;
-    let mut j = 0;
-    while j < n {
+    for j in 0..n {
         let h = le::wide(hashes[j]);
         let k = hash::bucket(h, buckets.len());
         let r = near::probe_near(b, s, segments, buckets, k, h, le::wide(estimate[j]));
@@ -333,7 +324,6 @@ fn probe_each(
         if r == near::NOT_TOLD {
             m += 1;
         }
-        j += 1;
     }
     m
 }

@@ -27,13 +27,11 @@ fn count_below(
     ensures { (result ≡ count_below (hash_of (held_table b.now s buckets.now) k) h w 8) × (result ≤ 8) }
 {
     let mut c = 0usize;
-    let mut i = 0;
-    while i < 8 {
+    for i in 0..8 {
         let e = entry::entry_at(b, s, segments, buckets, k, w + i);
         if fields::hash(b, e) < h {
             c += 1;
         }
-        i += 1;
     }
     c
 }
@@ -62,13 +60,11 @@ fn count_few(
     ensures { result ≡ count_few (hash_of (held_table b.now s buckets.now) k) h n }
 {
     let mut c = 0usize;
-    let mut i = 0;
-    while i < 8 {
+    for i in 0..8 {
         let e = entry::entry_at(b, s, segments, buckets, k, or_last(i, n));
         if fields::hash(b, e) < h {
             c += 1;
         }
-        i += 1;
     }
     if c < n { c } else { n }
 }

@@ -5,6 +5,3 @@ use Rattle.prefetch.proofs.steps.find_entries.Given as goal
 
 abbrev pub invariant-loop-j : goal.invariant-loop-j
 invariant-loop-j l = AllFound l.b (held_table l.b l.s l.buckets) l.slots l.j
-
-abbrev pub decreases-loop-j : goal.decreases-loop-j
-decreases-loop-j l = l.n - l.j

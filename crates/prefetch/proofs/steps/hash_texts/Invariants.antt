@@ -7,6 +7,3 @@ use Rattle.prefetch.proofs.steps.hash_texts.Given as goal
 
 abbrev pub invariant-loop-j : goal.invariant-loop-j
 invariant-loop-j l = (length l.hashes ≡ 64) × Remembers (noted l.b) l.memo
-
-abbrev pub decreases-loop-j : goal.decreases-loop-j
-decreases-loop-j l = l.n - l.j

@@ -6,6 +6,3 @@ use Rattle.search.proofs.near.count_below.Given as goal
 
 abbrev pub invariant-loop-i : goal.invariant-loop-i
 invariant-loop-i l = Counting (hash_of (held_table l.b l.s l.buckets) l.k) l.h l.w 8 l.i l.c
-
-abbrev pub decreases-loop-i : goal.decreases-loop-i
-decreases-loop-i l = 8 - l.i

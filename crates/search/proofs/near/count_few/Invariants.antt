@@ -7,6 +7,3 @@ use Rattle.search.proofs.near.count_few.Given as goal
 
 abbrev pub invariant-loop-i : goal.invariant-loop-i
 invariant-loop-i l = Counting (λ (m : ℕ). hash_of (held_table l.b l.s l.buckets) l.k (or_last m l.n)) l.h 0 8 l.i l.c
-
-abbrev pub decreases-loop-i : goal.decreases-loop-i
-decreases-loop-i l = 8 - l.i

@@ -5,6 +5,3 @@ use Rattle.search.proofs.run.run_has.Given as goal
 
 abbrev pub invariant-loop-j : goal.invariant-loop-j
 invariant-loop-j l = Read (held_table l.b l.s l.buckets) l.k l.h l.field l.w l.n l.j
-
-abbrev pub decreases-loop-j : goal.decreases-loop-j
-decreases-loop-j l = l.n - l.j
