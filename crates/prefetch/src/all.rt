@@ -127,8 +127,7 @@ fn find_doubts(
     let mut slots = [0u32; 64];
     let mut known = true;
     let mut at = region::first_start(attributes);
-    let mut seg = 0;
-    while seg < attributes.count {
+    for _seg in 0..attributes.count {
         let used = region::used_count(b, at);
         let mut el = 0;
         while el < used {
@@ -149,7 +148,6 @@ fn find_doubts(
             el = taken.next;
         }
         at = region::next_start(b, at, ATTRIBUTE_SIZE);
-        seg += 1;
     }
     known
 }
