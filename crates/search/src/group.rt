@@ -17,13 +17,6 @@ use strings::{Strings, entry};
 // After a group of which most estimates were of no use, as many groups go without.
 const SKIPPED: usize = 15;
 
-// Which entry of its bucket a hash is to be expected at, and where that entry stands.
-#[derive(Clone, Copy)]
-struct Estimate {
-    entry: u32,
-    at: u32,
-}
-
 // Whether the buckets of a table take that many bytes: where they do, most looks at what they lead to would wait for memory.
 pub fn spread(
     b: &[u8],
@@ -41,66 +34,6 @@ pub fn spread(
     true
 }
 
-// Where hash h is to be expected when w was met at place g of its bucket. In an empty bucket that is its count: it can be read, too.
-fn estimate_at(
-    b: &[u8],
-    s: Strings,
-    segments: &[u32; SAMPLES],
-    buckets: &[u32],
-    h: usize,
-    g: usize,
-    w: usize,
-) -> Estimate
-    requires { Held b.now s segments.now buckets.now × (h < 2 ^ 32) × (g < 2 ^ 32) × (w < 2 ^ 32) }
-    ensures { result.at + 4 ≤ length b.now }
-{
-    let k = hash::bucket(h, buckets.len());
-    let n = entry::entry_count(b, s, segments, buckets, k);
-    if n == 0 {
-        return Estimate {
-            entry: 0,
-            at: buckets[k],
-        };
-    }
-    let r = crate::expected(n, h, g, w);
-    let e = entry::entry_at(b, s, segments, buckets, k, r);
-    Estimate {
-        entry: r as u32,
-        at: e as u32,
-    }
-}
-
-// Aims at each hash, from where it was looked for before.
-fn estimate_each(
-    b: &[u8],
-    s: Strings,
-    segments: &[u32; SAMPLES],
-    buckets: &[u32],
-    hashes: &[u32; 64],
-    n: usize,
-    met: &[u32; 64],
-    estimate: &mut [u32; 64],
-    at: &mut [u32; 64],
-)
-    requires { Held b.now s segments.now buckets.now × (n ≤ 64) × (length hashes.now ≡ 64) × (length met.now ≡ 64)
-        × (length estimate.old ≡ 64) × (length at.old ≡ 64) }
-    ensures { Estimated b.now n estimate.new at.new }
-{
-    for j in 0..n {
-        let a = estimate_at(
-            b,
-            s,
-            segments,
-            buckets,
-            le::wide(hashes[j]),
-            le::wide(estimate[j]),
-            le::wide(met[j]),
-        );
-        estimate[j] = a.entry;
-        at[j] = a.at;
-    }
-}
-
 // Looks at each.
 fn probe(b: &[u8], n: usize, at: &[u32; 64], met: &mut [u32; 64])
     requires { (n ≤ 64) × Within b.now n at.now × (length met.old ≡ 64) }
@@ -111,33 +44,7 @@ fn probe(b: &[u8], n: usize, at: &[u32; 64], met: &mut [u32; 64])
     }
 }
 
-// What was met of each hash's neighbours, and where: from nowhere first, and then from what was met there. In a table of less than a
-// megabyte one look is enough.
-fn refine(
-    b: &[u8],
-    s: Strings,
-    segments: &[u32; SAMPLES],
-    buckets: &[u32],
-    hashes: &[u32; 64],
-    n: usize,
-    estimate: &mut [u32; 64],
-    met: &mut [u32; 64],
-)
-    requires { Held b.now s segments.now buckets.now × (n ≤ 64) × (length hashes.now ≡ 64) × (length estimate.old ≡ 64)
-        × (length met.old ≡ 64) }
-    ensures { (length estimate.new ≡ 64) × (length met.new ≡ 64) }
-{
-    let mut at = [0u32; 64];
-    estimate_each(b, s, segments, buckets, hashes, n, met, estimate, &mut at);
-    probe(b, n, &at, met);
-    if !spread(b, s, segments, buckets, 1048576) {
-        return;
-    }
-    estimate_each(b, s, segments, buckets, hashes, n, met, estimate, &mut at);
-    probe(b, n, &at, met);
-}
-
-// Eight entries that a hash is to be expected among: the number of the first, and where the first and the last of them stand.
+// Some entries in a row that a hash is to be expected among: the number of the first, and where the first and the last of them stand.
 #[derive(Clone, Copy)]
 struct Window {
     start: u32,
@@ -145,7 +52,7 @@ struct Window {
     last: u32,
 }
 
-// Those for hash h when w was met at place g of its bucket. A bucket of fewer is read as a whole: there it is the bucket's count twice.
+// m entries for hash h when w was met at place g of its bucket. Of a bucket of fewer it is the bucket's count twice: it can be read, too.
 fn window_at(
     b: &[u8],
     s: Strings,
@@ -154,13 +61,14 @@ fn window_at(
     h: usize,
     g: usize,
     w: usize,
+    m: usize,
 ) -> Window
-    requires { Held b.now s segments.now buckets.now × (h < 2 ^ 32) × (g < 2 ^ 32) × (w < 2 ^ 32) }
+    requires { Held b.now s segments.now buckets.now × (h < 2 ^ 32) × (g < 2 ^ 32) × (w < 2 ^ 32) × (1 ≤ m) }
     ensures { (result.first + 4 ≤ length b.now) × (result.last + 4 ≤ length b.now) }
 {
     let k = hash::bucket(h, buckets.len());
     let n = entry::entry_count(b, s, segments, buckets, k);
-    if n < 8 {
+    if n < m {
         return Window {
             start: 0,
             first: buckets[k],
@@ -168,9 +76,9 @@ fn window_at(
         };
     }
     let r = crate::expected(n, h, g, w);
-    let f = near::window(if r < 4 { 0 } else { r - 4 }, n);
+    let f = r.saturating_sub(m / 2).min(n - m);
     let e = entry::entry_at(b, s, segments, buckets, k, f);
-    let l = entry::entry_at(b, s, segments, buckets, k, f + 7);
+    let l = entry::entry_at(b, s, segments, buckets, k, f + m - 1);
     Window {
         start: f as u32,
         first: e as u32,
@@ -178,7 +86,7 @@ fn window_at(
     }
 }
 
-// Those of each hash, from where it was looked for before.
+// m entries for each hash, from where it was looked for before.
 fn find_windows(
     b: &[u8],
     s: Strings,
@@ -186,13 +94,14 @@ fn find_windows(
     buckets: &[u32],
     hashes: &[u32; 64],
     n: usize,
+    m: usize,
     met: &[u32; 64],
     estimate: &mut [u32; 64],
     first: &mut [u32; 64],
     last: &mut [u32; 64],
 )
     requires { Held b.now s segments.now buckets.now × (n ≤ 64) × (length hashes.now ≡ 64) × (length met.now ≡ 64)
-        × Lengths estimate.old first.old last.old }
+        × Lengths estimate.old first.old last.old × (1 ≤ m) }
     ensures { Estimated b.now n estimate.new first.new × Within b.now n last.new }
 {
     for j in 0..n {
@@ -204,6 +113,7 @@ fn find_windows(
             le::wide(hashes[j]),
             le::wide(estimate[j]),
             le::wide(met[j]),
+            m,
         );
         estimate[j] = a.start;
         first[j] = a.first;
@@ -211,7 +121,8 @@ fn find_windows(
     }
 }
 
-// Eight entries for each hash, from `guess` on, with the first and the last hash of them.
+// Eight entries for each hash, from `estimate` on, with the first and the last hash of them. One entry for each is looked at first, from nowhere
+// and then from what was met there. In a table of less than a megabyte one look is enough.
 fn probe_windows(
     b: &[u8],
     s: Strings,
@@ -227,11 +138,20 @@ fn probe_windows(
         × Lengths estimate.old least.old most.old }
     ensures { Lengths estimate.new least.new most.new }
 {
-    refine(b, s, segments, buckets, hashes, n, estimate, least);
     let mut first = [0u32; 64];
     let mut last = [0u32; 64];
     find_windows(
-        b, s, segments, buckets, hashes, n, least, estimate, &mut first, &mut last,
+        b, s, segments, buckets, hashes, n, 1, least, estimate, &mut first, &mut last,
+    );
+    probe(b, n, &first, least);
+    if spread(b, s, segments, buckets, 1048576) {
+        find_windows(
+            b, s, segments, buckets, hashes, n, 1, least, estimate, &mut first, &mut last,
+        );
+        probe(b, n, &first, least);
+    }
+    find_windows(
+        b, s, segments, buckets, hashes, n, 8, least, estimate, &mut first, &mut last,
     );
     probe(b, n, &first, least);
     probe(b, n, &last, most);
@@ -250,7 +170,7 @@ fn shifted(h: usize, g: usize, least: usize, most: usize) -> usize
     if h <= least {
         r -= 7;
     }
-    if r < 7 { 0 } else { (r - 7) % 4294967296 }
+    r.saturating_sub(7) % 4294967296
 }
 
 // The same for each hash.
