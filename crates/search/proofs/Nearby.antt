@@ -207,7 +207,7 @@ few-same f g x n e =
 few-eight : (f : ℕ → ℕ) (x w : ℕ) → count_few (λ i. f (w + i)) x 8 ≡ count_below f x w 8
 few-eight f x w =
     let s : count_below (λ i. f (w + or_last i 8)) x 0 8 ≡ count_below f x w 8 =
-        count-same (λ i. f (w + or_last i 8)) f x 0 w 8 (λ i l. ap f (omega (arith, or_last_low 8 (0 + i) (omega arith)))) in
+    count-same (λ i. f (w + or_last i 8)) f x 0 w 8 (λ i l. ap f (omega (arith, or_last_low 8 (0 + i) (omega arith)))) in
     omega (arith, s, few-min (λ i. f (w + i)) 8 x _ refl, count-most f x w 8)
 
 module _ (f : ℕ → ℕ) (n x : ℕ) (up : Ascending f n) where

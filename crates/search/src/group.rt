@@ -28,10 +28,7 @@ pub fn spread(
     requires { Held b.now s segments.now buckets.now }
     ensures { Tells (bucket_at (held_table b.now s buckets.now) 0 + bytes ≤ s.list) result }
 {
-    if s.list - le::wide(buckets[0]) < bytes {
-        return false;
-    }
-    true
+    s.list - le::wide(buckets[0]) >= bytes
 }
 
 // Looks at each.

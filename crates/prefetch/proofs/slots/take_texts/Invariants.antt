@@ -1,4 +1,3 @@
-use Prim.Native.Nat.{◌-◌, ◌≤◌}
 use Rattle.prefetch.specs.inner.Slots.{Slotted}
 use Rattle.layout.specs.declared.Edition.TheVariants.{Bits64}
 use Rattle.prefetch.proofs.slots.take_texts.Given as goal

@@ -2,7 +2,6 @@ use Rattle.verdict.specs.inner.Tells.{Sure}
 use Rattle.memo.specs.inner.Memo.{Remembers}
 use Rattle.prefetch.specs.inner.Batch.{AllHashed, AllBehind}
 use Rattle.nodes.specs.inner.Noted.{noted}
-use Prim.Native.Nat.{◌-◌}
 use Rattle.prefetch.proofs.steps.all_pass.Given as goal
 
 abbrev pub invariant-loop-j : goal.invariant-loop-j

@@ -1,6 +1,5 @@
 use Rattle.prefetch.specs.inner.Batch.{AllFound}
 use Rattle.strings.specs.inner.Held.{held_table}
-use Prim.Native.Nat.{◌-◌}
 use Rattle.prefetch.proofs.steps.find_entries.Given as goal
 
 abbrev pub invariant-loop-j : goal.invariant-loop-j

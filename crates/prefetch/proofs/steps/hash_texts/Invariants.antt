@@ -1,6 +1,5 @@
 use Rattle.memo.specs.inner.Memo.{Remembers}
 use Rattle.nodes.specs.inner.Noted.{noted}
-use Prim.Native.Nat.{◌-◌}
 use mathlib.Core.Path.{◌≡◌}
 use lib.ListN.{length}
 use Rattle.prefetch.proofs.steps.hash_texts.Given as goal

@@ -1,7 +1,6 @@
 use Rattle.prefetch.specs.inner.Batch.{AllSeen}
 use lib.ListN.{length}
 use mathlib.Core.Path.{◌≡◌}
-use Prim.Native.Nat.{◌-◌}
 use Rattle.prefetch.proofs.steps.load_before.Given as goal
 
 abbrev pub invariant-loop-j : goal.invariant-loop-j

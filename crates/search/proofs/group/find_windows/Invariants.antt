@@ -1,4 +1,3 @@
-use Prim.Native.Nat.{◌-◌}
 use Rattle.search.specs.inner.Group.{Estimated, Within}
 use Rattle.search.proofs.group.find_windows.Given as goal
 

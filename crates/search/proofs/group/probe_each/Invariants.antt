@@ -1,4 +1,3 @@
-use Prim.Native.Nat.{◌-◌, ◌≤◌}
 use Rattle.strings.specs.inner.Held.{held_table}
 use Rattle.search.specs.inner.Group.{Looked}
 use Rattle.search.proofs.group.probe_each.Given as goal

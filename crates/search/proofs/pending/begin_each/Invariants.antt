@@ -1,4 +1,3 @@
-use Prim.Native.Nat.{◌-◌}
 use Rattle.strings.specs.inner.Held.{held_table}
 use Rattle.search.specs.inner.Group.{AllSearching}
 use Rattle.search.proofs.pending.begin_each.Given as goal

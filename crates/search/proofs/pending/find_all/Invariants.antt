@@ -1,4 +1,3 @@
-use Prim.Native.Nat.{◌-◌, ◌≤◌}
 use Rattle.strings.specs.inner.Held.{held_table}
 use Rattle.search.specs.inner.Group.{AllNear}
 use Rattle.search.proofs.pending.find_all.Given as goal

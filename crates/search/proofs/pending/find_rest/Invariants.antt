@@ -1,4 +1,4 @@
-use Prim.Native.Nat.{ℕ, ◌-◌, ◌<◌}
+use Prim.Native.Nat.{ℕ, ◌<◌}
 use lib.ListN.{get_or}
 use Rattle.layout.specs.Table.{Table}
 use Rattle.search.specs.inner.Group.{Looked, NearAt}

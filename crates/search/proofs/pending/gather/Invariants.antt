@@ -1,4 +1,3 @@
-use Prim.Native.Nat.{◌-◌}
 use Rattle.search.specs.inner.Group.{Gathered}
 use Rattle.search.proofs.pending.gather.Given as goal
 

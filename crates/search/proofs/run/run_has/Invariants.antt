@@ -1,4 +1,3 @@
-use Prim.Native.Nat.{◌-◌}
 use Rattle.strings.specs.inner.Held.{held_table}
 use Rattle.search.proofs.Runs.{Read}
 use Rattle.search.proofs.run.run_has.Given as goal
