@@ -6,6 +6,9 @@ use native.Mathlib.Omega.{arith}
 use mathlib.Core.Path.{◌≡◌, refl, ap, subst, sym, ◌∙◌}
 use mathlib.Core.Logic.{⊎_elim}
 use mathlib.Core.List.{List}
+use mathlib.Core.Bool.{Bool, true, false}
+use Rattle.std.specs.Prelude.{IfSome}
+use Rattle.std.specs.Bool.{then_some}
 use lib.Dec.{eqb}
 use borrow.Author.Tests.{lt-ltb, le-ltb}
 use Rattle.laws.specs.Halving.{Ascending, FirstNotBelow}
@@ -265,6 +268,11 @@ module _ (t : Table) (k h n : ℕ) (q : n ≡ entries t k) where
   near_eight w c l e s =
       let g = e ∙ few-eight (hash_of t k) h w in
       eight w (omega arith) (rw (← g, ← q) s) (ap (λ (x : ℕ). w + x) g)
+
+-- where it stands, if that is told
+pub near_told : (P : Type 0) (t : Table) (k h r : ℕ) {b : Bool} → Tells P b → (P → Near t k h r) → IfSome (then_some b r) (Near t k h)
+near_told P t k h r {b = true} s f = f (s.so refl)
+near_told P t k h r {b = false} s f = tt
 
 -- what is found is the first entry whose hash is not below h
 pub near_lower : (t : Table) (k h r : ℕ) → Clean (all_entry_checks t) → k < t.buckets → Near t k h r → LowerBound t k h r

@@ -235,10 +235,10 @@ fn probe_each(
     for j in 0..n {
         let h = le::wide(hashes[j]);
         let k = hash::bucket(h, buckets.len());
-        let r = near::probe_near(b, s, segments, buckets, k, h, le::wide(estimate[j]));
-        low[j] = r;
+        let told = near::probe_near(b, s, segments, buckets, k, h, le::wide(estimate[j]));
+        low[j] = told.unwrap_or(0);
         which[m] = j;
-        if r == near::NOT_TOLD {
+        if told.is_none() {
             m += 1;
         }
     }

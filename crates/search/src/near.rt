@@ -1,5 +1,5 @@
 // The search of a bucket from a guess: where that is good, eight entries tell.
-ghost use Rattle.std.specs.Prelude.{◌≡◌, ℕ, ◌+◌, ◌≤◌, ◌<◌, length};
+ghost use Rattle.std.specs.Prelude.{◌≡◌, ℕ, ◌+◌, ◌≤◌, ◌<◌, length, IfSome};
 ghost use Rattle.verdict.specs.inner.Tells.{Tells};
 ghost use Rattle.layout.specs.Table.{entries, hash_of};
 ghost use Rattle.strings.specs.inner.Held.{Held, held_table};
@@ -7,9 +7,6 @@ ghost use Rattle.search.specs.inner.LowerBound.{Near, count_few, Settled};
 
 use region::SAMPLES;
 use strings::{Strings, entry, fields};
-
-// No place in a bucket: the entries that were read do not tell.
-pub const NOT_TOLD: usize = 4294967295;
 
 // How many of the m entries of bucket k from entry w on, one to eight, have hashes below h. Where hashes ascend these come first. Eight are
 // read and counted, the last one as often as it takes: a loop whose length differs from bucket to bucket would be mispredicted, and so would
@@ -49,7 +46,7 @@ fn settled(w: usize, c: usize, n: usize) -> bool
     before + behind == 0
 }
 
-// Where h stands in bucket k, if eight entries from g on tell, or the last eight; NOT_TOLD if they do not. Any guess works; a close one saves the halving.
+// Where h stands in bucket k, if eight entries from g on tell, or the last eight. Any guess works; a close one saves the halving.
 pub fn probe_near(
     b: &[u8],
     s: Strings,
@@ -58,21 +55,18 @@ pub fn probe_near(
     k: usize,
     h: usize,
     g: usize,
-) -> usize
+) -> Option<usize>
     requires { Held b.now s segments.now buckets.now × (k < length buckets.now) }
-    ensures { (result ≡ 4294967295 → ⊥) → Near (held_table b.now s buckets.now) k h result }
+    ensures { IfSome result (λ r. Near (held_table b.now s buckets.now) k h r) }
 {
     let n = entry::entry_count(b, s, segments, buckets, k);
     if n == 0 {
-        return 0;
+        return Some(0);
     }
     if n < 8 {
-        return count_few(b, s, segments, buckets, k, h, 0, n);
+        return Some(count_few(b, s, segments, buckets, k, h, 0, n));
     }
     let w = g.min(n - 8);
     let c = count_few(b, s, segments, buckets, k, h, w, 8);
-    if settled(w, c, n) {
-        return w + c;
-    }
-    NOT_TOLD
+    settled(w, c, n).then_some(w + c)
 }
