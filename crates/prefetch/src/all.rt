@@ -25,7 +25,7 @@ use layout::{ATTRIBUTE_SIZE, Places};
 use nodes::attribute;
 use region::{Region, SAMPLES, SEGMENT_HEADER};
 use strings::Strings;
-use verdict::{Refusal, Rule};
+use verdict::Refusal;
 
 // Doubts the attribute at q, unless 19 holds of it.
 fn doubt(

@@ -28,7 +28,6 @@ ghost use Rattle.prefetch.specs.inner.Batch.{SpotFits, Behind, AllSpots, AllFit,
 use nodes::{fields, long};
 use region::{Region, SAMPLES};
 use search::{group, run};
-use strings::spot::Spot;
 use strings::{Strings, ahead, spot};
 
 // Where the texts stand, and how many characters are left there.
@@ -56,11 +55,11 @@ fn find_spots(
             fields::text_segment(b, q),
             fields::text_element(b, q),
         );
-        let Spot::At(x, m) = a else {
+        let Some(spot) = a else {
             return false;
         };
-        at[j] = x as u32;
-        left[j] = m as u32;
+        at[j] = spot.at as u32;
+        left[j] = spot.left as u32;
     }
     true
 }
