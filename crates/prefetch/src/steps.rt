@@ -213,20 +213,15 @@ fn find_entries(
         × LowerBounds (held_table b.now s buckets.now) hashes.now n low.now }
     ensures { Sure (AllFound b.now (held_table b.now s buckets.now) slots.now n) result }
 {
-    for j in 0..n {
-        if !found(
-            b,
-            s,
-            segments,
-            buckets,
-            le::wide(slots[j]),
-            le::wide(hashes[j]),
-            low[j],
-        ) {
-            return false;
-        }
-    }
-    true
+    (0..n).all(|j| found(
+        b,
+        s,
+        segments,
+        buckets,
+        le::wide(slots[j]),
+        le::wide(hashes[j]),
+        low[j],
+    ))
 }
 
 // Whether 19 holds of the attributes in the first n slots. In a packed table the character before a text tells that its address is an
