@@ -49,8 +49,8 @@ struct Window {
     last: u32,
 }
 
-// m entries for hash h when w was met at place g of its bucket. Of a bucket of fewer it is the bucket's count twice: it can be read, too.
-fn window_at(
+// M entries for hash h when w was met at place g of its bucket. Of a bucket of fewer it is the bucket's count twice: it can be read, too.
+fn window_at<const M: usize>(
     b: &[u8],
     s: Strings,
     segments: &[u32; SAMPLES],
@@ -58,14 +58,13 @@ fn window_at(
     h: usize,
     g: usize,
     w: usize,
-    m: usize,
 ) -> Window
-    requires { Held b.now s segments.now buckets.now × (h < 2 ^ 32) × (g < 2 ^ 32) × (w < 2 ^ 32) × (1 ≤ m) }
+    requires { Held b.now s segments.now buckets.now × (h < 2 ^ 32) × (g < 2 ^ 32) × (w < 2 ^ 32) × (1 ≤ M) }
     ensures { (result.first + 4 ≤ length b.now) × (result.last + 4 ≤ length b.now) }
 {
     let k = hash::bucket(h, buckets.len());
     let n = entry::entry_count(b, s, segments, buckets, k);
-    if n < m {
+    if n < M {
         return Window {
             start: 0,
             first: buckets[k],
@@ -73,9 +72,9 @@ fn window_at(
         };
     }
     let r = crate::expected(n, h, g, w);
-    let f = r.saturating_sub(m / 2).min(n - m);
+    let f = r.saturating_sub(M / 2).min(n - M);
     let e = entry::entry_at(b, s, segments, buckets, k, f);
-    let l = entry::entry_at(b, s, segments, buckets, k, f + m - 1);
+    let l = entry::entry_at(b, s, segments, buckets, k, f + M - 1);
     Window {
         start: f as u32,
         first: e as u32,
@@ -83,26 +82,25 @@ fn window_at(
     }
 }
 
-// m entries for each hash, from where it was looked for before.
-fn find_windows(
+// M entries for each hash, from where it was looked for before.
+fn find_windows<const M: usize>(
     b: &[u8],
     s: Strings,
     segments: &[u32; SAMPLES],
     buckets: &[u32],
     hashes: &[u32; 64],
     n: usize,
-    m: usize,
     met: &[u32; 64],
     estimate: &mut [u32; 64],
     first: &mut [u32; 64],
     last: &mut [u32; 64],
 )
     requires { Held b.now s segments.now buckets.now × (n ≤ 64) × (length hashes.now ≡ 64) × (length met.now ≡ 64)
-        × Lengths estimate.old first.old last.old × (1 ≤ m) }
+        × Lengths estimate.old first.old last.old × (1 ≤ M) }
     ensures { Estimated b.now n estimate.new first.new × Within b.now n last.new }
 {
     for j in 0..n {
-        let a = window_at(
+        let a = window_at::<M>(
             b,
             s,
             segments,
@@ -110,7 +108,6 @@ fn find_windows(
             le::wide(hashes[j]),
             le::wide(estimate[j]),
             le::wide(met[j]),
-            m,
         );
         estimate[j] = a.start;
         first[j] = a.first;
@@ -137,18 +134,18 @@ fn probe_windows(
 {
     let mut first = [0u32; 64];
     let mut last = [0u32; 64];
-    find_windows(
-        b, s, segments, buckets, hashes, n, 1, least, estimate, &mut first, &mut last,
+    find_windows::<1>(
+        b, s, segments, buckets, hashes, n, least, estimate, &mut first, &mut last,
     );
     probe(b, n, &first, least);
     if spread(b, s, segments, buckets, 1048576) {
-        find_windows(
-            b, s, segments, buckets, hashes, n, 1, least, estimate, &mut first, &mut last,
+        find_windows::<1>(
+            b, s, segments, buckets, hashes, n, least, estimate, &mut first, &mut last,
         );
         probe(b, n, &first, least);
     }
-    find_windows(
-        b, s, segments, buckets, hashes, n, 8, least, estimate, &mut first, &mut last,
+    find_windows::<8>(
+        b, s, segments, buckets, hashes, n, least, estimate, &mut first, &mut last,
     );
     probe(b, n, &first, least);
     probe(b, n, &last, most);
