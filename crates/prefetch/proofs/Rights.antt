@@ -40,6 +40,10 @@ use Rattle.search.specs.inner.Run.{word_of}
 use Rattle.nodes.proofs.Types.{extended_is}
 use Rattle.prefetch.specs.inner.Batch.{TextSpot, SpotFits, Behind, AllSpots, AllBehind, AllHashed, AllFound, AllRight}
 use Rattle.std.specs.Prelude.{Option}
+use Rattle.std.specs.Bool.{MatchBool}
+use Rattle.std.specs.List.{AllWithin, range_with_len}
+use Rattle.std.proofs.lemmas.List.FromFn.{length-range_with_len, get_or-range_with_len}
+use Rattle.prefetch.specs.inner.Slots.{Each}
 
 -- an entry in one bucket has the address of the attribute's text
 pub entry_in : (b : List ℕ) → Bytes b → (q : ℕ) (t : Table) → t.bytes ≡ b → (k w : ℕ) → k < t.buckets → w ≡ value_word b q
@@ -48,6 +52,14 @@ entry_in b f q t same k w l e s = (k, l, (s.0, s.1, address-of b f q t same k s.
 
 pub found_at : (b : List ℕ) (t : Table) {q p : ℕ} → q ≡ p → EntryAddress t (text_segment b q) (text_element b q) → EntryAddress t (text_segment b p) (text_element b p)
 found_at b t e w = subst (λ (i : ℕ). EntryAddress t (text_segment b i) (text_element b i)) e w
+
+-- what `all` answers of the numbers below n
+pub sure_below : (P : ℕ → Type 0) (n : ℕ) (Q : Type 0) {r : Bool} → MatchBool r (AllWithin P (range_with_len 0 n) 0 (length (range_with_len 0 n))) Q
+    → Sure (Each n P) r
+sure_below P n Q w z j l =
+    let a = rw z at w in
+    let e : get_or (range_with_len 0 n) j 0 ≡ j = omega (arith, get_or-range_with_len 0 n j 0 l) in
+    subst P e (a j 0 (omega arith) (omega (arith, length-range_with_len 0 n)))
 
 -- a spot found for an attribute's text
 pub spot_of : {b : List ℕ} {r q seg el x n : ℕ} {a : Option Spot} → seg ≡ text_segment b q → el ≡ text_element b q → a ≡ spot_at b r seg el → a ≡ At x n → TextSpot b r q x n

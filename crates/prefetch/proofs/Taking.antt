@@ -88,6 +88,10 @@ module _ (ed : Edition) (b : List ℕ) (first el e n : ℕ) (slots : List ℕ) (
       go (yes z) = subst (λ (m : ℕ). Slotted ed b first el (e + 1) m (set slots n (first + e * attribute_size ed))) (omega arith) (step_text z)
       go (no z) = subst (λ (m : ℕ). Slotted ed b first el (e + 1) m (set slots n (first + e * attribute_size ed))) (omega (arith, z)) (step_other z)
 
+-- up to the same element by another name
+pub slotted_upto : {ed : Edition} {b : List ℕ} {first el e n m : ℕ} {slots : List ℕ} → Slotted ed b first el e n slots → e ≡ m → Slotted ed b first el m n slots
+slotted_upto s q = rw (sym q) s
+
 -- the texts that were passed are trusted where those in the slots are
 pub passed_trusted : (ed : Edition) (b d : List ℕ) (first el e n : ℕ) (slots : List ℕ) → Slotted ed b first el e n slots → Each n (λ j. Trusted ed b d (get_or slots j 0))
     → ((i : ℕ) → i < el → Trusted ed b d (first + i * attribute_size ed)) → (i : ℕ) → i < e → Trusted ed b d (first + i * attribute_size ed)

@@ -25,7 +25,7 @@ use layout::{ATTRIBUTE_SIZE, Places};
 use nodes::attribute;
 use region::{Region, SAMPLES, SEGMENT_HEADER};
 use strings::Strings;
-use verdict::{Refusal, Rule};
+use verdict::Refusal;
 
 // Doubts the attribute at q, unless 19 holds of it.
 fn doubt(
@@ -68,10 +68,8 @@ fn doubt_wrong(
     ensures doubts { Examined Bits64 b.now slots.now n doubts.old doubts.new }
     ensures memo { Remembers (noted b.now) memo.new }
 {
-    let mut j = 0;
-    while j < n {
+    for j in 0..n {
         doubt(b, t, s, segments, buckets, le::wide(slots[j]), doubts, memo);
-        j += 1;
     }
 }
 
@@ -129,8 +127,7 @@ fn find_doubts(
     let mut slots = [0u32; 64];
     let mut known = true;
     let mut at = region::first_start(attributes);
-    let mut seg = 0;
-    while seg < attributes.count {
+    for _seg in 0..attributes.count {
         let used = region::used_count(b, at);
         let mut el = 0;
         while el < used {
@@ -151,7 +148,6 @@ fn find_doubts(
             el = taken.next;
         }
         at = region::next_start(b, at, ATTRIBUTE_SIZE);
-        seg += 1;
     }
     known
 }

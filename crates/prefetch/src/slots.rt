@@ -21,15 +21,16 @@ pub fn take_texts(b: &[u8], first: usize, el: usize, used: usize, slots: &mut [u
     ensures { TakenFrom Bits64 b.now first el used result slots.new }
 {
     let mut n = 0;
-    let mut e = el;
-    while e < used {
+    for e in el..used {
         if n == 64 {
             return Taken { count: n, next: e };
         }
         let q = first + e * ATTRIBUTE_SIZE;
         slots[n] = q as u32;
         n += words::kind(fields::type_word(b, q)) / 3;
-        e += 1;
     }
-    Taken { count: n, next: e }
+    Taken {
+        count: n,
+        next: used,
+    }
 }

@@ -28,7 +28,6 @@ ghost use Rattle.prefetch.specs.inner.Batch.{SpotFits, Behind, AllSpots, AllFit,
 use nodes::{fields, long};
 use region::{Region, SAMPLES};
 use search::{group, run};
-use strings::spot::Spot;
 use strings::{Strings, ahead, spot};
 
 // Where the texts stand, and how many characters are left there.
@@ -47,8 +46,7 @@ fn find_spots(
         × AllFit b.now n at.new left.new) result }
     ensures lengths { (length at.new ≡ 64) × (length left.new ≡ 64) }
 {
-    let mut j = 0;
-    while j < n {
+    for j in 0..n {
         let q = le::wide(slots[j]);
         let a = spot::spot_at(
             b,
@@ -57,12 +55,11 @@ fn find_spots(
             fields::text_segment(b, q),
             fields::text_element(b, q),
         );
-        let Spot::At(x, m) = a else {
+        let Some(spot) = a else {
             return false;
         };
-        at[j] = x as u32;
-        left[j] = m as u32;
-        j += 1;
+        at[j] = spot.at as u32;
+        left[j] = spot.left as u32;
     }
     true
 }
@@ -73,10 +70,8 @@ fn load_before(b: &[u8], n: usize, at: &[u32; 64], left: &[u32; 64], seen: &mut 
     requires { (n ≤ 64) × Lengths at.now left.now seen.old × AllFit b.now n at.now left.now }
     ensures { AllSeen b.now n at.now seen.new × (length seen.new ≡ 64) }
 {
-    let mut j = 0;
-    while j < n {
+    for j in 0..n {
         seen[j] = ahead::touch(b, le::wide(at[j]), le::wide(left[j])) as u32;
-        j += 1;
     }
 }
 
@@ -137,8 +132,7 @@ fn all_pass(
         × Sure (AllBehind b.now slots.now n at.now) packed) result }
     ensures memo { Remembers (noted b.now) memo.new }
 {
-    let mut j = 0;
-    while j < n {
+    for j in 0..n {
         if !passes(
             b,
             t,
@@ -151,7 +145,6 @@ fn all_pass(
         ) {
             return false;
         }
-        j += 1;
     }
     true
 }
@@ -171,10 +164,8 @@ fn hash_texts(
     ensures hashes { length hashes.new ≡ 64 }
     ensures memo { Remembers (noted b.now) memo.new }
 {
-    let mut j = 0;
-    while j < n {
+    for j in 0..n {
         hashes[j] = long::text_hash(b, t, le::wide(at[j]), le::wide(left[j]), memo) as u32;
-        j += 1;
     }
 }
 
@@ -222,22 +213,15 @@ fn find_entries(
         × LowerBounds (held_table b.now s buckets.now) hashes.now n low.now }
     ensures { Sure (AllFound b.now (held_table b.now s buckets.now) slots.now n) result }
 {
-    let mut j = 0;
-    while j < n {
-        if !found(
-            b,
-            s,
-            segments,
-            buckets,
-            le::wide(slots[j]),
-            le::wide(hashes[j]),
-            low[j],
-        ) {
-            return false;
-        }
-        j += 1;
-    }
-    true
+    (0..n).all(|j| found(
+        b,
+        s,
+        segments,
+        buckets,
+        le::wide(slots[j]),
+        le::wide(hashes[j]),
+        low[j],
+    ))
 }
 
 // Whether 19 holds of the attributes in the first n slots. In a packed table the character before a text tells that its address is an

@@ -1,11 +1,14 @@
 -- The search of a bucket from an estimate. Assumes nothing.
-use Prim.Native.Nat.{ℕ, zero, suc, ◌+◌, ◌-◌, ◌≤◌, ◌<◌}
+use Prim.Native.Nat.{ℕ, zero, suc, ◌+◌, ◌-◌, ◌≤◌, ◌<◌, min}
 use native.Mathlib.Nat.{mod-lt}
 use native.Mathlib.Numerals.{add-one}
 use native.Mathlib.Omega.{arith}
 use mathlib.Core.Path.{◌≡◌, refl, ap, subst, sym, ◌∙◌}
 use mathlib.Core.Logic.{⊎_elim}
 use mathlib.Core.List.{List}
+use mathlib.Core.Bool.{Bool, true, false}
+use Rattle.std.specs.Prelude.{IfSome}
+use Rattle.std.specs.Bool.{then_some}
 use lib.Dec.{eqb}
 use borrow.Author.Tests.{lt-ltb, le-ltb}
 use Rattle.laws.specs.Halving.{Ascending, FirstNotBelow}
@@ -39,34 +42,46 @@ module _ (f : ℕ → ℕ) (x w : ℕ) where
   unfolding count_below
   count_other m l = rw (add-one m, le-ltb (f (w + m)) x l)
 
--- what a loop over m numbers knows: i were read, c of them are below
-pub record Counting (f : ℕ → ℕ) (x w m i c : ℕ) : Type 0 where
-  pub upto : i ≤ m
+  count-most : (m : ℕ) → count_below f x w m ≤ m
+  count-most zero = omega (arith, count_none)
+  count-most (suc m) =
+      rw (← add-one m)
+      (⊎_elim
+      (λ g. omega (arith, count_other m g, count-most m))
+      (λ g. omega (arith, count-one m g, count-most m))
+      (le_or_lt x (f (w + m))))
+
+-- the same numbers in another row
+count-same : (f g : ℕ → ℕ) (x v w m : ℕ) → ((i : ℕ) → i < m → f (v + i) ≡ g (w + i)) → count_below f x v m ≡ count_below g x w m
+unfolding count_below
+count-same f g x v w zero e = refl
+count-same f g x v w (suc m) e = rw (e m (omega arith), count-same f g x v w m (λ i l. e i (omega arith)))
+
+-- what a loop knows: i were read, c of them are below
+pub record Counting (f : ℕ → ℕ) (x i c : ℕ) : Type 0 where
   pub most : c ≤ i
-  pub counts : c ≡ count_below f x w i
+  pub counts : c ≡ count_below f x 0 i
 
-pub counting_start : (f : ℕ → ℕ) (x w m : ℕ) → Counting f x w m 0 0
-counting_start f x w m = record { upto = omega arith; most = omega arith; counts = sym (count_none f x w) }
+pub counting_start : (f : ℕ → ℕ) (x : ℕ) → Counting f x 0 0
+counting_start f x = record { most = omega arith; counts = sym (count_none f x 0) }
 
-module _ (f : ℕ → ℕ) (x w m i c : ℕ) (r : Counting f x w m i c) where
+module _ (f : ℕ → ℕ) (x i c : ℕ) (r : Counting f x i c) where
   -- y was read
-  module _ (l : i < m) (y : ℕ) (e : y ≡ f (w + i)) where
-    pub counting_one : y < x → Counting f x w m (i + 1) (c + 1)
+  module _ (y : ℕ) (e : y ≡ f (0 + i)) where
+    pub counting_one : y < x → Counting f x (i + 1) (c + 1)
     counting_one g = record {
-      upto = omega arith;
       most = omega (arith, r.most);
-      counts = ap (λ (n : ℕ). n + 1) r.counts ∙ count-one f x w i (omega (arith, e));
+      counts = ap (λ (n : ℕ). n + 1) r.counts ∙ count-one f x 0 i (omega (arith, e));
     }
 
-    pub counting_other : x ≤ y → Counting f x w m (i + 1) c
+    pub counting_other : x ≤ y → Counting f x (i + 1) c
     counting_other g = record {
-      upto = omega arith;
       most = omega (arith, r.most);
-      counts = r.counts ∙ count_other f x w i (omega (arith, e));
+      counts = r.counts ∙ count_other f x 0 i (omega (arith, e));
     }
 
-  pub counting_end : m ≤ i → c ≡ count_below f x w m
-  counting_end l = r.counts ∙ ap (count_below f x w) (omega (arith, r.upto))
+  pub counting_end : (m : ℕ) → i ≡ m → c ≡ count_below f x 0 m
+  counting_end m e = r.counts ∙ ap (count_below f x 0) e
 
 -- of the m numbers from place w on the first r are below x, and the others are not
 record Counted (f : ℕ → ℕ) (x w m r : ℕ) : Type 0 where
@@ -147,19 +162,19 @@ module _ (w c n x y : ℕ) (l : w + 8 ≤ n) (a : c ≡ 0 → x ≡ w) (b : (c �
 -- ---- all of few, the last one as often as it takes
 
 module _ (n : ℕ) where
-  pub or_last_low : (i : ℕ) → i < n → i ≡ or_last i n
+  or_last_low : (i : ℕ) → i < n → i ≡ or_last i n
   unfolding or_last
   or_last_low i l = rw (lt-ltb i n l)
 
-  pub or_last_high : (i : ℕ) → n ≤ i → n - 1 ≡ or_last i n
+  or_last_high : (i : ℕ) → n ≤ i → n - 1 ≡ or_last i n
   unfolding or_last
   or_last_high i l = rw (le-ltb i n l)
 
-  or_last_in : (i : ℕ) → 1 ≤ n → or_last i n < n
-  or_last_in i a = ⊎_elim (λ l. omega (arith, or_last_high i l)) (λ l. omega (arith, or_last_low i l)) (le_or_lt n i)
+  or_last_min : (i : ℕ) → 1 ≤ n → min (n - 1) i ≡ or_last i n
+  or_last_min i a = ⊎_elim (λ l. omega (arith, or_last_high i l)) (λ l. omega (arith, or_last_low i l)) (le_or_lt n i)
 
-  pub or_last_less : (i j : ℕ) → 1 ≤ n → j ≡ or_last i n → j < n
-  or_last_less i j a e = omega (arith, e, or_last_in i a)
+  or_last_in : (i : ℕ) → 1 ≤ n → or_last i n < n
+  or_last_in i a = omega (arith, or_last_min i a)
 
   or_last_order : (i j : ℕ) → i ≤ j → or_last i n ≤ or_last j n
   or_last_order i j l =
@@ -174,13 +189,29 @@ module _ (n : ℕ) where
 module _ (f : ℕ → ℕ) (n x : ℕ) where
   -- what eight reads come to: c of them are below
   module _ (c : ℕ) (e : c ≡ count_below (λ i. f (or_last i n)) x 0 8) where
-    pub few_less : c < n → c ≡ count_few f x n
+    few_less : c < n → c ≡ count_few f x n
     unfolding count_few
     few_less l = rw (lt-ltb (count_below (λ i. f (or_last i n)) x 0 8) n (omega arith)) e
 
-    pub few-all : n ≤ c → n ≡ count_few f x n
+    few-all : n ≤ c → n ≡ count_few f x n
     unfolding count_few
     few-all l = rw (le-ltb (count_below (λ i. f (or_last i n)) x 0 8) n (omega arith))
+
+    pub few-min : min c n ≡ count_few f x n
+    few-min = ⊎_elim (λ l. omega (arith, few-all l)) (λ l. omega (arith, few_less l)) (le_or_lt n c)
+
+-- few of other numbers
+few-same : (f g : ℕ → ℕ) (x n : ℕ) → ((i : ℕ) → f i ≡ g i) → count_few f x n ≡ count_few g x n
+few-same f g x n e =
+    let s = count-same (λ i. f (or_last i n)) (λ i. g (or_last i n)) x 0 0 8 (λ i l. e (or_last (0 + i) n)) in
+    sym (few-min f n x _ refl) ∙ ap (λ (c : ℕ). min c n) s ∙ few-min g n x _ refl
+
+-- of eight all are read, each once
+few-eight : (f : ℕ → ℕ) (x w : ℕ) → count_few (λ i. f (w + i)) x 8 ≡ count_below f x w 8
+few-eight f x w =
+    let s : count_below (λ i. f (w + or_last i 8)) x 0 8 ≡ count_below f x w 8 =
+    count-same (λ i. f (w + or_last i 8)) f x 0 w 8 (λ i l. ap f (omega (arith, or_last_low 8 (0 + i) (omega arith)))) in
+    omega (arith, s, few-min (λ i. f (w + i)) 8 x _ refl, count-most f x w 8)
 
 module _ (f : ℕ → ℕ) (n x : ℕ) (up : Ascending f n) where
   capped_up : 1 ≤ n → Ascending (λ i. f (or_last i n)) 8
@@ -219,20 +250,29 @@ module _ (f : ℕ → ℕ) (n x : ℕ) (up : Ascending f n) where
 
 -- ---- in a bucket
 
--- the hash that is read at place i, or at the last one
-pub few-read : (t : Table) (k n i j y : ℕ) → j ≡ or_last i n → y ≡ hash_of t k j → y ≡ hash_of t k (or_last (0 + i) n)
-few-read t k n i j y p e = e ∙ ap (hash_of t k) (p ∙ ap (λ (m : ℕ). or_last m n) (omega arith))
+-- the hash that is read at place i from w on, or at the last one
+pub few-read : (t : Table) (k w n i j y : ℕ) → 1 ≤ n → j ≡ min (n - 1) i → y ≡ hash_of t k (w + j) → y ≡ hash_of t k (w + or_last (0 + i) n)
+few-read t k w n i j y p q e = e ∙ ap (λ (m : ℕ). hash_of t k (w + m)) (omega (arith, or_last_min n (0 + i) p))
 
 -- the ways to find it
 module _ (t : Table) (k h n : ℕ) (q : n ≡ entries t k) where
   pub near_none : n ≡ 0 → Near t k h 0
   near_none e = few (omega arith) (let z = few-all (hash_of t k) n h _ refl (omega arith) in sym e ∙ z ∙ ap (count_few (hash_of t k) h) q)
 
-  pub near_few : (r : ℕ) → n < 8 → r ≡ count_few (hash_of t k) h n → Near t k h r
-  near_few r l e = few (omega arith) (e ∙ ap (count_few (hash_of t k) h) q)
+  pub near_few : (r : ℕ) → n < 8 → r ≡ count_few (λ i. hash_of t k (0 + i)) h n → Near t k h r
+  near_few r l e =
+      few (omega arith)
+      (e ∙ few-same (λ i. hash_of t k (0 + i)) (hash_of t k) h n (λ i. ap (hash_of t k) (omega arith)) ∙ ap (count_few (hash_of t k) h) q)
 
-  pub near_eight : (w c : ℕ) → w + 8 ≤ n → c ≡ count_below (hash_of t k) h w 8 → Settled w c n → Near t k h (w + c)
-  near_eight w c l e s = eight w (omega arith) (rw (← e, ← q) s) (ap (λ (x : ℕ). w + x) e)
+  pub near_eight : (w c : ℕ) → w + 8 ≤ n → c ≡ count_few (λ i. hash_of t k (w + i)) h 8 → Settled w c n → Near t k h (w + c)
+  near_eight w c l e s =
+      let g = e ∙ few-eight (hash_of t k) h w in
+      eight w (omega arith) (rw (← g, ← q) s) (ap (λ (x : ℕ). w + x) g)
+
+-- where it stands, if that is told
+pub near_told : (P : Type 0) (t : Table) (k h r : ℕ) {b : Bool} → Tells P b → (P → Near t k h r) → IfSome (then_some b r) (Near t k h)
+near_told P t k h r {b = true} s f = f (s.so refl)
+near_told P t k h r {b = false} s f = tt
 
 -- what is found is the first entry whose hash is not below h
 pub near_lower : (t : Table) (k h r : ℕ) → Clean (all_entry_checks t) → k < t.buckets → Near t k h r → LowerBound t k h r

@@ -4,6 +4,9 @@ use native.Mathlib.Omega.{arith}
 use mathlib.Core.Path.{◌≡◌, ap, subst, sym, ◌∙◌}
 use mathlib.Core.Logic.{◌⊎◌, inl, inr, ⊎_elim}
 use mathlib.Core.List.{List}
+use mathlib.Core.Bool.{Bool, false, not, false≢true}
+use Rattle.std.specs.Prelude.{Option, Some, None, IfSome, unwrap_or}
+use Rattle.std.specs.Option.{is_some}
 use borrow.Author.Count.{below_none, below_more}
 use lib.ListN.{length, get_or, set, length-set}
 use lib.Seq.{get_or-set_same, get_or-set_other}
@@ -117,6 +120,11 @@ searches_more t hashes low high j a l h lo hi e s = record {
 }
 
 -- ---- those that are not found where they were looked for
+
+-- what holds of an answer, if there is one
+pub held : (P : ℕ → Type 0) (o : Option ℕ) (x : ℕ) {n : Bool} → IfSome o P → x ≡ unwrap_or o 0 → is_some o ≡ not n → n ≡ false → P x
+held P (Some y) x p e f g = rw e p
+held P None x {n} p e f g = absurd (false≢true (rw g at f))
 
 -- by the hash that is read
 pub near_of : (t : Table) (h g r : ℕ) → h ≡ g → Near t (bucket_of t.buckets h) h r → Near t (bucket_of t.buckets g) g r

@@ -17,13 +17,6 @@ use strings::{Strings, entry};
 // After a group of which most estimates were of no use, as many groups go without.
 const SKIPPED: usize = 15;
 
-// Which entry of its bucket a hash is to be expected at, and where that entry stands.
-#[derive(Clone, Copy)]
-struct Estimate {
-    entry: u32,
-    at: u32,
-}
-
 // Whether the buckets of a table take that many bytes: where they do, most looks at what they lead to would wait for memory.
 pub fn spread(
     b: &[u8],
@@ -35,72 +28,7 @@ pub fn spread(
     requires { Held b.now s segments.now buckets.now }
     ensures { Tells (bucket_at (held_table b.now s buckets.now) 0 + bytes ≤ s.list) result }
 {
-    if s.list - le::wide(buckets[0]) < bytes {
-        return false;
-    }
-    true
-}
-
-// Where hash h is to be expected when w was met at place g of its bucket. In an empty bucket that is its count: it can be read, too.
-fn estimate_at(
-    b: &[u8],
-    s: Strings,
-    segments: &[u32; SAMPLES],
-    buckets: &[u32],
-    h: usize,
-    g: usize,
-    w: usize,
-) -> Estimate
-    requires { Held b.now s segments.now buckets.now × (h < 2 ^ 32) × (g < 2 ^ 32) × (w < 2 ^ 32) }
-    ensures { result.at + 4 ≤ length b.now }
-{
-    let k = hash::bucket(h, buckets.len());
-    let n = entry::entry_count(b, s, segments, buckets, k);
-    if n == 0 {
-        return Estimate {
-            entry: 0,
-            at: buckets[k],
-        };
-    }
-    let r = crate::expected(n, h, g, w);
-    let e = entry::entry_at(b, s, segments, buckets, k, r);
-    Estimate {
-        entry: r as u32,
-        at: e as u32,
-    }
-}
-
-// Aims at each hash, from where it was looked for before.
-fn estimate_each(
-    b: &[u8],
-    s: Strings,
-    segments: &[u32; SAMPLES],
-    buckets: &[u32],
-    hashes: &[u32; 64],
-    n: usize,
-    met: &[u32; 64],
-    estimate: &mut [u32; 64],
-    at: &mut [u32; 64],
-)
-    requires { Held b.now s segments.now buckets.now × (n ≤ 64) × (length hashes.now ≡ 64) × (length met.now ≡ 64)
-        × (length estimate.old ≡ 64) × (length at.old ≡ 64) }
-    ensures { Estimated b.now n estimate.new at.new }
-{
-    let mut j = 0;
-    while j < n {
-        let a = estimate_at(
-            b,
-            s,
-            segments,
-            buckets,
-            le::wide(hashes[j]),
-            le::wide(estimate[j]),
-            le::wide(met[j]),
-        );
-        estimate[j] = a.entry;
-        at[j] = a.at;
-        j += 1;
-    }
+    s.list - le::wide(buckets[0]) >= bytes
 }
 
 // Looks at each.
@@ -108,40 +36,12 @@ fn probe(b: &[u8], n: usize, at: &[u32; 64], met: &mut [u32; 64])
     requires { (n ≤ 64) × Within b.now n at.now × (length met.old ≡ 64) }
     ensures { length met.new ≡ 64 }
 {
-    let mut j = 0;
-    while j < n {
+    for j in 0..n {
         met[j] = le::u32_at(b, le::wide(at[j])) as u32;
-        j += 1;
     }
 }
 
-// What was met of each hash's neighbours, and where: from nowhere first, and then from what was met there. In a table of less than a
-// megabyte one look is enough.
-fn refine(
-    b: &[u8],
-    s: Strings,
-    segments: &[u32; SAMPLES],
-    buckets: &[u32],
-    hashes: &[u32; 64],
-    n: usize,
-    estimate: &mut [u32; 64],
-    met: &mut [u32; 64],
-)
-    requires { Held b.now s segments.now buckets.now × (n ≤ 64) × (length hashes.now ≡ 64) × (length estimate.old ≡ 64)
-        × (length met.old ≡ 64) }
-    ensures { (length estimate.new ≡ 64) × (length met.new ≡ 64) }
-{
-    let mut at = [0u32; 64];
-    estimate_each(b, s, segments, buckets, hashes, n, met, estimate, &mut at);
-    probe(b, n, &at, met);
-    if !spread(b, s, segments, buckets, 1048576) {
-        return;
-    }
-    estimate_each(b, s, segments, buckets, hashes, n, met, estimate, &mut at);
-    probe(b, n, &at, met);
-}
-
-// Eight entries that a hash is to be expected among: the number of the first, and where the first and the last of them stand.
+// Some entries in a row that a hash is to be expected among: the number of the first, and where the first and the last of them stand.
 #[derive(Clone, Copy)]
 struct Window {
     start: u32,
@@ -149,8 +49,8 @@ struct Window {
     last: u32,
 }
 
-// Those for hash h when w was met at place g of its bucket. A bucket of fewer is read as a whole: there it is the bucket's count twice.
-fn window_at(
+// M entries for hash h when w was met at place g of its bucket. Of a bucket of fewer it is the bucket's count twice: it can be read, too.
+fn window_at<const M: usize>(
     b: &[u8],
     s: Strings,
     segments: &[u32; SAMPLES],
@@ -159,12 +59,12 @@ fn window_at(
     g: usize,
     w: usize,
 ) -> Window
-    requires { Held b.now s segments.now buckets.now × (h < 2 ^ 32) × (g < 2 ^ 32) × (w < 2 ^ 32) }
+    requires { Held b.now s segments.now buckets.now × (h < 2 ^ 32) × (g < 2 ^ 32) × (w < 2 ^ 32) × (1 ≤ M) }
     ensures { (result.first + 4 ≤ length b.now) × (result.last + 4 ≤ length b.now) }
 {
     let k = hash::bucket(h, buckets.len());
     let n = entry::entry_count(b, s, segments, buckets, k);
-    if n < 8 {
+    if n < M {
         return Window {
             start: 0,
             first: buckets[k],
@@ -172,9 +72,9 @@ fn window_at(
         };
     }
     let r = crate::expected(n, h, g, w);
-    let f = near::window(if r < 4 { 0 } else { r - 4 }, n);
+    let f = r.saturating_sub(M / 2).min(n - M);
     let e = entry::entry_at(b, s, segments, buckets, k, f);
-    let l = entry::entry_at(b, s, segments, buckets, k, f + 7);
+    let l = entry::entry_at(b, s, segments, buckets, k, f + M - 1);
     Window {
         start: f as u32,
         first: e as u32,
@@ -182,8 +82,8 @@ fn window_at(
     }
 }
 
-// Those of each hash, from where it was looked for before.
-fn find_windows(
+// M entries for each hash, from where it was looked for before.
+fn find_windows<const M: usize>(
     b: &[u8],
     s: Strings,
     segments: &[u32; SAMPLES],
@@ -196,12 +96,11 @@ fn find_windows(
     last: &mut [u32; 64],
 )
     requires { Held b.now s segments.now buckets.now × (n ≤ 64) × (length hashes.now ≡ 64) × (length met.now ≡ 64)
-        × Lengths estimate.old first.old last.old }
+        × Lengths estimate.old first.old last.old × (1 ≤ M) }
     ensures { Estimated b.now n estimate.new first.new × Within b.now n last.new }
 {
-    let mut j = 0;
-    while j < n {
-        let a = window_at(
+    for j in 0..n {
+        let a = window_at::<M>(
             b,
             s,
             segments,
@@ -213,11 +112,11 @@ fn find_windows(
         estimate[j] = a.start;
         first[j] = a.first;
         last[j] = a.last;
-        j += 1;
     }
 }
 
-// Eight entries for each hash, from `guess` on, with the first and the last hash of them.
+// Eight entries for each hash, from `estimate` on, with the first and the last hash of them. One entry for each is looked at first, from nowhere
+// and then from what was met there. In a table of less than a megabyte one look is enough.
 fn probe_windows(
     b: &[u8],
     s: Strings,
@@ -233,10 +132,19 @@ fn probe_windows(
         × Lengths estimate.old least.old most.old }
     ensures { Lengths estimate.new least.new most.new }
 {
-    refine(b, s, segments, buckets, hashes, n, estimate, least);
     let mut first = [0u32; 64];
     let mut last = [0u32; 64];
-    find_windows(
+    find_windows::<1>(
+        b, s, segments, buckets, hashes, n, least, estimate, &mut first, &mut last,
+    );
+    probe(b, n, &first, least);
+    if spread(b, s, segments, buckets, 1048576) {
+        find_windows::<1>(
+            b, s, segments, buckets, hashes, n, least, estimate, &mut first, &mut last,
+        );
+        probe(b, n, &first, least);
+    }
+    find_windows::<8>(
         b, s, segments, buckets, hashes, n, least, estimate, &mut first, &mut last,
     );
     probe(b, n, &first, least);
@@ -256,7 +164,7 @@ fn shifted(h: usize, g: usize, least: usize, most: usize) -> usize
     if h <= least {
         r -= 7;
     }
-    if r < 7 { 0 } else { (r - 7) % 4294967296 }
+    r.saturating_sub(7) % 4294967296
 }
 
 // The same for each hash.
@@ -270,8 +178,7 @@ fn shift_each(
     requires { (n ≤ 64) × (length hashes.now ≡ 64) × Lengths estimate.old least.now most.now }
     ensures { length estimate.new ≡ 64 }
 {
-    let mut j = 0;
-    while j < n {
+    for j in 0..n {
         let g = shifted(
             le::wide(hashes[j]),
             le::wide(estimate[j]),
@@ -279,7 +186,6 @@ fn shift_each(
             le::wide(most[j]),
         );
         estimate[j] = g as u32;
-        j += 1;
     }
 }
 
@@ -323,17 +229,15 @@ fn probe_each(
     ensures { Looked (held_table b.now s buckets.now) hashes.now n low.new which.new result 0 }
 {
     let mut m = 0;
-    let mut j = 0;
-    while j < n {
+    for j in 0..n {
         let h = le::wide(hashes[j]);
         let k = hash::bucket(h, buckets.len());
-        let r = near::probe_near(b, s, segments, buckets, k, h, le::wide(estimate[j]));
-        low[j] = r;
+        let told = near::probe_near(b, s, segments, buckets, k, h, le::wide(estimate[j]));
+        low[j] = told.unwrap_or(0);
         which[m] = j;
-        if r == near::NOT_TOLD {
+        if told.is_none() {
             m += 1;
         }
-        j += 1;
     }
     m
 }

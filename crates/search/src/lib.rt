@@ -32,10 +32,7 @@ fn expected(n: usize, h: usize, g: usize, w: usize) -> usize
     ensures { result < n }
 {
     let r = g + (((h + 4294967296 - w) * n) >> 32);
-    if r < n {
-        return 0;
-    }
-    if r - n < n { r - n } else { n - 1 }
+    r.saturating_sub(n).min(n - 1)
 }
 
 // The least k with 2 to the k above n.

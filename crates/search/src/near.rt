@@ -1,53 +1,17 @@
 // The search of a bucket from a guess: where that is good, eight entries tell.
-ghost use Rattle.std.specs.Prelude.{◌≡◌, ◌+◌, ◌≤◌, ◌<◌, length};
+ghost use Rattle.std.specs.Prelude.{◌≡◌, ℕ, ◌+◌, ◌≤◌, ◌<◌, length, IfSome};
 ghost use Rattle.verdict.specs.inner.Tells.{Tells};
 ghost use Rattle.layout.specs.Table.{entries, hash_of};
 ghost use Rattle.strings.specs.inner.Held.{Held, held_table};
-ghost use Rattle.search.specs.inner.LowerBound.{Near, count_below, or_last, count_few, Settled};
+ghost use Rattle.search.specs.inner.LowerBound.{Near, count_few, Settled};
 
 use region::SAMPLES;
 use strings::{Strings, entry, fields};
 
-// No place in a bucket: the entries that were read do not tell.
-pub const NOT_TOLD: usize = 4294967295;
-
-// How many of the eight entries of bucket k from entry w on have hashes below h. Where hashes ascend these come first. All are counted, since
-// a branch for each would be mispredicted.
-fn count_below(
-    b: &[u8],
-    s: Strings,
-    segments: &[u32; SAMPLES],
-    buckets: &[u32],
-    k: usize,
-    h: usize,
-    w: usize,
-) -> usize
-    requires { Held b.now s segments.now buckets.now × (k < length buckets.now)
-        × (w + 8 ≤ entries (held_table b.now s buckets.now) k) }
-    ensures { (result ≡ count_below (hash_of (held_table b.now s buckets.now) k) h w 8) × (result ≤ 8) }
-{
-    let mut c = 0usize;
-    let mut i = 0;
-    while i < 8 {
-        let e = entry::entry_at(b, s, segments, buckets, k, w + i);
-        if fields::hash(b, e) < h {
-            c += 1;
-        }
-        i += 1;
-    }
-    c
-}
-
-// Entry i of n, or the last one.
-fn or_last(i: usize, n: usize) -> usize
-    requires { 1 ≤ n }
-    ensures { result ≡ or_last i n }
-{
-    if i < n { i } else { n - 1 }
-}
-
-// How many of the n entries of bucket k, one to eight, have hashes below h. Eight are read, the last one as often as it takes: a loop whose
-// length differs from bucket to bucket would be mispredicted.
+// How many of the m entries of bucket k from entry w on, one to eight, have hashes below h. Where hashes ascend these come first. Eight are
+// read and counted, the last one as often as it takes: a loop whose length differs from bucket to bucket would be mispredicted, and so would
+// a branch for each. Inlined, since of eight none is the last one more than once.
+#[inline(always)]
 fn count_few(
     b: &[u8],
     s: Strings,
@@ -55,30 +19,21 @@ fn count_few(
     buckets: &[u32],
     k: usize,
     h: usize,
-    n: usize,
+    w: usize,
+    m: usize,
 ) -> usize
-    requires { Held b.now s segments.now buckets.now × (k < length buckets.now)
-        × (n ≡ entries (held_table b.now s buckets.now) k) × (1 ≤ n) }
-    ensures { result ≡ count_few (hash_of (held_table b.now s buckets.now) k) h n }
+    requires { Held b.now s segments.now buckets.now × (k < length buckets.now) × (1 ≤ m)
+        × (w + m ≤ entries (held_table b.now s buckets.now) k) }
+    ensures { (result ≡ count_few (λ (i : ℕ). hash_of (held_table b.now s buckets.now) k (w + i)) h m) × (result ≤ m) }
 {
     let mut c = 0usize;
-    let mut i = 0;
-    while i < 8 {
-        let e = entry::entry_at(b, s, segments, buckets, k, or_last(i, n));
+    for i in 0..8 {
+        let e = entry::entry_at(b, s, segments, buckets, k, w + (m - 1).min(i));
         if fields::hash(b, e) < h {
             c += 1;
         }
-        i += 1;
     }
-    if c < n { c } else { n }
-}
-
-// The first of eight entries from g on, or of the last eight of n.
-pub fn window(g: usize, n: usize) -> usize
-    requires { 8 ≤ n }
-    ensures { result + 8 ≤ n }
-{
-    if g < n - 8 { g } else { n - 8 }
+    c.min(m)
 }
 
 // Whether it is known where h stands among n entries, when c of the eight from w on are below it: no entries are in doubt before these, and none
@@ -92,7 +47,7 @@ fn settled(w: usize, c: usize, n: usize) -> bool
     before + behind == 0
 }
 
-// Where h stands in bucket k, if eight entries from g on tell; NOT_TOLD if they do not. Any guess works; a close one saves the halving.
+// Where h stands in bucket k, if eight entries from g on tell, or the last eight. Any guess works; a close one saves the halving.
 pub fn probe_near(
     b: &[u8],
     s: Strings,
@@ -101,21 +56,18 @@ pub fn probe_near(
     k: usize,
     h: usize,
     g: usize,
-) -> usize
+) -> Option<usize>
     requires { Held b.now s segments.now buckets.now × (k < length buckets.now) }
-    ensures { (result ≡ 4294967295 → ⊥) → Near (held_table b.now s buckets.now) k h result }
+    ensures { IfSome result (λ r. Near (held_table b.now s buckets.now) k h r) }
 {
     let n = entry::entry_count(b, s, segments, buckets, k);
     if n == 0 {
-        return 0;
+        return Some(0);
     }
     if n < 8 {
-        return count_few(b, s, segments, buckets, k, h, n);
+        return Some(count_few(b, s, segments, buckets, k, h, 0, n));
     }
-    let w = window(g, n);
-    let c = count_below(b, s, segments, buckets, k, h, w);
-    if settled(w, c, n) {
-        return w + c;
-    }
-    NOT_TOLD
+    let w = g.min(n - 8);
+    let c = count_few(b, s, segments, buckets, k, h, w, 8);
+    settled(w, c, n).then_some(w + c)
 }

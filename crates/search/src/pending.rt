@@ -82,20 +82,15 @@ fn halve_all(
         × AllSearching (held_table b.now s buckets.now) hashes.now n low.old high.old }
     ensures { AllSearching (held_table b.now s buckets.now) hashes.now n low.new high.new }
 {
-    let mut more = true;
-    let mut left = crate::MOST_ROUNDS;
-    while more {
-        if left == 0 {
-            return;
-        }
-        left -= 1;
-        more = false;
-        let mut j = 0;
-        while j < n {
+    for _ in 0..crate::MOST_ROUNDS {
+        let mut more = false;
+        for j in 0..n {
             if advance(b, s, segments, buckets, hashes, low, high, j) {
                 more = true;
             }
-            j += 1;
+        }
+        if !more {
+            return;
         }
     }
 }
@@ -126,10 +121,8 @@ fn gather(hashes: &[u32; 64], which: &[usize; 64], m: usize, rest: &mut [u32; 64
     requires { (length hashes.now ≡ 64) × ListedBelow 64 m which.now × (length rest.old ≡ 64) }
     ensures { Gathered hashes.now which.now m rest.new }
 {
-    let mut i = 0;
-    while i < m {
+    for i in 0..m {
         rest[i] = hashes[which[i]];
-        i += 1;
     }
 }
 
@@ -147,12 +140,10 @@ fn begin_each(
     requires { Held b.now s segments.now buckets.now × (n ≤ 64) × Lengths hashes.now low.old high.old }
     ensures { AllSearching (held_table b.now s buckets.now) hashes.now n low.new high.new }
 {
-    let mut j = 0;
-    while j < n {
+    for j in 0..n {
         let k = hash::bucket(le::wide(hashes[j]), buckets.len());
         low[j] = 0;
         high[j] = entry::entry_count(b, s, segments, buckets, k);
-        j += 1;
     }
 }
 
@@ -173,10 +164,8 @@ pub fn find_all(
     let mut hi = [0usize; 64];
     begin_each(b, s, segments, buckets, hashes, n, &mut lo, &mut hi);
     halve_all(b, s, segments, buckets, hashes, n, &mut lo, &mut hi);
-    let mut j = 0;
-    while j < n {
+    for j in 0..n {
         low[j] = finish(b, s, segments, buckets, le::wide(hashes[j]), lo[j], hi[j]);
-        j += 1;
     }
 }
 
@@ -200,9 +189,7 @@ pub fn find_rest(
     gather(hashes, which, m, &mut rest);
     let mut found = [0usize; 64];
     find_all(b, s, segments, buckets, &rest, m, &mut found);
-    let mut i = 0;
-    while i < m {
+    for i in 0..m {
         low[which[i]] = found[i];
-        i += 1;
     }
 }

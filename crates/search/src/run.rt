@@ -29,8 +29,7 @@ pub fn run_has(
     ensures { Meets (held_table b.now s buckets.now) k h field w result }
 {
     let n = entry::entry_count(b, s, segments, buckets, k);
-    let mut j = low;
-    while j < n {
+    for j in low..n {
         let e = entry::entry_at(b, s, segments, buckets, k, j);
         if fields::hash(b, e) != h {
             return false;
@@ -38,7 +37,6 @@ pub fn run_has(
         if le::u32_at(b, e + field) == w {
             return true;
         }
-        j += 1;
     }
     false
 }

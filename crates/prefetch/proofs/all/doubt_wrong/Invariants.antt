@@ -1,4 +1,3 @@
-use Prim.Native.Nat.{◌-◌}
 use mathlib.Core.Path.{◌≡◌}
 use lib.ListN.{length}
 use Rattle.memo.specs.inner.Memo.{Remembers}
@@ -9,6 +8,3 @@ use Rattle.prefetch.proofs.all.doubt_wrong.Given as goal
 
 abbrev pub invariant-loop-j : goal.invariant-loop-j
 invariant-loop-j l = (length l.doubts ≡ 4096) × Examined Bits64 l.b l.slots l.j l.initial.doubts l.doubts × Remembers (noted l.b) l.memo
-
-abbrev pub decreases-loop-j : goal.decreases-loop-j
-decreases-loop-j l = l.n - l.j

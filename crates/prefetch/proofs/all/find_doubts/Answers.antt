@@ -15,22 +15,22 @@ use Rattle.prefetch.proofs.all.find_doubts.Goals.{After-used_count-used, In-loop
 
 -- the segment that a turn is at lies in the file, and so does its used part
 turn : (c : In-loop-seg) → let at = c.loop-seg.at in at + 8 + u32_at c.args.b.now at * attribute_size Bits64 ≤ length c.args.b.now
-turn c = segment_in Bits64 _ c.requires.tables.5 _ _ c.loop-seg-test.true c.loop-seg.invariant.1
+turn c = segment_in Bits64 _ c.requires.tables.5 _ _ c.loop-seg-test.true c.loop-seg.invariant.0
 
 row : (c : After-used_count-used) → c.loop-seg.at + 8 + c.used_count-used.result * attribute_size Bits64 ≤ length c.args.b.now
-row c = row_in Bits64 _ c.requires.tables.5 _ _ c.loop-seg-test.true c.loop-seg.invariant.1 _ c.used_count-used.ensures.0
+row c = row_in Bits64 _ c.requires.tables.5 _ _ c.loop-seg-test.true c.loop-seg.invariant.0 _ c.used_count-used.ensures.0
 
 pub first_start-at-requires : goal.first_start-at-requires
 first_start-at-requires c = let w = c.requires.tables.5 in omega (arith, w.laid.head, w.at_is, w.short)
 
 pub loop-seg-init : goal.loop-seg-init
-loop-seg-init c = (omega arith, rows_start Bits64 _ c.requires.tables.5 _ c.first_start-at.ensures, refl, c.requires.doubts_len.0, λ z. c.requires.doubts_len.1, rows_none Bits64 _ _, c.requires.tables.6)
+loop-seg-init c = (rows_start Bits64 _ c.requires.tables.5 _ c.first_start-at.ensures, refl, c.requires.doubts_len.0, λ z. c.requires.doubts_len.1, rows_none Bits64 _ _, c.requires.tables.6)
 
 pub used_count-used-requires : goal.used_count-used-requires
 used_count-used-requires c = omega (arith, turn (goal.at.used_count-used-requires c).In-loop-seg)
 
 pub loop-el-init : goal.loop-el-init
-loop-el-init c = let i = c.loop-seg.invariant in (omega arith, i.2, i.3, i.4, i.5, below_none _, i.6)
+loop-el-init c = let i = c.loop-seg.invariant in (omega arith, i.1, i.2, i.3, i.4, below_none _, i.5)
 
 pub overflow_add-at : goal.overflow_add-at
 overflow_add-at c = record { fits = omega (arith, turn (goal.at.overflow_add-at c).In-loop-seg) }
@@ -59,8 +59,8 @@ next_start-at-requires c = turn (goal.at.next_start-at-requires c).In-loop-seg
 pub loop-seg-preserved : goal.loop-seg-preserved
 loop-seg-preserved c = let i = c.loop-seg.invariant in
     let j = c.loop-el.invariant in
-    (omega arith, start_more (attribute_size Bits64) _ _ _ _ _ _ refl i.1 c.next_start-at.ensures, j.1, j.2, j.3, rows_more Bits64 _ _ _ _ _ _ j.4 i.1 (used-at _ _ _ _ _ _ i.1 c.used_count-used.ensures.0) c.loop-el-test.false j.5, j.6)
+    (start_more (attribute_size Bits64) _ _ _ _ _ _ refl i.0 c.next_start-at.ensures, j.1, j.2, j.3, rows_more Bits64 _ _ _ _ _ _ j.4 i.0 (used-at _ _ _ _ _ _ i.0 c.used_count-used.ensures.0) c.loop-el-test.false j.5, j.6)
 
 pub returns : goal.returns
 returns c = let i = c.loop-seg.invariant in
-    record { answer = i.4; doubts = rows_all Bits64 _ _ _ i.5 (omega (arith, c.loop-seg-test.false, c.requires.tables.5.count_is)); memo = i.6 }
+    record { answer = i.3; doubts = rows_all Bits64 _ _ _ i.4 (omega (arith, c.loop-seg-test.false, c.requires.tables.5.count_is)); memo = i.5 }

@@ -13,13 +13,10 @@ use Rattle.nodes.specs.inner.Noted.{noted}
 use Rattle.prefetch.proofs.all.find_doubts.Given as goal
 
 abbrev pub invariant-loop-el : goal.invariant-loop-el
-invariant-loop-el l = (l.el ≤ l.used) × (length l.slots ≡ 64) × (length l.doubts ≡ 4096) × Sure (NoDoubt l.doubts) l.known × RowsTrusted Bits64 l.b l.doubts l.seg × ((i : ℕ) → i < l.el → Trusted Bits64 l.b l.doubts (l.at + 8 + i * attribute_size Bits64)) × Remembers (noted l.b) l.memo
+invariant-loop-el l = (l.el ≤ l.used) × (length l.slots ≡ 64) × (length l.doubts ≡ 4096) × Sure (NoDoubt l.doubts) l.known × RowsTrusted Bits64 l.b l.doubts l._seg × ((i : ℕ) → i < l.el → Trusted Bits64 l.b l.doubts (l.at + 8 + i * attribute_size Bits64)) × Remembers (noted l.b) l.memo
 
 abbrev pub decreases-loop-el : goal.decreases-loop-el
 decreases-loop-el l = l.used - l.el
 
 abbrev pub invariant-loop-seg : goal.invariant-loop-seg
-invariant-loop-seg l = (l.seg ≤ l.attributes.count) × (l.at ≡ start_of (attribute_size Bits64) l.b (attributes_at l.b) l.seg) × (length l.slots ≡ 64) × (length l.doubts ≡ 4096) × Sure (NoDoubt l.doubts) l.known × RowsTrusted Bits64 l.b l.doubts l.seg × Remembers (noted l.b) l.memo
-
-abbrev pub decreases-loop-seg : goal.decreases-loop-seg
-decreases-loop-seg l = l.attributes.count - l.seg
+invariant-loop-seg l = (l.at ≡ start_of (attribute_size Bits64) l.b (attributes_at l.b) l._seg) × (length l.slots ≡ 64) × (length l.doubts ≡ 4096) × Sure (NoDoubt l.doubts) l.known × RowsTrusted Bits64 l.b l.doubts l._seg × Remembers (noted l.b) l.memo

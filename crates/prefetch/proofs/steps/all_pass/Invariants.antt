@@ -2,11 +2,7 @@ use Rattle.verdict.specs.inner.Tells.{Sure}
 use Rattle.memo.specs.inner.Memo.{Remembers}
 use Rattle.prefetch.specs.inner.Batch.{AllHashed, AllBehind}
 use Rattle.nodes.specs.inner.Noted.{noted}
-use Prim.Native.Nat.{◌-◌}
 use Rattle.prefetch.proofs.steps.all_pass.Given as goal
 
 abbrev pub invariant-loop-j : goal.invariant-loop-j
 invariant-loop-j l = AllHashed l.b l.slots l.j l.at l.left × Sure (AllBehind l.b l.slots l.j l.at) l.packed × Remembers (noted l.b) l.memo
-
-abbrev pub decreases-loop-j : goal.decreases-loop-j
-decreases-loop-j l = l.n - l.j

@@ -1,24 +1,16 @@
-use mathlib.Core.Path.{refl}
-use Rattle.search.proofs.Groups.{low_read}
-use borrow.Author.Count.{below_none, below_more}
-use Rattle.verdict.proofs.Laws.{unsure}
-use Rattle.prefetch.proofs.Rights.{found_at}
+use Prim.Native.Nat.{ℕ}
+use lib.ListN.{get_or}
+use borrow.Author.Rules.{rules}
 use native.Mathlib.Omega.{arith}
+use Rattle.std.proofs.lemmas.Iterator.{cases_from_all, YieldsList-from_range}
+use Rattle.strings.specs.Rules.{EntryAddress}
+use Rattle.strings.specs.inner.Held.{held_table}
+use Rattle.nodes.specs.Attribute.{text_segment, text_element}
+use Rattle.prefetch.proofs.Rights.{found_at, sure_below}
 use Rattle.prefetch.proofs.steps.find_entries.Goals as goal
 
-pub loop-j-init : goal.loop-j-init
-loop-j-init c = below_none _
-
-pub found-requires : goal.found-requires
-found-requires c = let p = c.requires in
-    let l = c.loop-j-test.true in
-    (p.0, p.1, low_read p.6 _ l c.wide-in-loop-j.ensures.0 refl, omega (arith, c.wide.ensures.0, p.2 _ l))
-
-pub returns-then-not-found : goal.returns-then-not-found
-returns-then-not-found c = unsure
-
-pub loop-j-preserved : goal.loop-j-preserved
-loop-j-preserved c = below_more _ _ c.loop-j.invariant (found_at _ _ c.wide.ensures.0 (c.found.ensures c.if-not-found.false))
-
 pub returns : goal.returns
-returns c = λ z i l. c.loop-j.invariant i (omega (arith, c.loop-j-test.false))
+returns c =
+    let g = c.args in
+    let Yes : ℕ → Type 0 = λ x. EntryAddress (held_table g.b.now g.s g.buckets.now) (text_segment g.b.now (get_or g.slots.now x 0)) (text_element g.b.now (get_or g.slots.now x 0)) in
+    sure_below _ _ _ (cases_from_all _ _ _ Yes (λ x. Unit {0}) c.all.ensures.ran (YieldsList-from_range 0 g.n g.n (cc) (omega arith)) (λ x q k. search (rules, found_at)) (λ x q k. tt))

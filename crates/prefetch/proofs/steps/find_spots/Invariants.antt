@@ -1,11 +1,7 @@
 use Rattle.prefetch.specs.inner.Batch.{AllSpots, AllFit}
 use lib.ListN.{length}
 use mathlib.Core.Path.{◌≡◌}
-use Prim.Native.Nat.{◌-◌}
 use Rattle.prefetch.proofs.steps.find_spots.Given as goal
 
 abbrev pub invariant-loop-j : goal.invariant-loop-j
 invariant-loop-j l = (length l.at ≡ 64) × (length l.left ≡ 64) × AllSpots l.b l.chars.at l.slots l.j l.at l.left × AllFit l.b l.j l.at l.left
-
-abbrev pub decreases-loop-j : goal.decreases-loop-j
-decreases-loop-j l = l.n - l.j

@@ -1,11 +1,7 @@
 use Rattle.prefetch.specs.inner.Batch.{AllSeen}
 use lib.ListN.{length}
 use mathlib.Core.Path.{◌≡◌}
-use Prim.Native.Nat.{◌-◌}
 use Rattle.prefetch.proofs.steps.load_before.Given as goal
 
 abbrev pub invariant-loop-j : goal.invariant-loop-j
 invariant-loop-j l = (length l.seen ≡ 64) × AllSeen l.b l.j l.at l.seen
-
-abbrev pub decreases-loop-j : goal.decreases-loop-j
-decreases-loop-j l = l.n - l.j

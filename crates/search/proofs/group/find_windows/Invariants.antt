@@ -1,9 +1,5 @@
-use Prim.Native.Nat.{◌-◌}
 use Rattle.search.specs.inner.Group.{Estimated, Within}
 use Rattle.search.proofs.group.find_windows.Given as goal
 
 abbrev pub invariant-loop-j : goal.invariant-loop-j
-invariant-loop-j l = Estimated l.b l.j l.estimate l.first × Within l.b l.j l.last
-
-abbrev pub decreases-loop-j : goal.decreases-loop-j
-decreases-loop-j l = l.n - l.j
+invariant-loop-j g l = Estimated l.b l.j l.estimate l.first × Within l.b l.j l.last

@@ -1,22 +1,20 @@
-use Rattle.search.proofs.Searches.{looked_none, looked_upto, looked_told, looked_not}
+use Rattle.search.proofs.Searches.{held, looked_none, looked_upto, looked_told, looked_not}
 use native.Mathlib.Omega.{arith}
 use Rattle.search.proofs.group.probe_each.Goals as goal
-use Rattle.search.proofs.group.probe_each.Goals.{then-r-eq-NOT_TOLD, else-r-eq-NOT_TOLD}
+use Rattle.search.proofs.group.probe_each.Goals.{then-is_none, else-is_none}
 
 pub loop-j-init : goal.loop-j-init
-loop-j-init c = let p = c.requires.3 in (omega arith, looked_none _ _ _ _ p.second p.third)
+loop-j-init c = let p = c.requires.3 in looked_none _ _ _ _ p.second p.third
 
 pub loop-j-preserved : goal.loop-j-preserved
-loop-j-preserved c = let w = c.loop-j.invariant.1 in
+loop-j-preserved c = let w = c.loop-j.invariant in
     let l = c.loop-j-test.true in
-    let n = c.requires.1 in (
-      omega (arith, l),
-      elim c.if-r-eq-NOT_TOLD.branch [
-        | then-r-eq-NOT_TOLD z ↦ rw z.m-is (looked_not _ _ _ _ _ _ w (omega (arith, l, n)) _)
-        | else-r-eq-NOT_TOLD z ↦ rw z.m-is (looked_told _ _ _ _ _ _ w (omega (arith, l, n)) _ _ _ c.wide-h.ensures.0
-            c.bucket-k.ensures.0 (c.probe_near-r.ensures z.if-r-eq-NOT_TOLD.false))
-      ],
-    )
+    let n = c.requires.1 in
+    elim c.if-is_none.branch [
+      | then-is_none z ↦ rw z.m-is (looked_not _ _ _ _ _ _ w (omega (arith, l, n)) _)
+      | else-is_none z ↦ rw z.m-is (looked_told _ _ _ _ _ _ w (omega (arith, l, n)) _ _ _ c.wide-h.ensures.0
+          c.bucket-k.ensures.0 (held _ _ _ c.probe_near-told.ensures c.unwrap_or.ensures c.is_none.ensures z.if-is_none.false))
+    ]
 
 pub returns : goal.returns
-returns c = let i = c.loop-j.invariant in looked_upto _ _ _ _ _ _ _ i.1 _ c.loop-j-test.false i.0
+returns c = let l = c.loop-j in looked_upto _ _ _ _ _ _ _ l.invariant _ c.loop-j-test.false l.auto.j-end

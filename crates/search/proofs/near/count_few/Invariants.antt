@@ -1,4 +1,4 @@
-use Prim.Native.Nat.{ℕ, ◌-◌}
+use Prim.Native.Nat.{ℕ, ◌+◌}
 use Rattle.layout.specs.Table.{hash_of}
 use Rattle.strings.specs.inner.Held.{held_table}
 use Rattle.search.specs.inner.LowerBound.{or_last}
@@ -6,7 +6,4 @@ use Rattle.search.proofs.Nearby.{Counting}
 use Rattle.search.proofs.near.count_few.Given as goal
 
 abbrev pub invariant-loop-i : goal.invariant-loop-i
-invariant-loop-i l = Counting (λ (m : ℕ). hash_of (held_table l.b l.s l.buckets) l.k (or_last m l.n)) l.h 0 8 l.i l.c
-
-abbrev pub decreases-loop-i : goal.decreases-loop-i
-decreases-loop-i l = 8 - l.i
+invariant-loop-i l = Counting (λ (i : ℕ). hash_of (held_table l.b l.s l.buckets) l.k (l.w + or_last i l.m)) l.h l.i l.c

@@ -1,4 +1,3 @@
-use Prim.Native.Nat.{◌-◌}
 use Rattle.strings.specs.inner.Held.{held_table}
 use Rattle.search.specs.inner.Group.{AllSearching}
 use Rattle.search.proofs.pending.halve_all.Given as goal
@@ -6,11 +5,5 @@ use Rattle.search.proofs.pending.halve_all.Given as goal
 abbrev pub invariant-loop-j : goal.invariant-loop-j
 invariant-loop-j l = AllSearching (held_table l.b l.s l.buckets) l.hashes l.n l.low l.high
 
-abbrev pub decreases-loop-j : goal.decreases-loop-j
-decreases-loop-j l = l.n - l.j
-
-abbrev pub invariant-loop-more : goal.invariant-loop-more
-invariant-loop-more l = AllSearching (held_table l.b l.s l.buckets) l.hashes l.n l.low l.high
-
-abbrev pub decreases-loop-more : goal.decreases-loop-more
-decreases-loop-more l = l.left
+abbrev pub invariant-loop : goal.invariant-loop
+invariant-loop l = AllSearching (held_table l.b l.s l.buckets) l.hashes l.n l.low l.high
