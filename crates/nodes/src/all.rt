@@ -44,13 +44,11 @@ pub fn check_nodes(
         return Verdict::Refused(16, nodes.at);
     }
     let mut fault = Verdict::Accepted;
-    let mut seg = 0;
-    'segments: while seg < nodes.count {
-        let used = region::used_count(b, at);
-        let mut x = at + SEGMENT_HEADER;
-        let mut el = 0;
-        while el < used {
-            match node::check_node(
+    'segments: for seg in 0..nodes.count {
+        let first = at + SEGMENT_HEADER;
+        for el in 0..region::used_count(b, at) {
+            let x = first + el * NODE_SIZE;
+            fault = node::check_node(
                 b,
                 t,
                 p,
@@ -65,18 +63,12 @@ pub fn check_nodes(
                 known,
                 doubts,
                 memo,
-            ) {
-                Verdict::Accepted => {}
-                Verdict::Refused(num, place) => {
-                    fault = Verdict::Refused(num, place);
-                    break 'segments;
-                }
+            );
+            if let Verdict::Refused(_, _) = fault {
+                break 'segments;
             }
-            x += NODE_SIZE;
-            el += 1;
         }
         at = region::next_start(b, at, NODE_SIZE);
-        seg += 1;
     }
     fault
 }

@@ -162,8 +162,7 @@ pub fn check_attributes(
     ensures answer { result ≡ first_fault (node_attribute_checks Bits64 b.now p) }
     ensures memo { Remembers (noted b.now) memo.new }
 {
-    let mut i = 0;
-    while i < n {
+    for i in 0..n {
         let q = a + i * ATTRIBUTE_SIZE;
         if !attribute_right(b, names, p, i, q) {
             return Verdict::Refused(18, q);
@@ -171,7 +170,6 @@ pub fn check_attributes(
         if !text_passes(b, t, s, segments, buckets, q, known, doubts, memo) {
             return Verdict::Refused(19, q);
         }
-        i += 1;
     }
     Verdict::Accepted
 }

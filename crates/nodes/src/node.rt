@@ -62,8 +62,7 @@ fn rising(b: &[u8], q: usize, n: usize) -> bool
     ensures { Tells (NamesRise Bits64 b.now q n) result }
 {
     let mut last = 0;
-    let mut i = 0;
-    while i < n {
+    for i in 0..n {
         let name = fields::node_name(b, q + i * NODE_SIZE);
         if name != 0 {
             if name < last {
@@ -71,7 +70,6 @@ fn rising(b: &[u8], q: usize, n: usize) -> bool
             }
             last = name;
         }
-        i += 1;
     }
     true
 }
