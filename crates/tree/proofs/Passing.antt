@@ -5,8 +5,7 @@ use mathlib.Core.Path.{◌≡◌, refl, sym, ap, subst, ◌∙◌}
 use mathlib.Core.Bool.{Bool, true, false}
 use mathlib.Core.Logic.{◌⊎◌, inl, inr, ⊎_elim}
 use mathlib.Core.List.{List}
-use lib.ListN.{length, drop, replicate}
-use Rattle.laws.specs.inner.Lists.{splice}
+use lib.ListN.{length, drop}
 use Rattle.le.specs.Le.{u32_at}
 use Rattle.verdict.specs.Checks.{first_fault}
 use Rattle.verdict.specs.declared.Verdict.{Verdict}
@@ -23,12 +22,13 @@ use Rattle.nodes.specs.Node.{node_at}
 use Rattle.nodes.specs.Rules.{NodesRules}
 use Rattle.tree.specs.File.{address, node_of, tree_of, used_node_count}
 use Rattle.tree.specs.Order.{all_range_checks}
-use Rattle.tree.specs.Marks.{marked}
+use Rattle.tree.specs.Marks.{cleared, marked}
 use Rattle.tree.specs.Outcome.{workspace_after}
 use Rattle.tree.specs.inner.Marking.{MarkedOne}
 use Rattle.tree.proofs.Addresses.{node-of, small-element, used-of}
 use Rattle.tree.proofs.Left.{segments_left, nodes_left, left_start, left_none, left_open, left_next, left_more, left_stop}
-use Rattle.tree.proofs.Marking.{Marks, marks_start, marks_segment, free-rule, rule-free, marks_node, marks_end, marked-same, clear_same, clear_rest}
+use Rattle.tree.proofs.Marking.{Marks, marks_start, marks_segment, free-rule, rule-free, marks_node, marks_end, marked-same}
+use Rattle.tree.proofs.Cleared.{cleared-rest, cleared-same}
 
 -- the nodes before segment seg are passed, which starts at offset at; ws was the workspace before them and w is now
 pub record AtSegment (ed : Edition) (b ws : List ℕ) (seg at : ℕ) (w : List ℕ) : Type 0 where
@@ -72,7 +72,7 @@ module _ (ed : Edition) (b ws : List ℕ) where
   }
 
 module _ (ed : Edition) (b ws : List ℕ) (room : used_node_count ed b ≤ length ws) where
-  pub pass_start : (at r : ℕ) (w : List ℕ) → at ≡ r + 4 → r ≡ nodes_at ed b → w ≡ splice ws 0 (replicate (used_node_count ed b) 0) → AtSegment ed b w 0 at w
+  pub pass_start : (at r : ℕ) (w : List ℕ) → at ≡ r + 4 → r ≡ nodes_at ed b → w ≡ cleared ed b ws → AtSegment ed b (cleared ed b ws) 0 at w
   unfolding start_of
   pass_start at r w e h q = record {
     low = omega arith;
@@ -133,23 +133,19 @@ module _ (ed : Edition) (b ws : List ℕ) (room : used_node_count ed b ≤ lengt
             way = inr (p, refl);
           }
 
-  -- what the answer leaves in the workspace; w0 is the cleared workspace
-  module _ (w0 w : List ℕ) (fault : Verdict) (q : w0 ≡ splice ws 0 (replicate (used_node_count ed b) 0)) (h : Passed ed b w0 fault w) where
-    rest_is : drop (used_node_count ed b) w ≡ drop (used_node_count ed b) ws
-    rest_is = h.rest ∙ ap (drop (used_node_count ed b)) q ∙ clear_rest ed b ws room
+-- what the answer leaves in the workspace
+module _ (ed : Edition) (b ws w : List ℕ) (fault : Verdict) (h : Passed ed b (cleared ed b ws) fault w) where
+  pub left_refused : (n p : ℕ) (v : List ℕ) → fault ≡ Refused n p → v ≡ cleared ed b w → v ≡ workspace_after ed b ws (first_fault (all_range_checks ed b))
+  unfolding workspace_after
+  left_refused n p v f s =
+      ⊎_elim (λ y. absurd (never f y.0))
+      (λ y. s ∙ cleared-same ed b w ws (h.rest ∙ cleared-rest ed b ws) ∙ ap (workspace_after ed b ws) (sym y.1 ∙ h.answer))
+      h.way
 
-    pub left_refused : (n p : ℕ) (v : List ℕ) → fault ≡ Refused n p → v ≡ splice w 0 (replicate (used_node_count ed b) 0)
-        → v ≡ workspace_after ed b ws (first_fault (all_range_checks ed b))
-    unfolding workspace_after
-    left_refused n p v f s =
-        ⊎_elim (λ y. absurd (never f y.0))
-        (λ y. s ∙ clear_same ed b w ws rest_is ∙ ap (workspace_after ed b ws) (sym y.1 ∙ h.answer))
-        h.way
-
-    pub left_accepted : fault ≡ Accepted → w ≡ workspace_after ed b ws (first_fault (all_range_checks ed b))
-    unfolding workspace_after
-    left_accepted f =
-        ⊎_elim
-        (λ y. y.1 ∙ marked-same ed b w0 ws (ap (drop (used_node_count ed b)) q ∙ clear_rest ed b ws room) ∙ ap (workspace_after ed b ws) (sym f ∙ h.answer))
-        (λ y. absurd (never y.1 f))
-        h.way
+  pub left_accepted : fault ≡ Accepted → w ≡ workspace_after ed b ws (first_fault (all_range_checks ed b))
+  unfolding workspace_after
+  left_accepted f =
+      ⊎_elim
+      (λ y. y.1 ∙ marked-same ed b (cleared ed b ws) ws (cleared-rest ed b ws) ∙ ap (workspace_after ed b ws) (sym f ∙ h.answer))
+      (λ y. absurd (never y.1 f))
+      h.way

@@ -32,15 +32,13 @@ pub fn find_deep(
         return Found::At(p);
     }
     let k = ranges::children_of(b, nodes, segments, p);
-    let mut j = 0;
-    while j < k.count {
+    for j in 0..k.count {
         let c = k.place + j * NODE_SIZE;
         if fields::node_name(b, c) != 0 {
             if let Found::At(x) = find_deep(b, nodes, segments, k.first + j, c, left - 1) {
                 return Found::At(x);
             }
         }
-        j += 1;
     }
     Found::Nothing
 }

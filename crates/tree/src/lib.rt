@@ -48,7 +48,7 @@ pub fn check_tree(
     }
     match depth::find_deep(b, nodes, segments, 0, ranges::root_at(nodes), MOST_LEVELS) {
         Found::At(p) => {
-            marks::set_range(ws, 0, used, 0);
+            ws[..used].fill(0);
             Verdict::Refused(22, p)
         }
         Found::Nothing => Verdict::Accepted,
