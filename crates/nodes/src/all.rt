@@ -38,18 +38,18 @@ pub fn check_nodes(
 {
     let nodes = p.nodes;
     if nodes.count == 0 {
-        return Verdict::Refused(16, nodes.at);
+        return Err(Refusal(Rule::Node, nodes.at));
     }
     let mut at = region::first_start(nodes);
     if region::used_count(b, at) == 0 {
-        return Verdict::Refused(16, nodes.at);
+        return Err(Refusal(Rule::Node, nodes.at));
     }
-    let mut fault = Verdict::Accepted;
+    let mut answer = Ok(());
     'segments: for seg in 0..nodes.count {
         let first = at + SEGMENT_HEADER;
         for el in 0..region::used_count(b, at) {
             let x = first + el * NODE_SIZE;
-            fault = node::check_node(
+            answer = node::check_node(
                 b,
                 t,
                 p,
@@ -65,11 +65,11 @@ pub fn check_nodes(
                 doubts,
                 memo,
             );
-            if let Verdict::Refused(_, _) = fault {
+            if answer.is_err() {
                 break 'segments;
             }
         }
         at = region::next_start(b, at, NODE_SIZE);
     }
-    fault
+    answer
 }

@@ -77,21 +77,21 @@ pub fn mark_nodes(
     ensures workspace { ws.new ≡ workspace_after Bits64 b.now ws.old (first_fault (all_range_checks Bits64 b.now)) }
 {
     ws[..used].fill(0);
-    let mut fault = Verdict::Accepted;
+    let mut answer = Ok(());
     let mut at = region::first_start(nodes);
     'segments: for seg in 0..nodes.count {
         let first = at + SEGMENT_HEADER;
         for el in 0..region::used_count(b, at) {
             let p = first + el * NODE_SIZE;
             if !mark_node(b, nodes, segments, counts, p, ws) {
-                fault = Verdict::Refused(21, p);
+                answer = Err(Refusal(Rule::ChildRange, p));
                 break 'segments;
             }
         }
         at = region::next_start(b, at, NODE_SIZE);
     }
-    if let Verdict::Refused(_, _) = fault {
+    if answer.is_err() {
         ws[..used].fill(0);
     }
-    fault
+    answer
 }

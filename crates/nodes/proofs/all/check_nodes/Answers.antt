@@ -1,8 +1,12 @@
 use Prim.Native.Nat.{◌+◌, ◌*◌, ◌≤◌}
 use native.Mathlib.Omega.{arith}
-use mathlib.Core.Path.{refl, sym, ◌∙◌}
+use mathlib.Core.Path.{◌≡◌, refl, sym, ◌∙◌}
+use Rattle.std.specs.Prelude.{Result, Ok, Err, true, false}
+use Rattle.std.specs.Result.{is_err}
 use lib.ListN.{length}
 use Rattle.le.specs.Le.{u32_at}
+use Rattle.verdict.specs.Verdict.{Accepted, answer_of, refused}
+use Rattle.verdict.specs.declared.Refusal.{Refusal}
 use Rattle.region.specs.Region.{Resolves}
 use Rattle.region.proofs.Samples.{segment-fits, start_more, used-at}
 use Rattle.layout.specs.Edition.{node_size}
@@ -12,6 +16,15 @@ use Rattle.nodes.proofs.Left.{no_segment, no_node, first-at, nodes_start, node_i
 use Rattle.nodes.proofs.Rows.{left_open, left_more, left_stop, left_next, left_none}
 use Rattle.nodes.proofs.all.check_nodes.Goals as goal
 use Rattle.nodes.proofs.all.check_nodes.Goals.{In-segments, In-loop-el}
+
+-- what a check's answer says
+passes : {T : Type 0} (r : Result T Refusal) → is_err r ≡ false → answer_of r ≡ Accepted
+passes (Ok x) e = refl
+passes (Err x) e = cc
+
+stops : {T : Type 0} (r : Result T Refusal) → is_err r ≡ true → (x : Refusal) × (answer_of r ≡ refused x)
+stops (Ok x) e = absurd (cc)
+stops (Err x) e = (x, refl)
 
 -- the segment that a turn is at lies in the file
 turn : (c : In-segments) → let b = c.args.b.now in let at = c.segments.at in at + 8 + u32_at b at * node_size Bits64 ≤ length b
@@ -45,13 +58,13 @@ pub loop-el-init : goal.loop-el-init
 loop-el-init c = let i = c.segments.invariant in
     record { none = i.none; left = i.left ∙ left_open _ _ _ _ (omega (arith, c.segments-test.true, c.requires.1.placed.nodes.count_is)); memo = i.memo }
 
-pub check_node-fault-requires : goal.check_node-fault-requires
-check_node-fault-requires c = let p = c.requires in
-    (p.0, p.1, here (goal.at.check_node-fault-requires c).In-loop-el, node-place Bits64 _ _ _ _ c.segments.invariant.at_is, p.2, p.3, c.loop-el.invariant.memo)
+pub check_node-answer-requires : goal.check_node-answer-requires
+check_node-answer-requires c = let p = c.requires in
+    (p.0, p.1, here (goal.at.check_node-answer-requires c).In-loop-el, node-place Bits64 _ _ _ _ c.segments.invariant.at_is, p.2, p.3, c.loop-el.invariant.memo)
 
 pub loop-el-preserved : goal.loop-el-preserved
-loop-el-preserved c = let w = c.check_node-fault.ensures in
-    let e = c.in_default.is in
+loop-el-preserved c = let w = c.check_node-answer.ensures in
+    let e = passes _ (cc) in
     record { none = e; left = c.loop-el.invariant.left ∙ left_more _ _ _ _ _ (here (goal.at.loop-el-preserved c).In-loop-el).el_in w.answer e; memo = w.memo }
 
 pub next_start-at-requires : goal.next_start-at-requires
@@ -71,6 +84,7 @@ pub returns-after-segments : goal.returns-after-segments
 returns-after-segments c = let i = c.segments.invariant in
     record { answer = i.none ∙ sym (i.left ∙ left_none _ _ _ _ (omega (arith, c.segments-test.false, c.requires.1.placed.nodes.count_is))); memo = i.memo }
 
-pub returns-in-Refused : goal.returns-in-Refused
-returns-in-Refused c = let w = c.check_node-fault.ensures in
-    record { answer = c.in-Refused.is ∙ sym (c.loop-el.invariant.left ∙ left_stop _ _ _ _ _ (here (goal.at.returns-in-Refused c).In-loop-el).el_in w.answer c.in-Refused.is); memo = w.memo }
+pub returns-then-is_err : goal.returns-then-is_err
+returns-then-is_err c = let w = c.check_node-answer.ensures in
+    let e = stops _ (cc) in
+    record { answer = e.1 ∙ sym (c.loop-el.invariant.left ∙ left_stop _ _ _ _ _ (here (goal.at.returns-then-is_err c).In-loop-el).el_in w.answer e.1); memo = w.memo }

@@ -5,14 +5,14 @@ use lib.ListN.{length}
 use Rattle.layout.specs.Edition.{node_size}
 use Rattle.layout.specs.declared.Edition.TheVariants.{Bits64}
 use Rattle.tree.specs.File.{tree_of}
-use Rattle.tree.specs.declared.depth.Found.TheVariants.{At}
+use Rattle.std.specs.Prelude.{Some}
 use Rattle.tree.proofs.Deepest.{deep_here, deep_open, deep_end, deep_hit, deep_miss, deep_skip}
 use Rattle.tree.proofs.Children.{node-fits, node_reached, child-name, child_fits, first_is, count_is}
 use Rattle.tree.proofs.depth.+find_deep.Goals as goal
 use Rattle.tree.proofs.depth.+find_deep.Goals.{In-loop-j, After-node_name, then-node_name-ne0+in_default, else-node_name-ne0}
 
 pub returns-then-left-eq0 : goal.returns-then-left-eq0
-returns-then-left-eq0 t c = ap At c.requires.2 ∙ sym (deep_here Bits64 _ _ _ c.if-left-eq0.true)
+returns-then-left-eq0 t c = ap Some c.requires.2 ∙ sym (deep_here Bits64 _ _ _ c.if-left-eq0.true)
 
 pub children_of-k-requires : goal.children_of-k-requires
 children_of-k-requires t c = let p = c.requires in
@@ -39,10 +39,10 @@ pub node_name-requires : goal.node_name-requires
 node_name-requires t c = omega (arith, child t (goal.at.node_name-requires t c).In-loop-j)
 
 pub returns-in-At : goal.returns-in-At
-returns-in-At t c = let l = c.loop-j in
+returns-in-Some t c = let l = c.loop-j in
     sym
     (l.invariant.1
-    ∙ deep_hit Bits64 _ _ _ _ l.j (omega arith) _ (λ z. c.if-node_name-ne0.true (named t (goal.at.returns-in-At t c).After-node_name ∙ z)) (sym c.find_deep.ensures ∙ c.in-At.is))
+    ∙ deep_hit Bits64 _ _ _ _ l.j (omega arith) _ (λ z. c.if-node_name-ne0.true (named t (goal.at.returns-in-Some t c).After-node_name ∙ z)) (sym c.find_deep.ensures ∙ c.in-At.is))
 
 pub loop-j-preserved : goal.loop-j-preserved
 loop-j-preserved t c = let l = c.loop-j in

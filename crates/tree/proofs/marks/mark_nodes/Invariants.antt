@@ -1,5 +1,5 @@
 use mathlib.Core.Path.{◌≡◌}
-use Rattle.verdict.specs.declared.Verdict.TheVariants.{Accepted}
+use Rattle.verdict.specs.Verdict.{Accepted}
 use Rattle.layout.specs.declared.Edition.TheVariants.{Bits64}
 use Rattle.tree.specs.Marks.{cleared}
 use Rattle.tree.proofs.Passing.{AtSegment, AtNode}
