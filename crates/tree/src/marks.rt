@@ -84,14 +84,12 @@ pub fn mark_nodes(
         for el in 0..region::used_count(b, at) {
             let p = first + el * NODE_SIZE;
             if !mark_node(b, nodes, segments, counts, p, ws) {
+                ws[..used].fill(0);
                 answer = Err(Refusal(Rule::ChildRange, p));
                 break 'segments;
             }
         }
         at = region::next_start(b, at, NODE_SIZE);
-    }
-    if answer.is_err() {
-        ws[..used].fill(0);
     }
     answer
 }
