@@ -45,7 +45,7 @@ pub fn children_of(b: &[u8], nodes: Region, segments: &[u32; SAMPLES], p: usize)
     if count == 0 {
         return none;
     }
-    let Place::At(place) = region::range_at(b, nodes, NODE_SIZE, segments, seg, el, count) else {
+    let Some(place) = region::range_at(b, nodes, NODE_SIZE, segments, seg, el, count) else {
         return none;
     };
     Children {
