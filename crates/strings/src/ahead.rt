@@ -26,12 +26,6 @@ pub struct PrefetchedText {
     pub from: usize,
 }
 
-pub(crate) fn least(a: usize, b: usize) -> usize
-    ensures { (result ≤ a) × (result ≤ b) × ((i : ℕ) → i < a → i < b → i < result) }
-{
-    if a < b { a } else { b }
-}
-
 // The character before the n at p, plus 65,536 times the mean of two further on, where there are so many. The mean has no meaning: the
 // two are read only so that most of a text is near, however long it is.
 pub fn touch(b: &[u8], p: usize, n: usize) -> usize
@@ -55,8 +49,8 @@ fn touch_whole(b: &[u8], p: usize, n: usize, len: usize) -> usize
         return 0;
     }
     let first = p - 2;
-    let all = least(len, n);
-    let most = least(all, 32);
+    let all = len.min(n);
+    let most = all.min(32);
     le::u16_at(b, first)
         + 65536 * (le::u16_at(b, first + 2 * all) + le::u16_at(b, first + 2 * most))
 }
@@ -97,12 +91,10 @@ fn find_text_spans(
         × (j + m ≤ entries (held_table b.now s buckets.now) k) × (m ≤ 64) × (length at.old ≡ 64) × (length left.old ≡ 64) }
     ensures { Stood (held_table b.now s buckets.now) k j m at.new left.new }
 {
-    let mut i = 0;
-    while i < m {
+    for i in 0..m {
         let w = text_span_at(b, s, segments, buckets, k, j + i);
         at[i] = w.at;
         left[i] = w.left;
-        i += 1;
     }
 }
 
@@ -125,11 +117,9 @@ fn load_ahead(
         × Stood (held_table b.now s buckets.now) k j m at.now left.now }
     ensures { SeenBefore b.now m at.now left.now seen.new }
 {
-    let mut i = 0;
-    while i < m {
+    for i in 0..m {
         let e = entry::entry_at(b, s, segments, buckets, k, j + i);
         seen[i] = touch_whole(b, at[i], left[i], fields::length(b, e));
-        i += 1;
     }
 }
 
@@ -155,7 +145,7 @@ pub(crate) fn keep_ahead(
     if j % 64 != 0 {
         return;
     }
-    let m = least(n - j, 64);
+    let m = (n - j).min(64);
     find_text_spans(b, s, segments, buckets, k, j, m, at, left);
     load_ahead(b, s, segments, buckets, k, j, m, at, left, seen);
 }

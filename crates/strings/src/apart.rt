@@ -8,7 +8,7 @@ ghost use Rattle.strings.specs.inner.Held.{Held, held_table, Here};
 ghost use Rattle.strings.specs.inner.Apart.{Apart, Fingerprinted, Collected, Met, Sifted, Clear, AwayWithin};
 
 use crate::spot::Spot;
-use crate::{Strings, ahead, entry, fields, spot};
+use crate::{Strings, entry, fields, spot};
 use region::SAMPLES;
 
 // Entries of one bucket that have different texts: those from start on, before end.
@@ -95,16 +95,15 @@ fn collect(
     ensures answer { Sifted (held_table b.now s buckets.now) k from result most }
     ensures map { Collected (held_table b.now s buckets.now) k from result map.new }
 {
-    let mut n = 0;
-    while n < most {
-        let x = fingerprint_at(b, s, segments, buckets, k, from + n);
-        if met(b, s, segments, buckets, k, from, n, from + n, x, map) {
+    for n in 0..most {
+        let j = from + n;
+        let x = fingerprint_at(b, s, segments, buckets, k, j);
+        if met(b, s, segments, buckets, k, from, n, j, x, map) {
             return n;
         }
         multimap::insert(map, n, x);
-        n += 1;
     }
-    n
+    most
 }
 
 // The first entry behind the n collected ones, before end, that may have the text of one of them; end if there is none.
@@ -124,13 +123,11 @@ fn sift(
         × Collected (held_table b.now s buckets.now) k from n map.now }
     ensures { Clear (held_table b.now s buckets.now) k from n result × (result ≤ end) }
 {
-    let mut j = from + n;
-    while j < end {
+    for j in from + n..end {
         let x = fingerprint_at(b, s, segments, buckets, k, j);
         if met(b, s, segments, buckets, k, from, n, j, x, map) {
             return j;
         }
-        j += 1;
     }
     end
 }
@@ -150,7 +147,7 @@ fn sift_some(
     ensures { Clear (held_table b.now s buckets.now) k from result.collected result.clear × (result.clear ≤ end) × (0 < result.collected) }
 {
     let mut map = [0u16; 20480];
-    let most = ahead::least(end - from, 8192);
+    let most = (end - from).min(8192);
     let collected = collect(b, s, segments, buckets, k, from, most, &mut map);
     let clear = sift(b, s, segments, buckets, k, from, collected, end, &map);
     Round { collected, clear }
@@ -193,13 +190,10 @@ fn run_start(
     requires { Held b.now s segments.now buckets.now × Here (held_table b.now s buckets.now) k j }
     ensures { result ≤ j }
 {
-    let mut i = j;
-    while i > 0 {
-        let e = entry::entry_at(b, s, segments, buckets, k, i - 1);
-        if fields::hash(b, e) != h {
-            return i;
+    for i in (0..j).rev() {
+        if entry::hash_at(b, s, segments, buckets, k, i) != h {
+            return i + 1;
         }
-        i -= 1;
     }
     0
 }
@@ -219,13 +213,10 @@ fn run_end(
         × (n ≤ entries (held_table b.now s buckets.now) k) }
     ensures { (j ≤ result) × (result ≤ n) }
 {
-    let mut i = j;
-    while i < n {
-        let e = entry::entry_at(b, s, segments, buckets, k, i);
-        if fields::hash(b, e) != h {
+    for i in j..n {
+        if entry::hash_at(b, s, segments, buckets, k, i) != h {
             return i;
         }
-        i += 1;
     }
     n
 }
@@ -255,8 +246,8 @@ pub(crate) fn span_at(
     if n - j < 64 {
         return span;
     }
-    let h = fields::hash(b, entry::entry_at(b, s, segments, buckets, k, j));
-    if fields::hash(b, entry::entry_at(b, s, segments, buckets, k, j + 63)) != h {
+    let h = entry::hash_at(b, s, segments, buckets, k, j);
+    if entry::hash_at(b, s, segments, buckets, k, j + 63) != h {
         return span;
     }
     let start = run_start(b, s, segments, buckets, k, j, h);

@@ -4,7 +4,7 @@ ghost use Rattle.verdict.specs.Checks.{first_fault};
 ghost use Rattle.verdict.specs.inner.Tells.{Tells, Sure};
 ghost use Rattle.verdict.specs.declared.Verdict.TheVariants.{Accepted};
 ghost use Rattle.hash.specs.inner.Tables.{Tables};
-ghost use Rattle.layout.specs.Table.{entry_at, entries, count, position_at, listed_segment, listed_element};
+ghost use Rattle.layout.specs.Table.{entry_at, entries, hash_of, count, position_at, listed_segment, listed_element};
 ghost use Rattle.strings.specs.Texts.{spot_at};
 ghost use Rattle.strings.specs.Rules.{Placed, Indexed, Duplicate};
 ghost use Rattle.strings.specs.Order.{entry_checks};
@@ -32,6 +32,21 @@ pub fn entry_at(
     ensures { (result ≡ entry_at (held_table b.now s buckets.now) k j) × (result + 16 ≤ length b.now) }
 {
     le::wide(buckets[k]) + BUCKET_COUNT_SIZE + ENTRY_SIZE * j
+}
+
+// The hash that entry j of bucket k tells.
+pub(crate) fn hash_at(
+    b: &[u8],
+    s: Strings,
+    segments: &[u32; SAMPLES],
+    buckets: &[u32],
+    k: usize,
+    j: usize,
+) -> usize
+    requires { Held b.now s segments.now buckets.now × Here (held_table b.now s buckets.now) k j }
+    ensures { result ≡ hash_of (held_table b.now s buckets.now) k j }
+{
+    fields::hash(b, entry_at(b, s, segments, buckets, k, j))
 }
 
 // The number of entries of bucket k: as many as fit between its start and where the next bucket starts, or the address count. The starts are
@@ -183,18 +198,14 @@ fn duplicate(
         × Sorted (held_table b.now s buckets.now) k j × Away (held_table b.now s buckets.now) k from j }
     ensures { Tells (Duplicate (held_table b.now s buckets.now) k j) result }
 {
-    let e = entry_at(b, s, segments, buckets, k, j);
-    let h = fields::hash(b, e);
-    let mut i = from;
-    while i > 0 {
-        let d = entry_at(b, s, segments, buckets, k, i - 1);
-        if fields::hash(b, d) != h {
+    let h = hash_at(b, s, segments, buckets, k, j);
+    for i in (0..from).rev() {
+        if hash_at(b, s, segments, buckets, k, i) != h {
             return false;
         }
-        if same_text(b, s, segments, buckets, k, i - 1, j) {
+        if same_text(b, s, segments, buckets, k, i, j) {
             return true;
         }
-        i -= 1;
     }
     false
 }

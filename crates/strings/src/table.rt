@@ -66,12 +66,10 @@ pub fn check_entries(
     let mut seen = [0usize; 64];
     let mut fault = Verdict::Accepted;
     let mut begun = true;
-    let mut k = 0;
-    'buckets: while k < buckets.len() {
+    'buckets: for k in 0..buckets.len() {
         let n = entry::entry_count(b, s, segments, buckets, k);
         let mut span = Span { start: 0, end: 0 };
-        let mut j = 0;
-        while j < n {
+        for j in 0..n {
             ahead::keep_ahead(
                 b, s, segments, buckets, k, n, j, &mut at, &mut left, &mut seen,
             );
@@ -92,9 +90,7 @@ pub fn check_entries(
                 }
             }
             begun = still_begun(b, s, segments, buckets, k, j, g, begun);
-            j += 1;
         }
-        k += 1;
     }
     CheckedEntries {
         answer: fault,
