@@ -1,12 +1,10 @@
 use native.Mathlib.Omega.{arith}
 use mathlib.Core.Path.{refl, sym, ◌∙◌}
 use borrow.Author.Count.{below_none, below_more}
-use Rattle.verdict.proofs.Laws.{unsure}
 use Rattle.strings.proofs.Left.{left_start, left_open, left_more, left_stop, left_next, left_none}
-use Rattle.strings.proofs.Prefetched.{near_next, near_at, ahead_none}
+use Rattle.strings.proofs.Prefetched.{near_next, ahead_none}
 use Rattle.strings.proofs.Differing.{apart_none}
-use Rattle.strings.proofs.Begun.{before_more, before-all}
-use Rattle.strings.proofs.Places.{here_in}
+use Rattle.strings.proofs.Begun.{before_more}
 use Rattle.strings.proofs.table.check_entries.Goals as goal
 
 pub buckets-init : goal.buckets-init
@@ -27,25 +25,6 @@ loop-j-init c = let b = c.buckets.invariant in record {
   apart = apart_none _ _;
 }
 
-pub check_entry-requires : goal.check_entry-requires
-check_entry-requires c = let p = c.requires in
-    let l = c.loop-j.invariant in
-    let k = c.buckets-test.true in
-    let e = here_in _ _ _ _ k c.entry_count-n.ensures c.loop-j-test.true in (
-      p.0,
-      p.1,
-      e,
-      l.passed,
-      near_at _ c.keep_ahead.ensures e.entry,
-      c.away_from.ensures.away _ _ c.span_at-span.ensures,
-      λ z. c.all_listed-right.ensures z _ k _ e.entry,
-    )
-
-pub still_begun-begun-requires : goal.still_begun-begun-requires
-still_begun-begun-requires c =
-    let e = here_in _ _ _ _ c.buckets-test.true c.entry_count-n.ensures c.loop-j-test.true in
-    (c.requires.1, e, sym c.check_entry.ensures ∙ c.in-Accepted.is, near_at _ c.keep_ahead.ensures e.entry)
-
 pub loop-j-preserved : goal.loop-j-preserved
 loop-j-preserved c = let l = c.loop-j.invariant in
     let e = sym c.check_entry.ensures ∙ c.in-Accepted.is in record {
@@ -65,12 +44,9 @@ buckets-preserved c = let l = c.loop-j.invariant in record {
   begun = λ z. before_more _ _ _ (l.begun z).0 (omega (arith, c.entry_count-n.ensures)) (l.begun z).1;
 }
 
-pub returns-after-buckets : goal.returns-after-buckets
-returns-after-buckets c = let b = c.buckets.invariant in
-    record { answer = b.accepted ∙ sym (b.rest ∙ left_none _ _ c.buckets-test.false); begun = λ z. before-all _ _ (b.begun z) c.buckets-test.false }
+pub returns-after-buckets-clause-answer : goal.returns-after-buckets-clause-answer
+returns-after-buckets-clause-answer c = let b = c.buckets.invariant in b.accepted ∙ sym (b.rest ∙ left_none _ _ c.buckets-test.false)
 
-pub returns-in-Refused : goal.returns-in-Refused
-returns-in-Refused c = record {
-  answer = sym (c.loop-j.invariant.rest ∙ left_stop _ _ _ (omega (arith, c.entry_count-n.ensures)) (sym c.check_entry.ensures ∙ c.in-Refused.is));
-  begun = unsure;
-}
+pub returns-in-Refused-clause-answer : goal.returns-in-Refused-clause-answer
+returns-in-Refused-clause-answer c =
+    sym (c.loop-j.invariant.rest ∙ left_stop _ _ _ (omega (arith, c.entry_count-n.ensures)) (sym c.check_entry.ensures ∙ c.in-Refused.is))
