@@ -7,7 +7,6 @@ ghost use Rattle.layout.specs.Table.{entries};
 ghost use Rattle.strings.specs.inner.Held.{Held, held_table, Here};
 ghost use Rattle.strings.specs.inner.Apart.{Apart, Fingerprinted, Collected, Met, Sifted, Clear, AwayWithin};
 
-use crate::spot::Spot;
 use crate::{Strings, entry, fields, spot};
 use region::SAMPLES;
 
@@ -38,18 +37,14 @@ fn fingerprint_at(
     ensures { Fingerprinted (held_table b.now s buckets.now) k j result }
 {
     let e = entry::entry_at(b, s, segments, buckets, k, j);
-    let a = spot::entry_spot(b, s.chars, segments, e);
-    let Spot::At(p, n) = a else {
+    let Some(spot) = spot::entry_spot(b, s.chars, segments, e) else {
         return 0;
     };
     let length = fields::length(b, e);
-    if length == 0 {
+    if length == 0 || length > spot.left + 1 {
         return 0;
     }
-    if length > n + 1 {
-        return 0;
-    }
-    text::fingerprint::fingerprint(b, p, length - 1)
+    text::fingerprint::fingerprint(b, spot.at, length - 1)
 }
 
 // Whether entry j, whose fingerprint is x, may have the text of one of the n collected entries, those from `from` on.
@@ -237,13 +232,7 @@ pub(crate) fn span_at(
         × (j < n) × Apart (held_table b.now s buckets.now) k span.start span.end }
     ensures { Apart (held_table b.now s buckets.now) k result.start result.end }
 {
-    if j % 64 != 0 {
-        return span;
-    }
-    if j < span.end {
-        return span;
-    }
-    if n - j < 64 {
+    if j % 64 != 0 || j < span.end || n - j < 64 {
         return span;
     }
     let h = entry::hash_at(b, s, segments, buckets, k, j);

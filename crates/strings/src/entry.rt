@@ -172,15 +172,13 @@ pub(crate) fn same_text(
     if fields::length(b, d) != fields::length(b, e) {
         return false;
     }
-    let x = spot::entry_spot(b, s.chars, segments, d);
-    let y = spot::entry_spot(b, s.chars, segments, e);
-    let Spot::At(p, m) = x else {
+    let Some(x) = spot::entry_spot(b, s.chars, segments, d) else {
         return false;
     };
-    let Spot::At(q, n) = y else {
+    let Some(y) = spot::entry_spot(b, s.chars, segments, e) else {
         return false;
     };
-    text::same(b, p, m, q, n)
+    text::same(b, x.at, x.left, y.at, y.left)
 }
 
 // What refusal 12 is given for, where the entries from `from` on are known to have other texts. Texts that are the same have one hash, and
@@ -229,15 +227,15 @@ fn check_order(
 {
     let e = entry_at(b, s, segments, buckets, k, j);
     if !placed(b, s, segments, buckets, k, j) {
-        return Verdict::Refused(10, e);
+        return Err(Refusal(Rule::EntryOrder, e));
     }
     if !listed {
-        return Verdict::Refused(11, e);
+        return Err(Refusal(Rule::EntryIndex, e));
     }
     if duplicate(b, s, segments, buckets, k, j, from) {
-        return Verdict::Refused(12, e);
+        return Err(Refusal(Rule::Duplicate, e));
     }
-    Verdict::Accepted
+    Ok(())
 }
 
 // Whether refusal 11 is not due, where that may be known already.
@@ -254,10 +252,7 @@ fn index_passes(
         × Sure (Indexed (held_table b.now s buckets.now) k j) known }
     ensures { Tells (Indexed (held_table b.now s buckets.now) k j) result }
 {
-    if known {
-        return true;
-    }
-    indexed(b, s, segments, buckets, k, j)
+    known || indexed(b, s, segments, buckets, k, j)
 }
 
 // Refusals 7 to 12 of an entry that is prefetched, where those before it in the bucket passed; 11 may be known not to be due.
@@ -274,20 +269,20 @@ pub(crate) fn check_entry(
 ) -> Result<(), Refusal>
     requires { Tables t.now × Held b.now s segments.now buckets.now × Here (held_table b.now s buckets.now) k j
         × ((i : ℕ) → i < j → first_fault (entry_checks (held_table b.now s buckets.now) k i) ≡ Accepted)
-        × Prefetched (held_table b.now s buckets.now) k j g.at g.left g.seen × Away (held_table b.now s buckets.now) k g.from j
+        × Prefetched (held_table b.now s buckets.now) k j g.spot g.seen × Away (held_table b.now s buckets.now) k g.from j
         × Sure (Indexed (held_table b.now s buckets.now) k j) listed }
     ensures { answer_of result ≡ first_fault (entry_checks (held_table b.now s buckets.now) k j) }
 {
     let e = entry_at(b, s, segments, buckets, k, j);
-    if g.left == 0 {
-        return Verdict::Refused(7, e);
-    }
-    let m = text::measure(b, t, g.at, g.left);
+    let Some(spot) = g.spot else {
+        return Err(Refusal(Rule::EntryAddress, e));
+    };
+    let m = text::measure(b, t, spot.at, spot.left);
     if fields::length(b, e) != m.length + 1 {
-        return Verdict::Refused(8, e);
+        return Err(Refusal(Rule::EntryLength, e));
     }
     if fields::hash(b, e) != m.hash {
-        return Verdict::Refused(9, e);
+        return Err(Refusal(Rule::EntryHash, e));
     }
     let right = index_passes(b, s, segments, buckets, k, j, listed);
     check_order(b, s, segments, buckets, k, j, right, g.from)
