@@ -22,13 +22,10 @@ fn key_right(b: &[u8], names: Names, k: usize) -> bool
     requires { LaidOut Bits64 b.now × Known Bits64 b.now names × (k < key_count b.now) }
     ensures { Tells (KeyRule Bits64 b.now k) result }
 {
-    let mut f = 0usize;
-    while f < 4 {
+    for f in 0..4usize {
         let name = le::u16_at(b, FIRST_KEY_AT + KEY_SIZE * k + NAME_SIZE * f);
-        if k == 0 {
-            if name != 0 {
-                return false;
-            }
+        if k == 0 && name != 0 {
+            return false;
         }
         if name > names.count {
             return false;
@@ -36,7 +33,6 @@ fn key_right(b: &[u8], names: Names, k: usize) -> bool
         if name == names.value {
             return false;
         }
-        f += 1;
     }
     true
 }
@@ -47,12 +43,10 @@ pub fn check_keys(b: &[u8], names: Names) -> Result<(), Refusal>
     ensures { answer_of result ≡ first_fault (all_key_checks Bits64 b.now) }
 {
     let n = le::u32_at(b, KEYS_AT);
-    let mut k = 0;
-    while k < n {
+    for k in 0..n {
         if !key_right(b, names, k) {
             return Verdict::Refused(15, FIRST_KEY_AT + KEY_SIZE * k);
         }
-        k += 1;
     }
     Verdict::Accepted
 }

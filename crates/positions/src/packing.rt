@@ -32,11 +32,9 @@ fn count_begun(b: &[u8], chars: Region) -> usize
 {
     let mut n = 0;
     let mut p = chars.at + 4;
-    let mut seg = 0;
-    while seg < chars.count {
+    for _seg in 0..chars.count {
         n += begun_in(b, p + 8, le::u32_at(b, p + 4));
         p = region::next_start(b, p, CHARACTER_SIZE);
-        seg += 1;
     }
     n
 }

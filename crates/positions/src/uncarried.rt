@@ -25,13 +25,11 @@ fn count_carrying_in(
 {
     let n = entry::entry_count(b, s, segments, buckets, k);
     let mut c = 0usize;
-    let mut j = 0;
-    while j < n {
+    for j in 0..n {
         let e = entry::entry_at(b, s, segments, buckets, k, j);
         if fields::index(b, e) < m {
             c += 1;
         }
-        j += 1;
     }
     c
 }
@@ -49,10 +47,8 @@ fn count_carrying(
         × (result ≤ all_entries (held_table b.now s buckets.now)) }
 {
     let mut c = 0usize;
-    let mut k = 0;
-    while k < buckets.len() {
+    for k in 0..buckets.len() {
         c += count_carrying_in(b, s, segments, buckets, k, m);
-        k += 1;
     }
     c
 }

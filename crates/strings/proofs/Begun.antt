@@ -7,13 +7,15 @@ use mathlib.Core.List.{List}
 use borrow.Author.Count.{below_more}
 use borrow.Author.Tests.{eq-eqb}
 use Rattle.verdict.proofs.Laws.{Clean}
+use Rattle.std.specs.Prelude.{Option}
 use Rattle.le.specs.Le.{u16_at}
 use Rattle.region.specs.Region.{place_of}
 use Rattle.layout.specs.Table.{Table, entries, element_of}
 use Rattle.strings.specs.inner.Begins.{begins, Begun, AllBegun}
 use Rattle.strings.specs.inner.Ahead.{Prefetched}
 use Rattle.strings.specs.Order.{entry_checks}
-use Rattle.strings.proofs.Spots.{spot_in}
+use Rattle.strings.specs.declared.spot.Spot.{Spot}
+use Rattle.strings.proofs.Spots.{spot_yes}
 use Rattle.strings.proofs.Accepted.{entry_good}
 
 module _ (b : List ℕ) (r seg : ℕ) where
@@ -30,15 +32,14 @@ module _ (b : List ℕ) (r seg : ℕ) where
   begins_behind (suc el) x e z = eq-eqb _ 0 (ap (u16_at b) (omega arith) ∙ z)
 
 -- an entry that passed, by what was read ahead of it
-module _ (t : Table) (k j : ℕ) {p n c : ℕ} (ok : Clean (entry_checks t k j)) (g : Prefetched t k j p n c) where
+module _ (t : Table) (k j : ℕ) {r : Option Spot} {c : ℕ} (ok : Clean (entry_checks t k j)) (g : Prefetched t k j r c) where
   pub begun_first : (el : ℕ) → el ≡ element_of t k j → el ≡ 0 → Begun t k j
   begun_first el e z = begins-first _ _ _ _ (sym e ∙ z)
 
   pub begun_behind : c % 65536 ≡ 0 → Begun t k j
   begun_behind w =
-      let z : n ≡ 0 → ⊥ = λ q. g.standing.nowhere q (entry_good t k j ok).resolved in
-      let h : 0 < n = omega (arith, z) in
-      begins_behind _ _ _ _ _ (spot_in _ _ _ _ (g.standing.spot h)).1 (sym (g.before h) ∙ w)
+      let h = (entry_good t k j ok).resolved in
+      begins_behind _ _ _ _ _ refl (sym (g.before _ (g.standing ∙ spot_yes _ _ _ _ h.seg_in h.el_in)) ∙ w)
 
 -- the entries of the buckets before k, and those of bucket k before j
 abbrev pub BegunBefore : Table → ℕ → Type 0

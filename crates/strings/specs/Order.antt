@@ -1,5 +1,5 @@
 -- Refusals 7 to 13 of a string table in the order in which they run (FORMAT, "Refusals").
-use Rattle.std.specs.Prelude.{ℕ, ◌+◌, ◌-◌, List, [], ◌∷◌, ◌++◌}
+use Rattle.std.specs.Prelude.{ℕ, ◌-◌, List, [], ◌∷◌, ◌++◌}
 use Rattle.verdict.specs.Checks.{Check, check, each}
 use Rattle.layout.specs.Table.{Table, entries, entry_at, count, position_at}
 use Rattle.strings.specs.Rules.{Resolved, Sized, Hashed, Placed, Indexed, Duplicate, Carried}

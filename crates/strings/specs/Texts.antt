@@ -28,3 +28,7 @@ Nowhere = None
 unfoldable pub spot_at : List ℕ → ℕ → ℕ → ℕ → Option Spot
 spot_at b r seg el =
     cond (ltb seg (count_of b r)) (cond (ltb el (used_of 2 b r seg)) (At (place_of 2 b r seg el) (room_at b r seg el)) Nowhere) Nowhere
+
+-- That of entry j of bucket k.
+abbrev pub text_spot : Table → ℕ → ℕ → Option Spot
+text_spot t k j = spot_at t.bytes t.at (segment_of t k j) (element_of t k j)

@@ -1,35 +1,22 @@
 // Reading ahead. The entries of a bucket stand by hash, their texts anywhere, so that the processor would wait for each in turn. Here 64
 // entries are prefetched together: none of these reads waits for another, and the texts are near when they are checked.
-ghost use Rattle.std.specs.Prelude.{◌≡◌, ℕ, ◌+◌, ◌-◌, ◌*◌, ◌%◌, ◌≤◌, ◌<◌, ◌^◌, length};
+ghost use Rattle.std.specs.Prelude.{◌≡◌, ◌+◌, ◌-◌, ◌*◌, ◌%◌, ◌≤◌, ◌<◌, ◌^◌, length};
 ghost use Rattle.le.specs.Le.{u16_at};
 ghost use Rattle.layout.specs.Table.{entries};
+ghost use Rattle.strings.specs.Texts.{text_spot};
 ghost use Rattle.strings.specs.inner.Held.{Held, held_table, Here};
-ghost use Rattle.strings.specs.inner.Ahead.{Standing, Seen, Stood, SeenBefore, ReadAhead, Ahead};
+ghost use Rattle.strings.specs.inner.Ahead.{Stood, SeenBefore, ReadAhead, Ahead};
 
 use crate::spot::Spot;
 use crate::{Strings, entry, fields, spot};
 use region::SAMPLES;
 
-// The spot of an entry's text. Where its address does not resolve, no characters are left.
-#[derive(Clone, Copy)]
-pub struct TextSpan {
-    pub at: usize,
-    pub left: usize,
-}
-
-// The same, what touch_whole reads there, and from which entry on those before it are known to have other texts.
+// The spot of an entry's text, what touch_whole reads there, and from which entry on those before it are known to have other texts.
 #[derive(Clone, Copy)]
 pub struct PrefetchedText {
-    pub at: usize,
-    pub left: usize,
+    pub spot: Option<Spot>,
     pub seen: usize,
     pub from: usize,
-}
-
-pub(crate) fn least(a: usize, b: usize) -> usize
-    ensures { (result ≤ a) × (result ≤ b) × ((i : ℕ) → i < a → i < b → i < result) }
-{
-    if a < b { a } else { b }
 }
 
 // The character before the n at p, plus 65,536 times the mean of two further on, where there are so many. The mean has no meaning: the
@@ -45,44 +32,37 @@ pub fn touch(b: &[u8], p: usize, n: usize) -> usize
     before
 }
 
-// The character before the n at p, if there are any, plus 65,536 times a number without meaning: the text is read at its end,
-// by the length that its entry tells, and in its middle if it is long.
-fn touch_whole(b: &[u8], p: usize, n: usize, len: usize) -> usize
-    requires { (0 < n → 2 ≤ p) × (0 < n → p + 2 * n ≤ length b.now) }
-    ensures { Seen b.now p n result }
+// The character before a text, plus 65,536 times a number without meaning: the text is read at its end, by the length that its entry tells,
+// and in its middle if it is long.
+fn touch_whole(b: &[u8], spot: Spot, len: usize) -> usize
+    requires { (2 ≤ spot.at) × (0 < spot.left) × (spot.at + 2 * spot.left ≤ length b.now) }
+    ensures { result % 65536 ≡ u16_at b.now (spot.at - 2) }
 {
-    if n == 0 {
-        return 0;
-    }
-    let first = p - 2;
-    let all = least(len, n);
-    let most = least(all, 32);
+    let first = spot.at - 2;
+    let all = len.min(spot.left);
+    let most = all.min(32);
     le::u16_at(b, first)
         + 65536 * (le::u16_at(b, first + 2 * all) + le::u16_at(b, first + 2 * most))
 }
 
-// Where the text of entry j of bucket k stands.
-fn text_span_at(
+// The spot of the text of entry j of bucket k.
+fn text_spot(
     b: &[u8],
     s: Strings,
     segments: &[u32; SAMPLES],
     buckets: &[u32],
     k: usize,
     j: usize,
-) -> TextSpan
+) -> Option<Spot>
     requires { Held b.now s segments.now buckets.now × Here (held_table b.now s buckets.now) k j }
-    ensures { Standing (held_table b.now s buckets.now) k j result.at result.left }
+    ensures { result ≡ text_spot (held_table b.now s buckets.now) k j }
 {
     let e = entry::entry_at(b, s, segments, buckets, k, j);
-    let a = spot::entry_spot(b, s.chars, segments, e);
-    let Spot::At(p, n) = a else {
-        return TextSpan { at: 0, left: 0 };
-    };
-    TextSpan { at: p, left: n }
+    spot::entry_spot(b, s.chars, segments, e)
 }
 
-// Where the texts of m entries of bucket k from j on stand.
-fn find_text_spans(
+// The spots of the texts of m entries of bucket k from j on.
+fn find_spots(
     b: &[u8],
     s: Strings,
     segments: &[u32; SAMPLES],
@@ -90,19 +70,14 @@ fn find_text_spans(
     k: usize,
     j: usize,
     m: usize,
-    at: &mut [usize; 64],
-    left: &mut [usize; 64],
+    spots: &mut [Option<Spot>; 64],
 )
     requires { Held b.now s segments.now buckets.now × (k < length buckets.now)
-        × (j + m ≤ entries (held_table b.now s buckets.now) k) × (m ≤ 64) × (length at.old ≡ 64) × (length left.old ≡ 64) }
-    ensures { Stood (held_table b.now s buckets.now) k j m at.new left.new }
+        × (j + m ≤ entries (held_table b.now s buckets.now) k) × (m ≤ 64) }
+    ensures { Stood (held_table b.now s buckets.now) k j m spots.new }
 {
-    let mut i = 0;
-    while i < m {
-        let w = text_span_at(b, s, segments, buckets, k, j + i);
-        at[i] = w.at;
-        left[i] = w.left;
-        i += 1;
+    for i in 0..m {
+        spots[i] = text_spot(b, s, segments, buckets, k, j + i);
     }
 }
 
@@ -116,20 +91,19 @@ fn load_ahead(
     k: usize,
     j: usize,
     m: usize,
-    at: &[usize; 64],
-    left: &[usize; 64],
+    spots: &[Option<Spot>; 64],
     seen: &mut [usize; 64],
 )
     requires { Held b.now s segments.now buckets.now × (k < length buckets.now)
-        × (j + m ≤ entries (held_table b.now s buckets.now) k) × (m ≤ 64) × (length seen.old ≡ 64)
-        × Stood (held_table b.now s buckets.now) k j m at.now left.now }
-    ensures { SeenBefore b.now m at.now left.now seen.new }
+        × (j + m ≤ entries (held_table b.now s buckets.now) k) × (m ≤ 64)
+        × Stood (held_table b.now s buckets.now) k j m spots.now }
+    ensures { SeenBefore b.now m spots.now seen.new }
 {
-    let mut i = 0;
-    while i < m {
-        let e = entry::entry_at(b, s, segments, buckets, k, j + i);
-        seen[i] = touch_whole(b, at[i], left[i], fields::length(b, e));
-        i += 1;
+    for i in 0..m {
+        if let Some(spot) = spots[i] {
+            let e = entry::entry_at(b, s, segments, buckets, k, j + i);
+            seen[i] = touch_whole(b, spot, fields::length(b, e));
+        }
     }
 }
 
@@ -143,19 +117,18 @@ pub(crate) fn keep_ahead(
     k: usize,
     n: usize,
     j: usize,
-    at: &mut [usize; 64],
-    left: &mut [usize; 64],
+    spots: &mut [Option<Spot>; 64],
     seen: &mut [usize; 64],
 )
     requires { Held b.now s segments.now buckets.now × (k < length buckets.now)
         × (n ≡ entries (held_table b.now s buckets.now) k) × (j ≤ n)
-        × Ahead (held_table b.now s buckets.now) k j at.old left.old seen.old }
-    ensures { ReadAhead (held_table b.now s buckets.now) k (j - j % 64) at.new left.new seen.new }
+        × Ahead (held_table b.now s buckets.now) k j spots.old seen.old }
+    ensures { ReadAhead (held_table b.now s buckets.now) k (j - j % 64) spots.new seen.new }
 {
     if j % 64 != 0 {
         return;
     }
-    let m = least(n - j, 64);
-    find_text_spans(b, s, segments, buckets, k, j, m, at, left);
-    load_ahead(b, s, segments, buckets, k, j, m, at, left, seen);
+    let m = (n - j).min(64);
+    find_spots(b, s, segments, buckets, k, j, m, spots);
+    load_ahead(b, s, segments, buckets, k, j, m, spots, seen);
 }

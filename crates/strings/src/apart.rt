@@ -7,8 +7,7 @@ ghost use Rattle.layout.specs.Table.{entries};
 ghost use Rattle.strings.specs.inner.Held.{Held, held_table, Here};
 ghost use Rattle.strings.specs.inner.Apart.{Apart, Fingerprinted, Collected, Met, Sifted, Clear, AwayWithin};
 
-use crate::spot::Spot;
-use crate::{Strings, ahead, entry, fields, spot};
+use crate::{Strings, entry, fields, spot};
 use region::SAMPLES;
 
 // Entries of one bucket that have different texts: those from start on, before end.
@@ -38,18 +37,14 @@ fn fingerprint_at(
     ensures { Fingerprinted (held_table b.now s buckets.now) k j result }
 {
     let e = entry::entry_at(b, s, segments, buckets, k, j);
-    let a = spot::entry_spot(b, s.chars, segments, e);
-    let Spot::At(p, n) = a else {
+    let Some(spot) = spot::entry_spot(b, s.chars, segments, e) else {
         return 0;
     };
     let length = fields::length(b, e);
-    if length == 0 {
+    if length == 0 || length > spot.left + 1 {
         return 0;
     }
-    if length > n + 1 {
-        return 0;
-    }
-    text::fingerprint::fingerprint(b, p, length - 1)
+    text::fingerprint::fingerprint(b, spot.at, length - 1)
 }
 
 // Whether entry j, whose fingerprint is x, may have the text of one of the n collected entries, those from `from` on.
@@ -95,16 +90,15 @@ fn collect(
     ensures answer { Sifted (held_table b.now s buckets.now) k from result most }
     ensures map { Collected (held_table b.now s buckets.now) k from result map.new }
 {
-    let mut n = 0;
-    while n < most {
-        let x = fingerprint_at(b, s, segments, buckets, k, from + n);
-        if met(b, s, segments, buckets, k, from, n, from + n, x, map) {
+    for n in 0..most {
+        let j = from + n;
+        let x = fingerprint_at(b, s, segments, buckets, k, j);
+        if met(b, s, segments, buckets, k, from, n, j, x, map) {
             return n;
         }
         multimap::insert(map, n, x);
-        n += 1;
     }
-    n
+    most
 }
 
 // The first entry behind the n collected ones, before end, that may have the text of one of them; end if there is none.
@@ -124,13 +118,11 @@ fn sift(
         × Collected (held_table b.now s buckets.now) k from n map.now }
     ensures { Clear (held_table b.now s buckets.now) k from n result × (result ≤ end) }
 {
-    let mut j = from + n;
-    while j < end {
+    for j in from + n..end {
         let x = fingerprint_at(b, s, segments, buckets, k, j);
         if met(b, s, segments, buckets, k, from, n, j, x, map) {
             return j;
         }
-        j += 1;
     }
     end
 }
@@ -150,7 +142,7 @@ fn sift_some(
     ensures { Clear (held_table b.now s buckets.now) k from result.collected result.clear × (result.clear ≤ end) × (0 < result.collected) }
 {
     let mut map = [0u16; 20480];
-    let most = ahead::least(end - from, 8192);
+    let most = (end - from).min(8192);
     let collected = collect(b, s, segments, buckets, k, from, most, &mut map);
     let clear = sift(b, s, segments, buckets, k, from, collected, end, &map);
     Round { collected, clear }
@@ -193,13 +185,10 @@ fn run_start(
     requires { Held b.now s segments.now buckets.now × Here (held_table b.now s buckets.now) k j }
     ensures { result ≤ j }
 {
-    let mut i = j;
-    while i > 0 {
-        let e = entry::entry_at(b, s, segments, buckets, k, i - 1);
-        if fields::hash(b, e) != h {
-            return i;
+    for i in (0..j).rev() {
+        if entry::hash_at(b, s, segments, buckets, k, i) != h {
+            return i + 1;
         }
-        i -= 1;
     }
     0
 }
@@ -219,13 +208,10 @@ fn run_end(
         × (n ≤ entries (held_table b.now s buckets.now) k) }
     ensures { (j ≤ result) × (result ≤ n) }
 {
-    let mut i = j;
-    while i < n {
-        let e = entry::entry_at(b, s, segments, buckets, k, i);
-        if fields::hash(b, e) != h {
+    for i in j..n {
+        if entry::hash_at(b, s, segments, buckets, k, i) != h {
             return i;
         }
-        i += 1;
     }
     n
 }
@@ -246,17 +232,11 @@ pub(crate) fn span_at(
         × (j < n) × Apart (held_table b.now s buckets.now) k span.start span.end }
     ensures { Apart (held_table b.now s buckets.now) k result.start result.end }
 {
-    if j % 64 != 0 {
+    if j % 64 != 0 || j < span.end || n - j < 64 {
         return span;
     }
-    if j < span.end {
-        return span;
-    }
-    if n - j < 64 {
-        return span;
-    }
-    let h = fields::hash(b, entry::entry_at(b, s, segments, buckets, k, j));
-    if fields::hash(b, entry::entry_at(b, s, segments, buckets, k, j + 63)) != h {
+    let h = entry::hash_at(b, s, segments, buckets, k, j);
+    if entry::hash_at(b, s, segments, buckets, k, j + 63) != h {
         return span;
     }
     let start = run_start(b, s, segments, buckets, k, j, h);

@@ -4,7 +4,7 @@ ghost use Rattle.verdict.specs.Checks.{first_fault};
 ghost use Rattle.verdict.specs.Verdict.{Accepted, answer_of};
 ghost use Rattle.verdict.specs.inner.Tells.{Tells, Sure};
 ghost use Rattle.hash.specs.inner.Tables.{Tables};
-ghost use Rattle.layout.specs.Table.{entry_at, entries, count, position_at, listed_segment, listed_element};
+ghost use Rattle.layout.specs.Table.{entry_at, entries, hash_of, count, position_at, listed_segment, listed_element};
 ghost use Rattle.strings.specs.Texts.{spot_at};
 ghost use Rattle.strings.specs.Rules.{Placed, Indexed, Duplicate};
 ghost use Rattle.strings.specs.Order.{entry_checks};
@@ -32,6 +32,21 @@ pub fn entry_at(
     ensures { (result ≡ entry_at (held_table b.now s buckets.now) k j) × (result + 16 ≤ length b.now) }
 {
     le::wide(buckets[k]) + BUCKET_COUNT_SIZE + ENTRY_SIZE * j
+}
+
+// The hash that entry j of bucket k tells.
+pub(crate) fn hash_at(
+    b: &[u8],
+    s: Strings,
+    segments: &[u32; SAMPLES],
+    buckets: &[u32],
+    k: usize,
+    j: usize,
+) -> usize
+    requires { Held b.now s segments.now buckets.now × Here (held_table b.now s buckets.now) k j }
+    ensures { result ≡ hash_of (held_table b.now s buckets.now) k j }
+{
+    fields::hash(b, entry_at(b, s, segments, buckets, k, j))
 }
 
 // The number of entries of bucket k: as many as fit between its start and where the next bucket starts, or the address count. The starts are
@@ -157,15 +172,13 @@ pub(crate) fn same_text(
     if fields::length(b, d) != fields::length(b, e) {
         return false;
     }
-    let x = spot::entry_spot(b, s.chars, segments, d);
-    let y = spot::entry_spot(b, s.chars, segments, e);
-    let Spot::At(p, m) = x else {
+    let Some(x) = spot::entry_spot(b, s.chars, segments, d) else {
         return false;
     };
-    let Spot::At(q, n) = y else {
+    let Some(y) = spot::entry_spot(b, s.chars, segments, e) else {
         return false;
     };
-    text::same(b, p, m, q, n)
+    text::same(b, x.at, x.left, y.at, y.left)
 }
 
 // What refusal 12 is given for, where the entries from `from` on are known to have other texts. Texts that are the same have one hash, and
@@ -183,18 +196,14 @@ fn duplicate(
         × Sorted (held_table b.now s buckets.now) k j × Away (held_table b.now s buckets.now) k from j }
     ensures { Tells (Duplicate (held_table b.now s buckets.now) k j) result }
 {
-    let e = entry_at(b, s, segments, buckets, k, j);
-    let h = fields::hash(b, e);
-    let mut i = from;
-    while i > 0 {
-        let d = entry_at(b, s, segments, buckets, k, i - 1);
-        if fields::hash(b, d) != h {
+    let h = hash_at(b, s, segments, buckets, k, j);
+    for i in (0..from).rev() {
+        if hash_at(b, s, segments, buckets, k, i) != h {
             return false;
         }
-        if same_text(b, s, segments, buckets, k, i - 1, j) {
+        if same_text(b, s, segments, buckets, k, i, j) {
             return true;
         }
-        i -= 1;
     }
     false
 }
@@ -218,15 +227,15 @@ fn check_order(
 {
     let e = entry_at(b, s, segments, buckets, k, j);
     if !placed(b, s, segments, buckets, k, j) {
-        return Verdict::Refused(10, e);
+        return Err(Refusal(Rule::EntryOrder, e));
     }
     if !listed {
-        return Verdict::Refused(11, e);
+        return Err(Refusal(Rule::EntryIndex, e));
     }
     if duplicate(b, s, segments, buckets, k, j, from) {
-        return Verdict::Refused(12, e);
+        return Err(Refusal(Rule::Duplicate, e));
     }
-    Verdict::Accepted
+    Ok(())
 }
 
 // Whether refusal 11 is not due, where that may be known already.
@@ -243,10 +252,7 @@ fn index_passes(
         × Sure (Indexed (held_table b.now s buckets.now) k j) known }
     ensures { Tells (Indexed (held_table b.now s buckets.now) k j) result }
 {
-    if known {
-        return true;
-    }
-    indexed(b, s, segments, buckets, k, j)
+    known || indexed(b, s, segments, buckets, k, j)
 }
 
 // Refusals 7 to 12 of an entry that is prefetched, where those before it in the bucket passed; 11 may be known not to be due.
@@ -263,20 +269,20 @@ pub(crate) fn check_entry(
 ) -> Result<(), Refusal>
     requires { Tables t.now × Held b.now s segments.now buckets.now × Here (held_table b.now s buckets.now) k j
         × ((i : ℕ) → i < j → first_fault (entry_checks (held_table b.now s buckets.now) k i) ≡ Accepted)
-        × Prefetched (held_table b.now s buckets.now) k j g.at g.left g.seen × Away (held_table b.now s buckets.now) k g.from j
+        × Prefetched (held_table b.now s buckets.now) k j g.spot g.seen × Away (held_table b.now s buckets.now) k g.from j
         × Sure (Indexed (held_table b.now s buckets.now) k j) listed }
     ensures { answer_of result ≡ first_fault (entry_checks (held_table b.now s buckets.now) k j) }
 {
     let e = entry_at(b, s, segments, buckets, k, j);
-    if g.left == 0 {
-        return Verdict::Refused(7, e);
-    }
-    let m = text::measure(b, t, g.at, g.left);
+    let Some(spot) = g.spot else {
+        return Err(Refusal(Rule::EntryAddress, e));
+    };
+    let m = text::measure(b, t, spot.at, spot.left);
     if fields::length(b, e) != m.length + 1 {
-        return Verdict::Refused(8, e);
+        return Err(Refusal(Rule::EntryLength, e));
     }
     if fields::hash(b, e) != m.hash {
-        return Verdict::Refused(9, e);
+        return Err(Refusal(Rule::EntryHash, e));
     }
     let right = index_passes(b, s, segments, buckets, k, j, listed);
     check_order(b, s, segments, buckets, k, j, right, g.from)

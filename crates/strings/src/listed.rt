@@ -14,12 +14,10 @@ fn bucket_listed(b: &[u8], s: Strings, segments: &[u32; SAMPLES], buckets: &[u32
     ensures { Sure (BucketIndexed (held_table b.now s buckets.now) k) result }
 {
     let n = entry::entry_count(b, s, segments, buckets, k);
-    let mut j = 0;
-    while j < n {
+    for j in 0..n {
         if !entry::indexed(b, s, segments, buckets, k, j) {
             return false;
         }
-        j += 1;
     }
     true
 }
@@ -29,12 +27,10 @@ pub fn all_listed(b: &[u8], s: Strings, segments: &[u32; SAMPLES], buckets: &[u3
     requires { Held b.now s segments.now buckets.now }
     ensures { Sure (AllIndexed (held_table b.now s buckets.now)) result }
 {
-    let mut k = 0;
-    while k < buckets.len() {
+    for k in 0..buckets.len() {
         if !bucket_listed(b, s, segments, buckets, k) {
             return false;
         }
-        k += 1;
     }
     true
 }

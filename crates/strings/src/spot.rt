@@ -19,20 +19,29 @@ pub struct Spot {
     pub left: usize,
 }
 
-// The spot of an address, or nowhere where it does not resolve.
-pub fn spot_at(b: &[u8], chars: Region, segments: &[u32; SAMPLES], seg: usize, el: usize) -> Option<Spot>
+// The spot of an address, if that resolves.
+pub fn spot_at(
+    b: &[u8],
+    chars: Region,
+    segments: &[u32; SAMPLES],
+    seg: usize,
+    el: usize,
+) -> Option<Spot>
     requires { Mapped 2 b.now chars.at chars × Starts 2 b.now chars.at chars.shift segments.now × (el < 65536) }
     ensures { result ≡ spot_at b.now chars.at seg el }
 {
     if seg >= chars.count {
-        return Spot::Nowhere;
+        return None;
     }
     let p = region::locate(b, chars, CHARACTER_SIZE, segments, seg);
     let used = le::u32_at(b, p + 4);
     if el >= used {
-        return Spot::Nowhere;
+        return None;
     }
-    Spot::At(p + 8 + el * CHARACTER_SIZE, used - el)
+    Some(Spot {
+        at: p + 8 + el * CHARACTER_SIZE,
+        left: used - el,
+    })
 }
 
 // The same for the address that stands at an offset of the file: a list position's, or an attribute's.

@@ -29,7 +29,7 @@ fn still_begun(
 ) -> bool
     requires { Held b.now s segments.now buckets.now × Here (held_table b.now s buckets.now) k j
         × (first_fault (entry_checks (held_table b.now s buckets.now) k j) ≡ Accepted)
-        × Prefetched (held_table b.now s buckets.now) k j g.at g.left g.seen }
+        × Prefetched (held_table b.now s buckets.now) k j g.spot g.seen }
     ensures { Sure ((before ≡ true) × Begun (held_table b.now s buckets.now) k j) result }
 {
     if !before {
@@ -54,43 +54,24 @@ pub fn check_entries(
     ensures { Gives (first_fault (all_entry_checks (held_table b.now s buckets.now))) (Sure (AllBegun (held_table b.now s buckets.now))) result }
 {
     let right = listed::all_listed(b, s, segments, buckets);
-    let mut at = [0usize; 64];
-    let mut left = [0usize; 64];
+    let mut spots = [None; 64];
     let mut seen = [0usize; 64];
-    let mut fault = Verdict::Accepted;
     let mut begun = true;
-    let mut k = 0;
-    'buckets: while k < buckets.len() {
+    'buckets: for k in 0..buckets.len() {
         let n = entry::entry_count(b, s, segments, buckets, k);
         let mut span = Span { start: 0, end: 0 };
-        let mut j = 0;
-        while j < n {
-            ahead::keep_ahead(
-                b, s, segments, buckets, k, n, j, &mut at, &mut left, &mut seen,
-            );
+        'entries: for j in 0..n {
+            ahead::keep_ahead(b, s, segments, buckets, k, n, j, &mut spots, &mut seen);
             span = apart::span_at(b, s, segments, buckets, k, n, j, span);
             let i = j % 64;
             let g = PrefetchedText {
-                at: at[i],
-                left: left[i],
+                spot: spots[i],
                 seen: seen[i],
                 from: apart::away_from(span, j),
             };
-            match entry::check_entry(b, t, s, segments, buckets, k, j, g, right) {
-                Verdict::Accepted => {}
-                Verdict::Refused(num, place) => {
-                    fault = Verdict::Refused(num, place);
-                    begun = false;
-                    break 'buckets;
-                }
-            }
+            entry::check_entry(b, t, s, segments, buckets, k, j, g, right)?;
             begun = still_begun(b, s, segments, buckets, k, j, g, begun);
-            j += 1;
         }
-        k += 1;
     }
-    CheckedEntries {
-        answer: fault,
-        begun,
-    }
+    Ok(begun)
 }

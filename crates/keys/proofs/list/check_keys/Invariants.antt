@@ -1,14 +1,9 @@
-use Prim.Native.Nat.{◌-◌}
 use mathlib.Core.Path.{◌≡◌}
 use Rattle.verdict.specs.Checks.{first_fault}
-use Rattle.layout.specs.Header.{key_count}
 use Rattle.layout.specs.declared.Edition.TheVariants.{Bits64}
 use Rattle.keys.specs.Order.{all_key_checks}
 use Rattle.keys.proofs.Laws.{keys_left}
 use Rattle.keys.proofs.list.check_keys.Given as goal
 
 abbrev pub invariant-loop-k : goal.invariant-loop-k
-invariant-loop-k l = (l.n ≡ key_count l.b) × (first_fault (all_key_checks Bits64 l.b) ≡ keys_left Bits64 l.b l.k)
-
-abbrev pub decreases-loop-k : goal.decreases-loop-k
-decreases-loop-k l = l.n - l.k
+invariant-loop-k l = first_fault (all_key_checks Bits64 l.b) ≡ keys_left Bits64 l.b l.k

@@ -1,16 +1,12 @@
 use native.Mathlib.Omega.{arith}
-use borrow.Author.Count.{below_none, below_more}
-use borrow.Author.Rules.{rules}
-use Rattle.verdict.proofs.Laws.{tells_yes, tells_no}
+use borrow.Author.Count.{below_more}
+use Rattle.verdict.proofs.Laws.{tells_no}
 use Rattle.layout.specs.Header.{keys_at, key_at}
 use Rattle.layout.specs.declared.Edition.TheVariants.{Bits64}
 use Rattle.layout.proofs.Laws.{key_fits}
 use Rattle.keys.proofs.Laws.{not-zero, too_high, is_value, name-right}
 use Rattle.keys.proofs.list.key_right.Goals as goal
-use Rattle.keys.proofs.list.key_right.Goals.{then-k-eq0+else-name-ne0, else-k-eq0}
-
-pub loop-f-init : goal.loop-f-init
-loop-f-init c = (search rules, below_none _)
+use Rattle.keys.proofs.list.key_right.Goals.{else-k-eq0-via-then-k-eq0+else-name-ne0, else-k-eq0-via-else-k-eq0}
 
 pub u16_at-name-requires : goal.u16_at-name-requires
 unfolding key_at keys_at
@@ -26,12 +22,9 @@ pub returns-then-name-names-2 : goal.returns-then-name-names-2
 returns-then-name-names-2 c = tells_no (λ r. is_value Bits64 _ _ c.requires.1 _ _ _ c.u16_at-name.ensures.0 c.if-name-names-2.true (r _ c.loop-f-test.true))
 
 pub loop-f-preserved : goal.loop-f-preserved
-loop-f-preserved c = (
-  omega arith,
-  below_more _ _ c.loop-f.invariant.1
-      (name-right Bits64 _ _ c.requires.1 _ _ _ c.u16_at-name.ensures.0
-      (λ z. elim c.if-k-eq0.branch [ then-k-eq0+else-name-ne0 w ↦ w.if-name-ne0.false | else-k-eq0 w ↦ absurd (w.if-k-eq0.false z) ]) c.if-name-names.false c.if-name-names-2.false),
-)
-
-pub returns : goal.returns
-returns c = tells_yes (λ f h. c.loop-f.invariant.1 f (omega (arith, c.loop-f-test.false)))
+loop-f-preserved c = below_more _ _ c.loop-f.invariant
+    (name-right Bits64 _ _ c.requires.1 _ _ _ c.u16_at-name.ensures.0
+    (λ z. elim c.else-k-eq0.branch [
+      | else-k-eq0-via-then-k-eq0+else-name-ne0 w ↦ w.if-name-ne0.false
+      | else-k-eq0-via-else-k-eq0 w ↦ absurd (w.if-k-eq0.false z)
+    ]) c.if-name-names.false c.if-name-names-2.false)

@@ -10,17 +10,14 @@ use Rattle.positions.proofs.packing.count_begun.Goals.{After-u32_at, In-loop-seg
 
 -- what is known of the segment that a turn is at
 turn : (c : After-u32_at) → let p = c.loop-seg.p in let b = c.args.b.now in (p + 8 + 2 * c.u32_at.result ≤ length b) × (c.u32_at.result ≤ 65535)
-turn c = begun_fits _ _ c.requires _ _ _ c.loop-seg-test.true c.loop-seg.invariant.1 c.u32_at.ensures.0
+turn c = begun_fits _ _ c.requires _ _ _ c.loop-seg-test.true c.loop-seg.invariant.place c.u32_at.ensures.0
 
 -- and where it starts
 there : (c : In-loop-seg) → c.loop-seg.p + 8 ≤ length c.args.b.now
-there c = segment_in _ _ c.requires _ _ c.loop-seg-test.true c.loop-seg.invariant.1
-
-pub overflow_add-p : goal.overflow_add-p
-overflow_add-p c = record { fits = omega (arith, c.requires.laid.head, c.requires.short) }
+there c = segment_in _ _ c.requires _ _ c.loop-seg-test.true c.loop-seg.invariant.place
 
 pub loop-seg-init : goal.loop-seg-init
-loop-seg-init c = (omega arith, start_first _ _, begun_start _ _, omega arith)
+loop-seg-init c = record { place = start_first _ _; count = begun_start _ _; few = omega arith }
 
 pub overflow_add-p-in-loop-seg : goal.overflow_add-p-in-loop-seg
 overflow_add-p-in-loop-seg c = record { fits = omega (arith, there (goal.at.overflow_add-p-in-loop-seg c).In-loop-seg, c.requires.short) }
@@ -35,18 +32,18 @@ pub begun_in-n-requires : goal.begun_in-n-requires
 begun_in-n-requires c = turn (goal.at.begun_in-n-requires c).After-u32_at
 
 pub overflow_add-n : goal.overflow_add-n
-overflow_add-n c = record { fits = omega (arith, c.loop-seg.invariant.3, c.loop-seg.invariant.0, c.begun_in-n.ensures.1, (turn (goal.at.overflow_add-n c).After-u32_at).1, c.requires.count_is, c.requires.laid.few) }
+overflow_add-n c = let t = turn (goal.at.overflow_add-n c).After-u32_at in
+    record { fits = omega (arith, c.loop-seg.invariant.few, c.begun_in-n.ensures.1, t.1, c.requires.count_is, c.requires.laid.few) }
 
 pub next_start-p-requires : goal.next_start-p-requires
-next_start-p-requires c = segment-fits 2 _ _ c.requires _ _ c.loop-seg-test.true c.loop-seg.invariant.1
+next_start-p-requires c = segment-fits 2 _ _ c.requires _ _ c.loop-seg-test.true c.loop-seg.invariant.place
 
 pub loop-seg-preserved : goal.loop-seg-preserved
-loop-seg-preserved c = let i = c.loop-seg.invariant in (
-  omega arith,
-  start_more 2 _ _ _ _ _ _ refl i.1 c.next_start-p.ensures,
-  begun_next _ _ _ _ _ _ _ i.2 i.1 (used-at 2 _ _ _ _ _ i.1 c.u32_at.ensures.0) c.begun_in-n.ensures.0,
-  omega (arith, i.3, c.begun_in-n.ensures.1, (turn (goal.at.loop-seg-preserved c).After-u32_at).1),
-)
+loop-seg-preserved c = let i = c.loop-seg.invariant in record {
+  place = start_more 2 _ _ _ _ _ _ refl i.place c.next_start-p.ensures;
+  count = begun_next _ _ _ _ _ _ _ i.count i.place (used-at 2 _ _ _ _ _ i.place c.u32_at.ensures.0) c.begun_in-n.ensures.0;
+  few = omega (arith, i.few, c.begun_in-n.ensures.1, (turn (goal.at.loop-seg-preserved c).After-u32_at).1);
+}
 
 pub returns : goal.returns
-returns c = let i = c.loop-seg.invariant in begun_all _ _ _ _ i.2 (omega (arith, i.0, c.loop-seg-test.false, c.requires.count_is))
+returns c = begun_all _ _ _ _ c.loop-seg.invariant.count (omega (arith, c.loop-seg-test.false, c.requires.count_is))

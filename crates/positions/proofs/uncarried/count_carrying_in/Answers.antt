@@ -1,14 +1,11 @@
-use Rattle.strings.proofs.Places.{here_in, index_at}
-use Rattle.positions.proofs.CountedBelow.{counted_start, counted_one, counted_other, counted_end}
 use native.Mathlib.Omega.{arith}
+use Rattle.strings.proofs.Places.{index_at}
+use Rattle.positions.proofs.CountedBelow.{counted_start, counted_one, counted_other, counted_end}
 use Rattle.positions.proofs.uncarried.count_carrying_in.Goals as goal
 use Rattle.positions.proofs.uncarried.count_carrying_in.Goals.{then-index-m, else-index-m}
 
 pub loop-j-init : goal.loop-j-init
 loop-j-init c = counted_start _ _ _
-
-pub entry_at-e-requires : goal.entry_at-e-requires
-entry_at-e-requires c = let p = c.requires in (p.0, here_in _ _ _ _ p.1 c.entry_count-n.ensures c.loop-j-test.true)
 
 pub loop-j-preserved : goal.loop-j-preserved
 loop-j-preserved c = let l = c.loop-j-test.true in

@@ -1,9 +1,5 @@
-use Prim.Native.Nat.{◌-◌}
 use Rattle.strings.specs.inner.Ahead.{SeenBefore}
 use Rattle.strings.proofs.ahead.load_ahead.Given as goal
 
 abbrev pub invariant-loop-i : goal.invariant-loop-i
-invariant-loop-i l = SeenBefore l.b l.i l.at l.left l.seen
-
-abbrev pub decreases-loop-i : goal.decreases-loop-i
-decreases-loop-i l = l.m - l.i
+invariant-loop-i l = SeenBefore l.b l.i l.spots l.seen

@@ -3,29 +3,29 @@ use Rattle.strings.proofs.Places.{length_at}
 use Rattle.strings.proofs.Spots.{spotted, unspotted}
 use Rattle.strings.proofs.Differing.{fingerprint_none, length_some, length-few, fingerprint_some}
 use Rattle.strings.proofs.apart.fingerprint_at.Goals as goal
+use Rattle.strings.proofs.apart.fingerprint_at.Goals.{then-length-eq0-via-then-length-eq0, then-length-eq0-via-else-length-eq0+then-length-spot}
 
 pub returns-in_default : goal.returns-in_default
-returns-in_default c = fingerprint_none _ _ _ (λ r. unspotted _ _ _ _ c.entry_at-e.ensures.0 c.entry_spot-a.ensures c.in_default.is r.resolved)
+returns-in_default c = fingerprint_none _ _ _ (λ r. unspotted _ _ _ _ c.entry_at-e.ensures.0 c.entry_spot.ensures c.in_default.is r.resolved)
 
 pub returns-then-length-eq0 : goal.returns-then-length-eq0
 returns-then-length-eq0 c = let q = c.entry_at-e.ensures.0 in
-    let l = c.requires.0.laid.characters in
-    fingerprint_none _ _ _ (length_some _ _ _ _ _ _ (spotted _ _ _ _ q c.entry_spot-a.ensures l c.in-At.is) (length_at _ _ _ _ _ q c.length-length.ensures) c.if-length-eq0.true)
+    let w = spotted _ _ _ _ q c.entry_spot.ensures c.requires.0.laid.characters c.in-Some.is in
+    let l = length_at _ _ _ _ _ q c.length-length.ensures in
+    elim c.then-length-eq0.branch [
+      | then-length-eq0-via-then-length-eq0 b ↦ fingerprint_none _ _ _ (length_some _ _ _ _ _ _ w l b.if-length-eq0.true)
+      | then-length-eq0-via-else-length-eq0+then-length-spot b ↦ fingerprint_none _ _ _ (length-few _ _ _ _ _ _ w l b.if-length-spot.true)
+    ]
 
-pub overflow_add-n : goal.overflow_add-n
-overflow_add-n c = let h = c.requires.0 in
-    omega (arith, h.small, (spotted _ _ _ _ c.entry_at-e.ensures.0 c.entry_spot-a.ensures h.laid.characters c.in-At.is).fits)
-
-pub returns-then-length-n : goal.returns-then-length-n
-returns-then-length-n c = let q = c.entry_at-e.ensures.0 in
-    let l = c.requires.0.laid.characters in
-    fingerprint_none _ _ _ (length-few _ _ _ _ _ _ (spotted _ _ _ _ q c.entry_spot-a.ensures l c.in-At.is) (length_at _ _ _ _ _ q c.length-length.ensures) c.if-length-n.true)
+pub overflow_add-spot : goal.overflow_add-spot
+overflow_add-spot c = let h = c.requires.0 in
+    omega (arith, h.small, (spotted _ _ _ _ c.entry_at-e.ensures.0 c.entry_spot.ensures h.laid.characters c.in-Some.is).fits)
 
 pub fingerprint-requires : goal.fingerprint-requires
 fingerprint-requires c = let h = c.requires.0 in
-    omega (arith, c.if-length-n.false, c.if-length-eq0.false, (spotted _ _ _ _ c.entry_at-e.ensures.0 c.entry_spot-a.ensures h.laid.characters c.in-At.is).fits)
+    omega (arith, (spotted _ _ _ _ c.entry_at-e.ensures.0 c.entry_spot.ensures h.laid.characters c.in-Some.is).fits)
 
 pub returns : goal.returns
 returns c = let q = c.entry_at-e.ensures.0 in
-    let l = c.requires.0.laid.characters in
-    fingerprint_some _ _ _ _ _ _ (spotted _ _ _ _ q c.entry_spot-a.ensures l c.in-At.is) (length_at _ _ _ _ _ q c.length-length.ensures) _ c.fingerprint.ensures
+    let w = spotted _ _ _ _ q c.entry_spot.ensures c.requires.0.laid.characters c.in-Some.is in
+    fingerprint_some _ _ _ _ _ _ w (length_at _ _ _ _ _ q c.length-length.ensures) _ c.fingerprint.ensures

@@ -9,19 +9,19 @@ pub returns-then-length : goal.returns-then-length
 returns-then-length c = compared_no _ _ _ _ (record { texts = λ r s. parted _ _ _ _ _ _ r s (length_at _ _ _ _ _ c.entry_at-d.ensures.0 c.length.ensures) (length_at _ _ _ _ _ c.entry_at-e.ensures.0 c.length-2.ensures) c.if-length.true })
 
 pub returns-in_default : goal.returns-in_default
-returns-in_default c = compared_no _ _ _ _ (record { texts = λ r s. absurd (unspotted _ _ _ _ c.entry_at-d.ensures.0 c.entry_spot-x.ensures c.in_default.is r.resolved) })
+returns-in_default c = compared_no _ _ _ _ (record { texts = λ r s. absurd (unspotted _ _ _ _ c.entry_at-d.ensures.0 c.entry_spot.ensures c.in_default.is r.resolved) })
 
-pub returns-in_default-y : goal.returns-in_default-y
-returns-in_default-y c = compared_no _ _ _ _ (record { texts = λ r s. absurd (unspotted _ _ _ _ c.entry_at-e.ensures.0 c.entry_spot-y.ensures c.in_default-y.is s.resolved) })
+pub returns-in_default-entry_spot : goal.returns-in_default-entry_spot
+returns-in_default-entry_spot c = compared_no _ _ _ _ (record { texts = λ r s. absurd (unspotted _ _ _ _ c.entry_at-e.ensures.0 c.entry_spot-2.ensures c.in_default-entry_spot.is s.resolved) })
 
 pub same-requires : goal.same-requires
 same-requires c = let l = c.requires.0.laid.characters in (
-  (spotted _ _ _ _ c.entry_at-d.ensures.0 c.entry_spot-x.ensures l c.in-At.is).fits,
-  (spotted _ _ _ _ c.entry_at-e.ensures.0 c.entry_spot-y.ensures l c.in-At-y.is).fits,
+  (spotted _ _ _ _ c.entry_at-d.ensures.0 c.entry_spot.ensures l c.in-Some.is).fits,
+  (spotted _ _ _ _ c.entry_at-e.ensures.0 c.entry_spot-2.ensures l c.in-Some-entry_spot.is).fits,
 )
 
 pub returns : goal.returns
 unfolding text_of
 returns c = let l = c.requires.0.laid.characters in
-    compared _ _ _ _ (same-texts _ _ _ _ _ _ _ _ _ (spotted _ _ _ _ c.entry_at-d.ensures.0 c.entry_spot-x.ensures l c.in-At.is)
-    (spotted _ _ _ _ c.entry_at-e.ensures.0 c.entry_spot-y.ensures l c.in-At-y.is) c.same.ensures)
+    compared _ _ _ _ (same-texts _ _ _ _ _ _ _ _ _ (spotted _ _ _ _ c.entry_at-d.ensures.0 c.entry_spot.ensures l c.in-Some.is)
+    (spotted _ _ _ _ c.entry_at-e.ensures.0 c.entry_spot-2.ensures l c.in-Some-entry_spot.is) c.same.ensures)
