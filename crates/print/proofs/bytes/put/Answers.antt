@@ -1,4 +1,4 @@
-use mathlib.Core.Path.{sym, ◌∙◌}
+use mathlib.Core.Path.{sym}
 use Rattle.print.specs.inner.Put.{sat}
 use Rattle.print.proofs.Puts.{overlay-one, overlay-past}
 use Rattle.print.proofs.bytes.put.Goals as goal
