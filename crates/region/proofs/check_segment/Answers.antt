@@ -4,7 +4,7 @@ use mathlib.Core.Path.{refl, ap, ◌∙◌}
 use Rattle.verdict.proofs.Laws.{pass, stop, fault_none}
 use Rattle.verdict.proofs.Gives.{gives_ok, gives_err}
 use Rattle.region.proofs.Accepted.{segment-told}
-use Rattle.region.proofs.Samples.{product_small, start_more}
+use Rattle.region.proofs.Samples.{start_more}
 use Rattle.region.proofs.check_segment.Goals as goal
 
 pub returns-then-b-p-lt-COUNT_SIZE : goal.returns-then-b-p-lt-COUNT_SIZE
@@ -23,9 +23,6 @@ returns-then-used-full c =
     segment-told _ _ _ _ _ c.requires.1
     (pass _ _ _ _ _ (omega arith) ∙ pass _ _ _ _ _ (omega arith) ∙ pass _ _ _ _ _ (omega arith) ∙ stop _ _ _ _ _ (λ h. omega arith))
     )
-
-pub overflow_mul-bytes : goal.overflow_mul-bytes
-overflow_mul-bytes c = record { fits = product_small _ _ (omega arith) (omega arith) }
 
 pub returns-then-b-e : goal.returns-then-b-e
 returns-then-b-e c = let q = ap (λ (x : ℕ). x * c.args.size) c.u32_at-full.ensures.0 in

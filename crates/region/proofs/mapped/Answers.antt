@@ -4,9 +4,6 @@ use Rattle.region.specs.Region.{count_of}
 use Rattle.region.proofs.Samples.{stride_grows}
 use Rattle.region.proofs.mapped.Goals as goal
 
-pub u32_at-count-requires : goal.u32_at-count-requires
-u32_at-count-requires c = omega (arith, c.requires.3.head)
-
 pub loop-mask-preserved : goal.loop-mask-preserved
 unfolding count_of
 loop-mask-preserved c = let l = c.loop-mask in

@@ -28,9 +28,6 @@ loop-s-init c = record {
 pub overflow_cast-counts : goal.overflow_cast-counts
 overflow_cast-counts c = record { fits = low (goal.at.overflow_cast-counts c).In-loop-s }
 
-pub used_count-n-requires : goal.used_count-n-requires
-used_count-n-requires c = omega (arith, fits (goal.at.used_count-n-requires c).In-loop-s)
-
 pub overflow_add-n : goal.overflow_add-n
 overflow_add-n c = record { fits = omega (arith, low (goal.at.overflow_add-n c).In-loop-s) }
 

@@ -14,10 +14,6 @@ pub returns-then-b-lt4 : goal.returns-then-b-lt4
 unfolding keys_at key_count key_at key_checks
 returns-then-b-lt4 c = gives_err (stop _ _ _ _ _ (λ h. omega arith))
 
-pub u32_at-n-requires : goal.u32_at-n-requires
-unfolding keys_at
-u32_at-n-requires c = omega arith
-
 pub returns-then-n-lt1 : goal.returns-then-n-lt1
 unfolding keys_at key_count key_at key_checks
 returns-then-n-lt1 c = gives_err (pass _ _ _ _ _ (omega arith) ∙ stop _ _ _ _ _ (λ h. omega arith))

@@ -1,21 +1,12 @@
 use native.Mathlib.Omega.{arith}
 use mathlib.Core.Path.{◌≡◌, ap, ◌∙◌}
 use lib.ListN.{length}
-use borrow.Author.Count.{below_none}
 use Rattle.verdict.proofs.Gives.{gives_ok, gives_exit, given, refuses}
-use Rattle.verdict.proofs.Scans.{each_more, each_stop, each_end, row_same}
+use Rattle.verdict.proofs.Scans.{each_more, each_stop, each_end}
 use Rattle.layout.specs.Table.{bucket_at, list_at}
 use Rattle.layout.proofs.Filled.{filled_more}
 use Rattle.layout.proofs.Accepted.{bucket_end}
 use Rattle.layout.proofs.tables.check_buckets.Goals as goal
-
-pub loop-k-init : goal.loop-k-init
-loop-k-init c = record {
-  inside = c.requires.1;
-  place = c.requires.0;
-  rest = row_same _ _ _ _ (omega arith);
-  filled = below_none _;
-}
 
 pub returns-in_err-p : goal.returns-in_err-p
 returns-in_err-p c =
