@@ -13,10 +13,7 @@ ghost use Rattle.nodes.specs.inner.Noted.{noted};
 fn worth(n: usize) -> bool
     ensures { Sure ((64 ≤ n) × (n < 65536)) result }
 {
-    if n <= 64 {
-        return false;
-    }
-    n < 65536
+    64 < n && n < 65536
 }
 
 // The value hash of the text at x, where n characters are left.

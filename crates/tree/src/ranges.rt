@@ -10,7 +10,7 @@ use nodes::fields;
 use region::{Region, SAMPLES, SEGMENT_HEADER};
 
 // The number of the first, where it stands, and how many they are.
-#[derive(Clone, Copy)]
+#[derive(Clone, Copy, Debug, PartialEq, Eq)]
 pub struct Children {
     pub first: usize,
     pub place: usize,
