@@ -45,8 +45,8 @@ pub fn check_keys(b: &[u8], names: Names) -> Result<(), Refusal>
     let n = le::u32_at(b, KEYS_AT);
     for k in 0..n {
         if !key_right(b, names, k) {
-            return Verdict::Refused(15, FIRST_KEY_AT + KEY_SIZE * k);
+            return Err(Refusal(Rule::Key, FIRST_KEY_AT + KEY_SIZE * k));
         }
     }
-    Verdict::Accepted
+    Ok(())
 }

@@ -30,7 +30,12 @@ fn entry_total(b: &[u8], s: Strings, segments: &[u32; SAMPLES], buckets: &[u32])
 }
 
 // Refusal 13 of every list position, where the entries passed 7 to 12.
-fn check_positions(b: &[u8], s: Strings, segments: &[u32; SAMPLES], buckets: &[u32]) -> Result<(), Refusal>
+fn check_positions(
+    b: &[u8],
+    s: Strings,
+    segments: &[u32; SAMPLES],
+    buckets: &[u32],
+) -> Result<(), Refusal>
     requires { Held b.now s segments.now buckets.now
         × (first_fault (all_entry_checks (held_table b.now s buckets.now)) ≡ Accepted) }
     ensures { answer_of result ≡ first_fault (all_position_checks (held_table b.now s buckets.now)) }
@@ -39,10 +44,13 @@ fn check_positions(b: &[u8], s: Strings, segments: &[u32; SAMPLES], buckets: &[u
     // No two entries carry one index: they would bear one text, and 12 refuses that. So where there are as many entries
     // as list positions, each position is carried, and none has to be looked for.
     if n <= entry_total(b, s, segments, buckets) + 1 {
-        return Verdict::Accepted;
+        return Ok(());
     }
     let i = uncarried::first_uncarried(b, s, segments, buckets, n);
-    Verdict::Refused(13, entry::position_at(b, s, segments, buckets, i))
+    Err(Refusal(
+        Rule::ListPosition,
+        entry::position_at(b, s, segments, buckets, i),
+    ))
 }
 
 // Refusals 7 to 13 of a table, up to the first fault; where there is none, whether its texts are known to fill its characters.
@@ -56,16 +64,7 @@ pub fn check_table(
     requires { Tables t.now × Held b.now s segments.now buckets.now }
     ensures { Gives (first_fault (string_checks (held_table b.now s buckets.now))) (Sure (Packed (held_table b.now s buckets.now))) result }
 {
-    let c = table::check_entries(b, t, s, segments, buckets);
-    let found = c.answer;
-    if let Verdict::Refused(num, place) = found {
-        return CheckedTable {
-            answer: Verdict::Refused(num, place),
-            packed: false,
-        };
-    }
-    CheckedTable {
-        answer: check_positions(b, s, segments, buckets),
-        packed: packing::is_packed(b, s, segments, buckets, c.begun),
-    }
+    let begun = table::check_entries(b, t, s, segments, buckets)?;
+    check_positions(b, s, segments, buckets)?;
+    Ok(packing::is_packed(b, s, segments, buckets, begun))
 }
