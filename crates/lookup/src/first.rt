@@ -21,21 +21,11 @@ use strings::{Strings, entry, fields};
 
 // An entry that may bear the text: where its own text starts, where it ends, and what is told of it. Where there is none, its text starts
 // at 0.
-#[derive(Clone, Copy)]
+#[derive(Clone, Copy, Debug, Default, PartialEq, Eq)]
 pub struct Candidate {
     pub text: usize,
     pub end: usize,
     pub result: usize,
-}
-
-fn no_candidate() -> Candidate
-    ensures { (result.text ≡ 0) × (result.end ≡ 0) }
-{
-    Candidate {
-        text: 0,
-        end: 0,
-        result: 0,
-    }
 }
 
 // Where the text of the entry at e starts. Its address resolves, so no count is read.
@@ -65,14 +55,11 @@ pub fn pick(
 {
     let k = hash::bucket(h, buckets.len());
     if entry::entry_count(b, s, segments, buckets, k) <= low {
-        return no_candidate();
+        return Candidate::default();
     }
     let e = entry::entry_at(b, s, segments, buckets, k, low);
-    if fields::hash(b, e) != h {
-        return no_candidate();
-    }
-    if fields::length(b, e) - 1 != n {
-        return no_candidate();
+    if fields::hash(b, e) != h || fields::length(b, e) - 1 != n {
+        return Candidate::default();
     }
     let x = text_at(b, s.chars, segments, e);
     Candidate {
@@ -104,10 +91,8 @@ pub fn find_picked(
     requires picked_entry { (text ≡ 0 → ⊥) → PickedEntry kind (held_table b.now s buckets.now) n text res }
     ensures { result ≡ told_in kind (held_table b.now s buckets.now) (chars q.now p n) }
 {
-    if text != 0 {
-        if text::alike(b, text, q, p, n) {
-            return Lookup::Found(res);
-        }
+    if text != 0 && text::alike(b, text, q, p, n) {
+        return Lookup::Found(res);
     }
     crate::find_from(b, s, segments, buckets, kind, h, low, q, p, n)
 }

@@ -41,8 +41,7 @@ pub fn list_below(
     let name = le::wide(wanted[at]);
     let c = ranges::children_of(b, nodes, segments, p);
     let mut m = k;
-    let mut j = 0;
-    while j < c.count {
+    for j in 0..c.count {
         let x = c.place + j * NODE_SIZE;
         if fields::node_name(b, x) == name {
             m = list_below(
@@ -58,7 +57,6 @@ pub fn list_below(
                 m,
             );
         }
-        j += 1;
     }
     m
 }

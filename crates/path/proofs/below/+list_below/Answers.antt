@@ -46,7 +46,7 @@ children_of-c-requires t c = let p = c.requires.tree_ready in
 
 pub loop-j-init : goal.loop-j-init
 unfolding ranged
-loop-j-init t c = (omega arith, wrote_none _ _)
+loop-j-init t c = wrote_none _ _
 
 pub overflow_add-x : goal.overflow_add-x
 overflow_add-x t c = record { fits = omega (arith, child t (goal.at.overflow_add-x t c).In-loop-j) }
@@ -66,21 +66,19 @@ list_below-m-requires t c =
     let q = c.requires.wanted_len in
     let m = more t at.Else-at-n in
     let h = hit_le Bits64 a.b.now a.wanted.now a.n a.at (long t at.Start) m a.a (first_is _ p.2 k) (count_is _ p.2 k) l.j (omega arith) e in
-    (omega (arith, c.decreases), ((p.0, w.0, w.1), (q.0, omega arith, q.2, omega (arith, l.invariant.1.next_is, q.3))))
+    (omega (arith, c.decreases), ((p.0, w.0, w.1), (q.0, omega arith, q.2, omega (arith, l.invariant.next_is, q.3))))
 
 pub loop-j-preserved : goal.loop-j-preserved
 loop-j-preserved t c =
     let a = c.args in
     let l = c.loop-j in
     let n = named t (goal.at.loop-j-preserved t c).After-node_name in
-    let g = c.wide-name.ensures.0 in (
-      omega arith,
-      elim c.if-node_name-name.branch [
-        | then-node_name-name w ↦
-            wrote_same (wrote_then l.invariant.1 w.list_below-m.ensures) (range_hit Bits64 a.b.now a.wanted.now a.n a.at _ l.j (sym n ∙ w.if-node_name-name.true ∙ g)) w.m-is w.list-is
-        | else-node_name-name w ↦ wrote_same l.invariant.1 (range_skip Bits64 a.b.now a.wanted.now a.n a.at _ l.j (λ z. w.if-node_name-name.false (n ∙ z ∙ sym g))) w.m-is w.list-is
-      ],
-    )
+    let g = c.wide-name.ensures.0 in
+    elim c.if-node_name-name.branch [
+      | then-node_name-name w ↦
+          wrote_same (wrote_then l.invariant w.list_below-m.ensures) (range_hit Bits64 a.b.now a.wanted.now a.n a.at _ l.j (sym n ∙ w.if-node_name-name.true ∙ g)) w.m-is w.list-is
+      | else-node_name-name w ↦ wrote_same l.invariant (range_skip Bits64 a.b.now a.wanted.now a.n a.at _ l.j (λ z. w.if-node_name-name.false (n ∙ z ∙ sym g))) w.m-is w.list-is
+    ]
 
 pub returns : goal.returns
 returns t c =
@@ -88,4 +86,4 @@ returns t c =
     let k = c.children_of-c.ensures in
     let q = c.requires.tree_ready.2 in
     let at = goal.at.returns t c in
-    wrote_same l.invariant.1 (whole Bits64 _ _ _ _ (long t at.Start) (more t at.Else-at-n) _ (first_is _ q k) (count_is _ q k) l.j (omega arith)) refl refl
+    wrote_same l.invariant (whole Bits64 _ _ _ _ (long t at.Start) (more t at.Else-at-n) _ (first_is _ q k) (count_is _ q k) l.j (omega arith)) refl refl
