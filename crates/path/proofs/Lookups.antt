@@ -1,12 +1,14 @@
 -- The names of a path looked up one after the other: what is known after n of them. Assumes nothing.
 use Rattle.tree.specs.Chain.{most_levels, deepest_level}
-use mathlib.Core.Path.{◌≡◌, refl, sym, ap, ◌∙◌}
+use mathlib.Core.Path.{◌≡◌, refl, sym, ap, subst, ◌∙◌}
 use mathlib.Core.Logic.{◌⊎◌, inl, inr}
 use mathlib.Core.Bool.{Bool, true, false, true≢false, false≢true}
 use mathlib.Core.List.{List, ◌∷◌}
-use Prim.Native.Nat.{ℕ, suc, ◌+◌, ◌-◌, ◌/◌, ◌%◌, ◌≤◌, ◌<◌}
+use Prim.Native.Nat.{ℕ, suc, ◌+◌, ◌-◌, ◌*◌, ◌/◌, ◌%◌, ◌≤◌, ◌<◌}
 use native.Mathlib.Nat.{not-suc-le-zero, add-zero, zero-add}
 use native.Mathlib.Omega.{arith}
+use borrow.Author.Tests.{eqb-true, eqb-false}
+use lib.Dec.{eqb}
 use lib.ListN.{length, get_or, set, replicate, length-set}
 use lib.Seq.{get_or-set_other}
 use Rattle.laws.proofs.Zeros.{zeros}
@@ -44,26 +46,29 @@ sofar_start ed b path = record {
 }
 
 module _ {ed : Edition} {b path : List ℕ} {n at : ℕ} {indices : List ℕ} (ok : Clean (path_checks path)) (w : Sofar ed b path n at indices) where
-  module _ {e : ℕ} (h : NameEnd path at e) where
-    next_names : names_from path at ≡ chars path at ((e - at) / 2) ∷ names_from path (e + 2)
-    next_names = names_more path at e (formed_inv path ok).0 w.even h
+  module _ (k : ℕ) (h : NameEnd path at (at + 2 * k)) where
+    next_names : names_from path at ≡ chars path at k ∷ names_from path (at + (2 * k + 2))
+    next_names =
+        let e : (at + 2 * k - at) / 2 ≡ k = omega arith in
+        let f : at + 2 * k + 2 ≡ at + (2 * k + 2) = omega arith in
+        rw (e, f) at (names_more path at (at + 2 * k) (formed_inv path ok).0 w.even h)
 
-    next_name : name_at (names_of path) n ≡ chars path at ((e - at) / 2)
+    next_name : name_at (names_of path) n ≡ chars path at k
     unfolding name_at
     next_name = ap (name_at (names_of path)) (sym (add-zero n)) ∙ w.same 0 ∙ ap (λ (xs : List (List ℕ)). name_at xs 0) next_names
 
-    pub sofar_more : (n ≡ deepest_level → ⊥) → (i : ℕ) → Bears ed b i (chars path at ((e - at) / 2)) → Sofar ed b path (n + 1) (e + 2) (set indices n i)
+    pub sofar_more : n < deepest_level → (i : ℕ) → Bears ed b i (chars path at k) → Sofar ed b path (n + 1) (at + (2 * k + 2)) (set indices n i)
     unfolding name_at
     sofar_more f i g = record {
       long = simp length-set w.long;
-      few = omega (arith, w.few);
+      few = omega arith;
       even = omega (arith, h.even);
-      within = h.within;
+      within = omega (arith, h.within);
       left = omega (arith, w.left, ap length next_names);
       same = λ k.
           let q : n + 1 + k ≡ n + suc k = omega arith in
           rw q (w.same (suc k) ∙ ap (λ (xs : List (List ℕ)). name_at xs (suc k)) next_names);
-      index = fill (λ (k y : ℕ). Bears ed b y (name_at (names_of path) k)) indices n i (omega (arith, w.few, w.long)) w.index (rw next_name g);
+      index = fill (λ (k y : ℕ). Bears ed b y (name_at (names_of path) k)) indices n i (omega (arith, w.long)) w.index (rw next_name g);
       rest = λ k l. rw (get_or-set_other indices n k i 0 (λ q. absurd (omega arith))) (w.rest k (omega arith));
     }
 
@@ -74,16 +79,22 @@ module _ {ed : Edition} {b path : List ℕ} {n at : ℕ} {indices : List ℕ} (o
   wanted_is known f g = record { long = w.long; few = w.few; index = w.index; rest = w.rest; many = f; none = g }
 
   -- all names
-  pub sofar_all : (known : Bool) → known ≡ true → length path ≤ at → WantedIs ed b path (record { known = known; count = n; indices = indices })
-  sofar_all known q h = wanted_is known (λ z. omega (arith, w.left, ap length (names_end path at h))) (λ z. absurd (true≢false (sym q ∙ z)))
+  all_names : at ≡ length path → n ≡ length (names_of path)
+  all_names h = omega (arith, w.left, ap length (names_end path at (omega arith)))
 
-  -- more names than a chain can bear
-  pub sofar_long : at < length path → n ≡ deepest_level → WantedIs ed b path (record { known = false; count = n; indices = indices })
-  sofar_long h l = wanted_is false (λ z. absurd (false≢true z)) (λ z. inl (l, omega (arith, w.left, names-some path at ok w.even h)))
+  pub sofar_known : at ≡ length path → WantedIs ed b path (record { known = true; count = n; indices = indices })
+  sofar_known h = wanted_is true (λ z. all_names h) (λ z. absurd (true≢false z))
+
+  -- as many names as a chain can bear, and no more or some
+  pub sofar_full : n ≡ deepest_level → WantedIs ed b path (record { known = eqb at (length path); count = deepest_level; indices = indices })
+  sofar_full l = subst (λ (m : ℕ). WantedIs ed b path (record { known = eqb at (length path); count = m; indices = indices })) l
+      (wanted_is (eqb at (length path))
+      (λ z. all_names (eqb-true at (length path) z))
+      (λ z. inl (l, omega (arith, w.left, w.within, eqb-false at (length path) z, names-some path at ok w.even))))
 
   -- a name that is no name of the file
-  pub sofar_absent : {e : ℕ} → NameEnd path at e → ((i : ℕ) → Bears ed b i (chars path at ((e - at) / 2)) → ⊥)
+  pub sofar_absent : (k : ℕ) → NameEnd path at (at + 2 * k) → ((i : ℕ) → Bears ed b i (chars path at k) → ⊥)
       → WantedIs ed b path (record { known = false; count = n; indices = indices })
-  sofar_absent h f =
+  sofar_absent k h f =
       wanted_is false (λ z. absurd (false≢true z))
-      (λ z. inr (omega (arith, w.left, ap length (next_names h)), λ k y. f k (rw (next_name h) at y)))
+      (λ z. inr (omega (arith, w.left, ap length (next_names k h)), λ i y. f i (rw (next_name k h) at y)))

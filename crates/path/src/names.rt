@@ -1,5 +1,5 @@
 // The names of a path, looked up once.
-ghost use Rattle.std.specs.Prelude.{◌≡◌, ◌%◌, ◌<◌, length};
+ghost use Rattle.std.specs.Prelude.{◌≡◌, ◌+◌, ◌*◌, ◌%◌, ◌<◌, length};
 ghost use Rattle.verdict.specs.Checks.{first_fault};
 ghost use Rattle.verdict.specs.declared.Verdict.TheVariants.{Accepted};
 ghost use Rattle.hash.specs.inner.Tables.{Tables};
@@ -40,16 +40,17 @@ pub fn check_path(path: &[u8]) -> Verdict
     Verdict::Accepted
 }
 
-// Where the name that starts at an offset ends: the offset of its 0.
-fn name_end(path: &[u8], at: usize) -> usize
+// How many characters stand in front of the 0 that ends the name at an offset.
+fn name_length(path: &[u8], at: usize) -> usize
     requires { (first_fault (path_checks path.now) ≡ Accepted) × (at % 2 ≡ 0) × (at < length path.now) }
-    ensures { NameEnd path.now at result }
+    ensures { NameEnd path.now at (at + 2 * result) }
 {
-    let mut e = at;
-    while le::u16_at(path, e) != 0 {
-        e += 2;
+    for k in 0..(path.len() - at) / 2 {
+        if le::u16_at(path, at + 2 * k) == 0 {
+            return k;
+        }
     }
-    e
+    unreachable!()
 }
 
 // The indices of a path's names.
@@ -66,44 +67,31 @@ pub(crate) fn find_names(
     ensures { WantedIs Bits64 b.now path.now result }
 {
     let mut indices = [0u32; MOST_LEVELS];
-    let mut known = true;
-    let mut n = 0usize;
     let mut at = 0;
-    while at < path.len() {
-        if n == DEEPEST_LEVEL {
-            known = false;
-            break;
+    for count in 0..DEEPEST_LEVEL {
+        if at == path.len() {
+            return Wanted {
+                known: true,
+                count,
+                indices,
+            };
         }
-        let e = name_end(path, at);
-        match lookup::find_text(
-            b,
-            t,
-            s,
-            segments,
-            buckets,
-            Kind::Name,
-            path,
-            at,
-            (e - at) / 2,
-        ) {
-            Lookup::Found(i) => {
-                indices[n] = i as u32;
-            }
-            Lookup::Collided(_) => {
-                known = false;
-                break;
-            }
-            Lookup::Absent => {
-                known = false;
-                break;
-            }
-        }
-        n += 1;
-        at = e + 2;
+        let n = name_length(path, at);
+        let Lookup::Found(i) =
+            lookup::find_text(b, t, s, segments, buckets, Kind::Name, path, at, n)
+        else {
+            return Wanted {
+                known: false,
+                count,
+                indices,
+            };
+        };
+        indices[count] = i as u32;
+        at += 2 * n + 2;
     }
     Wanted {
-        known,
-        count: n,
+        known: at == path.len(),
+        count: DEEPEST_LEVEL,
         indices,
     }
 }
