@@ -41,9 +41,9 @@ pub fn list_path(
     ensures listing { list.new ≡ listing_after Bits64 b.now path.now list.old result.answer }
 {
     let c = names::check_path(path);
-    if let Verdict::Refused(num, place) = c {
+    if let Verdict::Refused(..) = c {
         return Listing {
-            answer: Verdict::Refused(num, place),
+            answer: c,
             matches: 0,
         };
     }
@@ -54,20 +54,17 @@ pub fn list_path(
             matches: 0,
         };
     }
-    let n = w.count;
-    let indices = w.indices;
     let root = ranges::root_at(nodes);
-    let mut none = [0u8; 0];
     let k = below::list_below(
         b,
         nodes,
         node_segments,
-        &indices,
-        n,
+        &w.indices,
+        w.count,
         0,
         0,
         root,
-        &mut none,
+        &mut [],
         0,
     );
     if list.len() / 4 < k {
@@ -76,7 +73,18 @@ pub fn list_path(
             matches: 0,
         };
     }
-    let m = below::list_below(b, nodes, node_segments, &indices, n, 0, 0, root, list, 0);
+    let m = below::list_below(
+        b,
+        nodes,
+        node_segments,
+        &w.indices,
+        w.count,
+        0,
+        0,
+        root,
+        list,
+        0,
+    );
     Listing {
         answer: Verdict::Accepted,
         matches: m,

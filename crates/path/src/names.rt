@@ -77,9 +77,17 @@ pub(crate) fn find_names(
             };
         }
         let n = name_length(path, at);
-        let Lookup::Found(i) =
-            lookup::find_text(b, t, s, segments, buckets, Kind::Name, path, at, n)
-        else {
+        let Lookup::Found(i) = lookup::find_text(
+            b,
+            t,
+            s,
+            segments,
+            buckets,
+            Kind::Name,
+            path,
+            at,
+            n,
+        ) else {
             return Wanted {
                 known: false,
                 count,
