@@ -1,6 +1,7 @@
 // Lookups in a file that is accepted and whose view is held: nothing is checked a second time. The view is handed over whole once a
 // question; its arrays are lent from here on. Of one view only one array can be lent at a time, so the bucket starts are copied first.
 ghost use Rattle.std.specs.Prelude.{◌≡◌, ◌%◌, length};
+ghost use Rattle.verdict.specs.Verdict.{answer_of};
 ghost use Rattle.layout.specs.inner.View.{Fits};
 ghost use Rattle.layout.specs.declared.Edition.TheVariants.{Bits64};
 ghost use Rattle.lookup.specs.Lookup.{text_from};
@@ -9,10 +10,10 @@ ghost use Rattle.batch.specs.Places.{answers_after};
 ghost use Rattle.batch.specs.inner.Answer.{Answered};
 ghost use Rattle.accept.specs.Rules.{FileRules};
 
-use batch::Batch;
 use layout::View;
 use lookup::{Kind, Lookup};
 use strings::Strings;
+use verdict::Refusal;
 
 // What one text is told. It has an even number of bytes: for an odd one the question is refused with 24.
 pub fn find(file: &[u8], v: View, kind: Kind, text: &[u8]) -> Lookup
@@ -47,11 +48,11 @@ pub fn find(file: &[u8], v: View, kind: Kind, text: &[u8]) -> Lookup
 }
 
 // What each of many texts is told.
-pub fn find_texts(file: &[u8], v: View, kind: Kind, texts: &[u8], answers: &mut [u8]) -> Batch
+pub fn find_texts(file: &[u8], v: View, kind: Kind, texts: &[u8], answers: &mut [u8]) -> Result<usize, Refusal>
     requires { Fits Bits64 file.now v × FileRules Bits64 file.now }
     ensures answer { Answered texts.now (length answers.old) result }
     ensures answers { answers.new
-        ≡ answers_after (told_in kind (table_of Bits64 kind file.now)) texts.now answers.old result.answer }
+        ≡ answers_after (told_in kind (table_of Bits64 kind file.now)) texts.now answers.old (answer_of result) }
 {
     let t = hash::tables();
     let p = v.places;
