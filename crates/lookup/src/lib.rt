@@ -18,7 +18,6 @@ ghost use Rattle.lookup.specs.Kinds.{told_in, tells_at, kind_of, told_number};
 pub mod first;
 
 use region::SAMPLES;
-use strings::spot::Spot;
 use strings::{Strings, entry, fields, spot};
 
 // What a look-up answers: found, with a number; collided, with how many entries have the text's hash; absent.
@@ -74,11 +73,10 @@ fn entry_bears(
     if fields::length(b, e) != n + 1 {
         return false;
     }
-    let a = spot::entry_spot(b, s.chars, segments, e);
-    let Spot::At(x, _) = a else {
+    let Some(spot) = spot::entry_spot(b, s.chars, segments, e) else {
         return false;
     };
-    text::alike(b, x, q, p, n)
+    text::alike(b, spot.at, q, p, n)
 }
 
 // What is told of the n characters at p of what is asked, which no entry bears, when `count` entries have their hash. A 0 is looked for only
