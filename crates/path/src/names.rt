@@ -1,5 +1,5 @@
 // The names of a path, looked up once.
-ghost use Rattle.std.specs.Prelude.{◌≡◌, ◌+◌, ◌*◌, ◌%◌, ◌<◌, length};
+ghost use Rattle.std.specs.Prelude.{◌≡◌, ◌+◌, ◌*◌, ◌%◌, ◌<◌, MatchOption, length};
 ghost use Rattle.verdict.specs.Checks.{first_fault};
 ghost use Rattle.verdict.specs.Verdict.{Accepted, answer_of};
 ghost use Rattle.hash.specs.inner.Tables.{Tables};
@@ -8,18 +8,17 @@ ghost use Rattle.layout.specs.declared.Edition.TheVariants.{Bits64};
 ghost use Rattle.strings.specs.Order.{string_checks};
 ghost use Rattle.strings.specs.inner.Held.{Held, held_table};
 ghost use Rattle.path.specs.Names.{path_checks};
-ghost use Rattle.path.specs.inner.Indices.{NameEnd, WantedIs};
+ghost use Rattle.path.specs.inner.Indices.{NameEnd, Unborne, WantedIs};
 
 use lookup::{Kind, Lookup};
 use region::SAMPLES;
 use strings::Strings;
-use tree::{DEEPEST_LEVEL, MOST_LEVELS};
+use tree::MOST_LEVELS;
 use verdict::{Refusal, Rule};
 
-// The indices of the first `count` names; known is false where no node can bear the names.
+// The indices of a path's names, the first `count` of a chain's.
 #[derive(Clone, Copy)]
 pub struct Wanted {
-    pub known: bool,
     pub count: usize,
     pub indices: [u32; MOST_LEVELS],
 }
@@ -30,14 +29,12 @@ pub fn check_path(path: &[u8]) -> Result<(), Refusal>
 {
     let n = path.len();
     if n % 2 != 0 {
-        return Verdict::Refused(24, n);
+        return Err(Refusal(Rule::AskedText, n));
     }
-    if n != 0 {
-        if le::u16_at(path, n - 2) != 0 {
-            return Verdict::Refused(24, n);
-        }
+    if n != 0 && le::u16_at(path, n - 2) != 0 {
+        return Err(Refusal(Rule::AskedText, n));
     }
-    Verdict::Accepted
+    Ok(())
 }
 
 // How many characters stand in front of the 0 that ends the name at an offset.
@@ -53,7 +50,7 @@ fn name_length(path: &[u8], at: usize) -> usize
     unreachable!()
 }
 
-// The indices of a path's names.
+// The indices of a path's names, or nothing where no node can bear them: below the root a chain has fewer than `MOST_LEVELS` nodes.
 pub(crate) fn find_names(
     b: &[u8],
     t: &[u32; 2048],
@@ -61,20 +58,16 @@ pub(crate) fn find_names(
     segments: &[u32; SAMPLES],
     buckets: &[u32],
     path: &[u8],
-) -> Wanted
+) -> Option<Wanted>
     requires { Tables t.now × Held b.now s segments.now buckets.now × (held_table b.now s buckets.now ≡ names Bits64 b.now)
         × (first_fault (string_checks (names Bits64 b.now)) ≡ Accepted) × (first_fault (path_checks path.now) ≡ Accepted) }
-    ensures { WantedIs Bits64 b.now path.now result }
+    ensures { MatchOption result (Unborne Bits64 b.now path.now) (WantedIs Bits64 b.now path.now) }
 {
-    let mut indices = [0u32; MOST_LEVELS];
+    let mut indices = [0; MOST_LEVELS];
     let mut at = 0;
-    for count in 0..DEEPEST_LEVEL {
+    for count in 0..MOST_LEVELS {
         if at == path.len() {
-            return Wanted {
-                known: true,
-                count,
-                indices,
-            };
+            return Some(Wanted { count, indices });
         }
         let n = name_length(path, at);
         let Lookup::Found(i) = lookup::find_text(
@@ -88,18 +81,10 @@ pub(crate) fn find_names(
             at,
             n,
         ) else {
-            return Wanted {
-                known: false,
-                count,
-                indices,
-            };
+            return None;
         };
         indices[count] = i as u32;
         at += 2 * n + 2;
     }
-    Wanted {
-        known: at == path.len(),
-        count: DEEPEST_LEVEL,
-        indices,
-    }
+    None
 }

@@ -5,7 +5,7 @@ use Rattle.layout.specs.Table.{Table}
 use Rattle.layout.specs.declared.Edition.TheVariants.{Bits64}
 use Rattle.strings.specs.Order.{string_checks}
 use Rattle.path.proofs.Bearers.{found_bears, unfound_bears, index-low}
-use Rattle.path.proofs.Lookups.{sofar_start, sofar_more, sofar_absent, sofar_known, sofar_full}
+use Rattle.path.proofs.Lookups.{sofar_start, sofar_more, sofar_absent, sofar_all, sofar_long}
 use Rattle.path.proofs.names.find_names.Goals as goal
 
 pub find_text-requires : goal.find_text-requires
@@ -15,7 +15,7 @@ pub loop-count-init : goal.loop-count-init
 loop-count-init c = sofar_start Bits64 _ _
 
 pub returns-then-at-path : goal.returns-then-at-path
-returns-then-at-path c = sofar_known c.requires.4 c.loop-count.invariant c.if-at-path.true
+returns-then-at-path c = sofar_all c.requires.4 c.loop-count.invariant c.loop-count-test.true c.if-at-path.true
 
 pub returns-in_default : goal.returns-in_default
 returns-in_default c = sofar_absent c.requires.4 c.loop-count.invariant _ c.name_length-n.ensures
@@ -29,4 +29,4 @@ loop-count-preserved c =
     sofar_more c.requires.4 c.loop-count.invariant _ c.name_length-n.ensures c.loop-count-test.true _ (found_bears Bits64 _ _ c.requires.3 c.requires.2 c.find_text.ensures c.in-Found.is)
 
 pub returns : goal.returns
-returns c = sofar_full c.requires.4 c.loop-count.invariant (omega arith)
+returns c = sofar_long c.requires.4 c.loop-count.invariant c.loop-count-test.false
