@@ -23,11 +23,11 @@ ranged_le f a (suc n) zero h = absurd (not-suc-le-zero h)
 ranged_le f a (suc n) (suc m) h = simp length-append (omega (arith, ranged_le f (a + 1) n m (omega arith)))
 
 -- indices by the first and those behind it
-pub indices-split : (is : List ℕ) → 1 ≤ length is → is ≡ get_or is 0 0 ∷ take (length is - 1) (drop 1 is)
-indices-split [] h = absurd (not-suc-le-zero h)
-indices-split (i ∷ is) h =
+pub indices-split : (is : List ℕ) {n : ℕ} → 1 ≤ length is → n ≡ get_or is 0 0 → is ≡ n ∷ take (length is - 1) (drop 1 is)
+indices-split [] h q = absurd (not-suc-le-zero h)
+indices-split (i ∷ is) h q =
     let e : length (i ∷ is) - 1 ≡ length is = omega arith in
-    rw (e, take-length is)
+    rw (q, e, take-length is)
 
 -- no index left: the node itself
 pub at_end : (ed : Edition) (b is : List ℕ) (a : ℕ) → length is < 1 → matches_at (tree_of ed b) is a ≡ a ∷ []

@@ -28,17 +28,18 @@ pub fn list_below(
     requires few { (length wanted.now ≤ deepest_level) × (k + length (matches_at (tree_of Bits64 b.now) wanted.now a) ≤ 4294967296) }
     ensures { Wrote list.old k (matches_at (tree_of Bits64 b.now) wanted.now a) result list.new }
 {
-    let [name, rest @ ..] = wanted else {
+    let [index, rest @ ..] = wanted else {
         if k < list.len() / 4 {
             le::put_u32(list, 4 * k, a);
         }
         return k + 1;
     };
+    let name = le::wide(*index);
     let c = ranges::children_of(b, nodes, segments, p);
     let mut m = k;
     for j in 0..c.count {
         let x = c.place + j * NODE_SIZE;
-        if fields::node_name(b, x) == le::wide(*name) {
+        if fields::node_name(b, x) == name {
             m = list_below(b, nodes, segments, rest, c.first + j, x, list, m);
         }
     }

@@ -10,7 +10,7 @@ use Rattle.tree.proofs.Children.{node-fits, node_reached, child-name, child_fits
 use Rattle.path.proofs.Turns.{indices-split, at_end, whole, range_hit, range_skip, hit_le}
 use Rattle.path.proofs.Written.{wrote_none, wrote_one, wrote_not, wrote_same, wrote_then}
 use Rattle.path.proofs.below.+list_below.Goals as goal
-use Rattle.path.proofs.below.+list_below.Goals.{In-loop-j, After-node_name, then-k-list, else-k-list, then-node_name-wide, else-node_name-wide}
+use Rattle.path.proofs.below.+list_below.Goals.{In-loop-j, After-node_name, then-k-list, else-k-list, then-node_name-name, else-node_name-name}
 
 -- the child lies in the file
 child : (t : ℕ) (c : In-loop-j t)
@@ -50,10 +50,10 @@ list_below-m-requires t c =
     let l = c.loop-j in
     let k = c.children_of-c.ensures in
     let w = k.row.node l.j (omega arith) in
-    let e = sym (named t (goal.at.list_below-m-requires t c).After-node_name) ∙ c.if-node_name-wide.true ∙ c.wide.ensures.0 in
+    let e = sym (named t (goal.at.list_below-m-requires t c).After-node_name) ∙ c.if-node_name-name.true in
     let p = c.requires.tree_ready in
     let q = c.requires.few in
-    let s = indices-split c.args.wanted.now c.in-len1-up.len_at_least in
+    let s = indices-split c.args.wanted.now c.in-len1-up.len_at_least c.wide-name.ensures.0 in
     let h = hit_le Bits64 c.args.b.now _ _ s c.args.a (first_is _ p.2 k) (count_is _ p.2 k) l.j (omega arith) e in
     (omega (arith, c.decreases, ap length s), ((p.0, w.0, w.1), (omega (arith, q.0, ap length s), omega (arith, l.invariant.next_is, q.1))))
 
@@ -61,11 +61,10 @@ pub loop-j-preserved : goal.loop-j-preserved
 loop-j-preserved t c =
     let l = c.loop-j in
     let n = named t (goal.at.loop-j-preserved t c).After-node_name in
-    let g = c.wide.ensures.0 in
-    elim c.if-node_name-wide.branch [
-      | then-node_name-wide w ↦
-          wrote_same (wrote_then l.invariant w.list_below-m.ensures) (range_hit Bits64 c.args.b.now _ _ _ l.j (sym n ∙ w.if-node_name-wide.true ∙ g)) w.m-is w.list-is
-      | else-node_name-wide w ↦ wrote_same l.invariant (range_skip Bits64 c.args.b.now _ _ _ l.j (λ z. w.if-node_name-wide.false (n ∙ z ∙ sym g))) w.m-is w.list-is
+    elim c.if-node_name-name.branch [
+      | then-node_name-name w ↦
+          wrote_same (wrote_then l.invariant w.list_below-m.ensures) (range_hit Bits64 c.args.b.now _ _ _ l.j (sym n ∙ w.if-node_name-name.true)) w.m-is w.list-is
+      | else-node_name-name w ↦ wrote_same l.invariant (range_skip Bits64 c.args.b.now _ _ _ l.j (λ z. w.if-node_name-name.false (n ∙ z))) w.m-is w.list-is
     ]
 
 pub returns : goal.returns
@@ -73,4 +72,4 @@ returns t c =
     let k = c.children_of-c.ensures in
     let q = c.requires.tree_ready.2 in
     wrote_same c.loop-j.invariant
-    (whole Bits64 _ _ _ (indices-split c.args.wanted.now c.in-len1-up.len_at_least) _ (first_is _ q k) (count_is _ q k) c.loop-j.j (omega arith)) refl refl
+    (whole Bits64 _ _ _ (indices-split c.args.wanted.now c.in-len1-up.len_at_least c.wide-name.ensures.0) _ (first_is _ q k) (count_is _ q k) c.loop-j.j (omega arith)) refl refl
