@@ -25,25 +25,17 @@ const PLACE_SIZE: usize = 8;
 
 const VALUE_AT: usize = 4;
 
-// The end of the next block of characters: as long as its zeros can be counted at once.
-fn block_end(at: usize, end: usize) -> usize
-    requires { (at < end) × (at % 2 ≡ 0) × (end % 2 ≡ 0) }
-    ensures { (at < result) × (result ≤ end) × (result ≤ at + 131070) × (result % 2 ≡ 0) }
-{
-    if end - at < 131070 { end } else { at + 131070 }
-}
+// The bytes of the characters whose zeros are counted at once.
+const BLOCK_SIZE: usize = 2 * 65535;
 
-// How many texts there are: each 0 ends one.
+// How many texts there are: each 0 ends one. A block is as long as its zeros can be counted at once.
 fn count_texts(texts: &[u8]) -> usize
     requires { length texts.now % 2 ≡ 0 }
     ensures { result ≡ length (names_of texts.now) }
 {
-    let mut n = 0usize;
-    let mut at = 0;
-    while at < texts.len() {
-        let end = block_end(at, texts.len());
-        n += text::zeros(texts, at, (end - at) / 2);
-        at = end;
+    let mut n = 0;
+    for block in texts.chunks(BLOCK_SIZE) {
+        n += text::zeros(block, 0, block.len() / 2);
     }
     n
 }

@@ -1,5 +1,5 @@
 -- Path listing (FORMAT, "Questions"): the matches written out, or refusal 25.
-use Rattle.std.specs.Prelude.{ℕ, ◌+◌, ◌/◌, Bool, true, false, cond, not, ◌&&◌, List, [], ◌∷◌, ◌++◌, eqb, length, drop}
+use Rattle.std.specs.Prelude.{ℕ, ◌/◌, Bool, true, false, cond, not, ◌&&◌, List, [], ◌∷◌, ◌++◌, eqb, length, drop}
 use Rattle.le.specs.Le.{le4}
 use Rattle.verdict.specs.Checks.{Check, at_most}
 use Rattle.verdict.specs.Decide.{texts?}
