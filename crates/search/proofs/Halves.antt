@@ -1,7 +1,5 @@
 -- The search of a bucket by halving, in a table whose entries ascend by hash. Assumes nothing.
-use Prim.Native.Nat.{ℕ, ◌*◌, ◌^◌, ◌≤◌, ◌<◌}
-use native.Mathlib.Nat.{mul-le-mul}
-use native.Mathlib.Omega.{arith}
+use Prim.Native.Nat.{ℕ, ◌<◌}
 use mathlib.Core.Path.{◌≡◌}
 use Rattle.laws.specs.Halving.{Ascending}
 use Rattle.laws.proofs.Halving.{halving_laws}
@@ -27,7 +25,3 @@ bucket_search t ok b h k l r = halving_laws (hash_of t b) (entries t b) h (bucke
 pub halved_lower : (t : Table) (k h r : ℕ) → Clean (all_entry_checks t) → k < t.buckets → Halved t k h r → LowerBound t k h r
 halved_lower t k h r ok b w =
     rw w.stops (halving_laws (hash_of t k) (entries t k) h (bucket-ascends t ok k b) w.rounds w.allowed).first
-
--- a distance of hashes times a number of entries: what an estimate is made of
-pub distance_fits : (d n : ℕ) → d ≤ 2 ^ 33 → n ≤ 2 ^ 30 → d * n ≤ 2 ^ 63
-distance_fits d n h l = omega (arith, mul-le-mul {n₁ = d} {m₁ = n} {n₂ = 2 ^ 33} {m₂ = 2 ^ 30} h l)

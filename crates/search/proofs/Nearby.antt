@@ -9,12 +9,11 @@ use mathlib.Core.List.{List}
 use mathlib.Core.Bool.{Bool, true, false}
 use Rattle.std.specs.Prelude.{IfSome}
 use Rattle.std.specs.Bool.{then_some}
-use lib.Dec.{eqb}
 use borrow.Author.Tests.{lt-ltb, le-ltb}
 use Rattle.laws.specs.Halving.{Ascending, FirstNotBelow}
 use Rattle.laws.proofs.Order.{le_or_lt}
 use Rattle.verdict.specs.inner.Tells.{Tells}
-use Rattle.verdict.proofs.Laws.{Clean, tells_eqb}
+use Rattle.verdict.proofs.Laws.{Clean}
 use Rattle.hash.specs.Hash.{hash_text, bucket_of}
 use Rattle.layout.specs.Table.{Table, entries, hash_of}
 use Rattle.strings.specs.Texts.{text_of}
@@ -136,28 +135,6 @@ module _ (f : ℕ → ℕ) (n x : ℕ) (up : Ascending f n) where
       behind m a d z =
           let g : r < 8 = ⊎_elim (λ y. absurd (omega (arith, s.last (omega (arith, c.upto))))) (λ y. y) (le_or_lt 8 r) in
           omega (arith, c.above (w + 7) (omega arith) (omega arith), up (w + 7) m (omega arith) d)
-
--- x entries are in doubt before the eight from w on, and y behind them
-module _ (w c n x y : ℕ) (l : w + 8 ≤ n) (a : c ≡ 0 → x ≡ w) (b : (c ≡ 0 → ⊥) → x ≡ 0) (d : c ≡ 8 → y ≡ n - 8 - w) (e : (c ≡ 8 → ⊥) → y ≡ 0) where
-  none-before-eight : Settled w c n → x ≡ 0
-  none-before-eight s =
-      ⊎_elim (λ (f : c ≤ 0). let z : c ≡ 0 = omega arith in omega (arith, a z, s.first z)) (λ f. b (λ z. omega arith)) (le_or_lt c 0)
-
-  none_behind_eight : Settled w c n → y ≡ 0
-  none_behind_eight s =
-      ⊎_elim
-      (λ (f : c ≤ 8). ⊎_elim
-      (λ (g : 8 ≤ c). let z : c ≡ 8 = omega arith in omega (arith, d z, s.last z))
-      (λ g. e (λ z. omega arith))
-      (le_or_lt 8 c))
-      (λ f. e (λ z. omega arith))
-      (le_or_lt c 8)
-
-  pub settled_at : Tells (Settled w c n) (eqb (x + y) 0)
-  settled_at =
-      tells_eqb (x + y) 0
-      (λ z. record { first = λ f. omega (arith, a f, z); last = λ f. omega (arith, d f, z) })
-      (λ s. omega (arith, none-before-eight s, none_behind_eight s))
 
 -- ---- all of few, the last one as often as it takes
 

@@ -1,17 +1,15 @@
 -- The entries of a bucket with one hash, read in a row. Assumes nothing.
 use Prim.Native.Nat.{ℕ, ◌+◌, ◌≤◌, ◌<◌}
 use native.Mathlib.Omega.{arith}
-use mathlib.Core.Path.{◌≡◌, ap, sym, ◌∙◌}
-use mathlib.Core.Bool.{true, false, true≢false, false≢true}
+use mathlib.Core.Path.{◌≡◌, ap, ◌∙◌}
+use mathlib.Core.Bool.{false, false≢true}
 use mathlib.Core.Logic.{⊎_elim}
-use borrow.Author.Count.{below_more}
 use Rattle.laws.proofs.Order.{le_or_lt}
 use Rattle.verdict.proofs.Laws.{Clean}
 use Rattle.le.specs.Le.{u32_at}
 use Rattle.layout.specs.Table.{Table, entries, entry_at, hash_of}
 use Rattle.strings.specs.Order.{all_entry_checks}
 use Rattle.strings.proofs.Only.{rises}
-use Rattle.search.specs.inner.LowerBound.{LowerBound}
 use Rattle.search.specs.inner.Run.{word_of, Meets}
 
 -- a field, by where its entry stands
@@ -24,23 +22,7 @@ pub record Read (t : Table) (k h field w n j : ℕ) : Type 0 where
   pub none : (m : ℕ) → m < j → hash_of t k m ≡ h → word_of t k m field ≡ w → ⊥
   pub above : (m : ℕ) → j ≤ m → m < entries t k → h ≤ hash_of t k m
 
-pub read_start : (t : Table) (k h field w n j : ℕ) → n ≡ entries t k → LowerBound t k h j → Read t k h field w n j
-read_start t k h field w n j e f = record { many = e; none = λ m l g. absurd (omega (arith, f.below m l)); above = f.above }
-
 module _ (t : Table) (k h field w n j : ℕ) (r : Read t k h field w n j) where
-  pub read_more : (x : ℕ) → x ≡ word_of t k j field → (x ≡ w → ⊥) → Read t k h field w n (j + 1)
-  read_more x e f = record {
-    many = r.many;
-    none = below_more _ j r.none (λ a g. f (e ∙ g));
-    above = λ m l. r.above m (omega arith);
-  }
-
-  pub read_found : j < n → (x : ℕ) → x ≡ word_of t k j field → x ≡ w → Meets t k h field w true
-  read_found l x e f = record { so = λ a. (j, omega (arith, r.many), sym e ∙ f); not = λ a. absurd (true≢false a) }
-
-  pub read_none : n ≤ j → Meets t k h field w false
-  read_none l = record { so = λ a. absurd (false≢true a); not = λ a m b. r.none m (omega (arith, r.many)) }
-
   -- past an entry with another hash none has this one
   pub read_over : Clean (all_entry_checks t) → k < t.buckets → j < n → (x : ℕ) → x ≡ hash_of t k j → (x ≡ h → ⊥) → Meets t k h field w false
   read_over ok b l x e f = record { so = λ a. absurd (false≢true a); not = λ a m c g. ⊎_elim (later m c g) (λ d. r.none m d g) (le_or_lt j m) }

@@ -18,7 +18,7 @@ use Rattle.hash.specs.Hash.{bucket_of}
 use Rattle.layout.specs.Table.{Table, entries, hash_of}
 use Rattle.strings.specs.Order.{all_entry_checks}
 use Rattle.search.specs.inner.LowerBound.{Near, halved, Searching, told, going_on}
-use Rattle.search.specs.inner.Group.{LowerBounds, NearAt, AllNear, SearchingAt, AllSearching, Advanced, ListedBelow, ListedFrom, Looked, Gathered}
+use Rattle.search.specs.inner.Group.{LowerBounds, NearAt, AllNear, SearchingAt, AllSearching, Advanced, ListedFrom, Looked}
 use Rattle.search.proofs.Nearby.{near_place}
 
 -- ---- one search
@@ -55,41 +55,24 @@ module _ (t : Table) (k h : ℕ) where
 pub searching_in : (t : Table) (k m h lo hi : ℕ) → k ≡ m → Searching t k h lo hi → Searching t m h lo hi
 searching_in t k m h lo hi e s = subst (λ (x : ℕ). Searching t x h lo hi) e s
 
-module _ (t : Table) (k i h lo hi : ℕ) (q : k ≡ i) (s : Searching t i h lo hi) (l : lo < hi) (m w : ℕ) (c : m ≡ lo + (hi - lo) / 2) where
-  -- the middle is an entry of the bucket
-  pub middle_in : m < entries t k
-  middle_in = omega (arith, searching-high t k h lo hi (searching_in t i k h lo hi (sym q) s) l)
+module _ (t : Table) (k i h lo hi : ℕ) (q : k ≡ i) (s : Searching t i h lo hi) (l : lo < hi) (m w : ℕ) (c : m ≡ lo + (hi - lo) / 2) (e : w ≡ hash_of t k m) where
+  pub halve_up : w < h → Searching t i h (m + 1) hi × (lo < hi → hi - (m + 1) < hi - lo)
+  halve_up g = (
+    searching_in t k i h (m + 1) hi q (searching-up t k h lo hi m w l c e g (searching_in t i k h lo hi (sym q) s)),
+    λ _. omega arith,
+  )
 
-  module _ (e : w ≡ hash_of t k m) where
-    pub halve_up : w < h → Searching t i h (m + 1) hi × (lo < hi → hi - (m + 1) < hi - lo)
-    halve_up g = (
-      searching_in t k i h (m + 1) hi q (searching-up t k h lo hi m w l c e g (searching_in t i k h lo hi (sym q) s)),
-      λ _. omega arith,
-    )
-
-    pub halve_down : h ≤ w → Searching t i h lo m × (lo < hi → m - lo < hi - lo)
-    halve_down g = (
-      searching_in t k i h lo m q (searching-down t k h lo hi m w l c e g (searching_in t i k h lo hi (sym q) s)),
-      λ _. omega arith,
-    )
-
--- ---- the list of those that are not found yet
-
-pub listed-none : (n : ℕ) (xs : List ℕ) → length xs ≡ 64 → ListedBelow n 0 xs
-listed-none n xs e = record { long = e; few = omega arith; each = below_none _ }
-
-module _ (n m : ℕ) (xs : List ℕ) (r : ListedBelow n m xs) where
-  pub listed_wider : (k : ℕ) → n ≤ k → ListedBelow k m xs
-  listed_wider k l = record { long = r.long; few = r.few; each = λ i a. omega (arith, r.each i a) }
+  pub halve_down : h ≤ w → Searching t i h lo m × (lo < hi → m - lo < hi - lo)
+  halve_down g = (
+    searching_in t k i h lo m q (searching-down t k h lo hi m w l c e g (searching_in t i k h lo hi (sym q) s)),
+    λ _. omega arith,
+  )
 
 -- ---- the searches of many hashes
 
 -- by the hash that is read
 pub searching-of : (t : Table) (h g lo hi : ℕ) → h ≡ g → Searching t (bucket_of t.buckets g) g lo hi → Searching t (bucket_of t.buckets h) h lo hi
 searching-of t h g lo hi e s = rw e s
-
-pub searches_none : (t : Table) (hashes low high : List ℕ) → length low ≡ 64 → length high ≡ 64 → AllSearching t hashes 0 low high
-searches_none t hashes low high e f = record { lows = e; highs = f; each = below_none _ }
 
 module _ (t : Table) (hashes low high : List ℕ) (n : ℕ) (a : AllSearching t hashes n low high) where
   pub searches_upto : (m : ℕ) → m ≤ n → AllSearching t hashes m low high
@@ -147,9 +130,6 @@ near_upto t hashes low m a n l = record { long = a.long; each = λ i h. a.each i
 -- each of them is found
 pub near_all : (t : Table) (hashes low : List ℕ) → Clean (all_entry_checks t) → 0 < t.buckets → (n : ℕ) → AllNear t hashes n low → LowerBounds t hashes n low
 near_all t hashes low ok b n a = record { long = a.long; each = λ j l. near_place t (get_or hashes j 0) (get_or low j 0) b ok (a.each j l) }
-
-pub looked_none : (t : Table) (hashes low which : List ℕ) → length low ≡ 64 → length which ≡ 64 → Looked t hashes 0 low which 0 0
-looked_none t hashes low which e f = record { lows = e; listed = listed-none 0 which f; fewer = omega arith; each = below_none _ }
 
 module _ (t : Table) (hashes low which : List ℕ) (n m i : ℕ) (w : Looked t hashes n low which m i) where
   -- the list is empty
@@ -226,18 +206,3 @@ module _ (t : Table) (hashes low which : List ℕ) (j m : ℕ) (w : Looked t has
 
   pub looked_not : Looked t hashes (j + 1) (set low j r) (set which m j) (m + 1) 0
   looked_not = looked_more t hashes low which j m w a r (m + 1) (omega arith) (omega arith) (inr (omega arith))
-
--- ---- the list
-
-pub gathered_none : (hashes which rest : List ℕ) → length rest ≡ 64 → Gathered hashes which 0 rest
-gathered_none hashes which rest e = record { long = e; each = below_none _ }
-
-pub gathered_more : (hashes which rest : List ℕ) (i x y : ℕ) → Gathered hashes which i rest → i < 64 → y ≡ get_or which i 0 → x ≡ get_or hashes y 0
-    → Gathered hashes which (i + 1) (set rest i x)
-gathered_more hashes which rest i x y g l e f = record {
-  long = length-set rest i x ∙ g.long;
-  each = fill (λ (k z : ℕ). z ≡ get_or hashes (get_or which k 0) 0) rest i x (omega (arith, g.long)) g.each (f ∙ ap (λ (k : ℕ). get_or hashes k 0) e);
-}
-
-pub gathered_upto : (hashes which rest : List ℕ) (m : ℕ) → Gathered hashes which m rest → (n : ℕ) → n ≤ m → Gathered hashes which n rest
-gathered_upto hashes which rest m g n l = record { long = g.long; each = λ i h. g.each i (omega arith) }

@@ -1,10 +1,7 @@
-use Rattle.search.proofs.Searches.{held, looked_none, looked_upto, looked_told, looked_not}
+use Rattle.search.proofs.Searches.{held, looked_upto, looked_told, looked_not}
 use native.Mathlib.Omega.{arith}
 use Rattle.search.proofs.group.probe_each.Goals as goal
 use Rattle.search.proofs.group.probe_each.Goals.{then-is_none, else-is_none}
-
-pub loop-j-init : goal.loop-j-init
-loop-j-init c = let p = c.requires.3 in looked_none _ _ _ _ p.second p.third
 
 pub loop-j-preserved : goal.loop-j-preserved
 loop-j-preserved c = let w = c.loop-j.invariant in

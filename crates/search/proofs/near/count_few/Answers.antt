@@ -1,18 +1,12 @@
-use Rattle.strings.proofs.Places.{few-entries, here_in, hash_at}
+use Rattle.strings.proofs.Places.{hash_at}
 use Rattle.search.proofs.Nearby.{counting_start, counting_one, counting_other, counting_end, few-read, few-min}
-use mathlib.Core.Path.{refl, ◌∙◌}
+use mathlib.Core.Path.{◌∙◌}
 use native.Mathlib.Omega.{arith}
 use Rattle.search.proofs.near.count_few.Goals as goal
 use Rattle.search.proofs.near.count_few.Goals.{then-hash-h, else-hash-h}
 
 pub loop-i-init : goal.loop-i-init
 loop-i-init c = counting_start _ _
-
-pub overflow_add-w : goal.overflow_add-w
-overflow_add-w c = let p = c.requires in record { fits = omega (arith, p.3, few-entries _ _ _ _ p.0 _ p.1) }
-
-pub entry_at-e-requires : goal.entry_at-e-requires
-entry_at-e-requires c = let p = c.requires in (p.0, here_in _ _ _ _ p.1 refl (omega arith))
 
 pub loop-i-preserved : goal.loop-i-preserved
 loop-i-preserved c = let i = c.loop-i.invariant in

@@ -1,9 +1,6 @@
-use Rattle.search.proofs.Searches.{searching-all, searching_in, searches_none, searches_more, searches_upto}
+use Rattle.search.proofs.Searches.{searching-all, searching_in, searches_more, searches_upto}
 use native.Mathlib.Omega.{arith}
 use Rattle.search.proofs.pending.begin_each.Goals as goal
-
-pub loop-j-init : goal.loop-j-init
-loop-j-init c = let p = c.requires.2 in searches_none _ _ _ _ p.second p.third
 
 pub loop-j-preserved : goal.loop-j-preserved
 loop-j-preserved c = let w = c.loop-j.invariant in

@@ -1,8 +1,5 @@
 use Rattle.search.proofs.Searches.{searching_end}
 use Rattle.search.proofs.pending.finish.Goals as goal
 
-pub loop-x-smaller : goal.loop-x-smaller
-loop-x-smaller c = c.halve-x.ensures.1 c.loop-x-test.true
-
 pub returns : goal.returns
 returns c = searching_end _ _ _ _ _ c.loop-x.invariant c.loop-x-test.false
