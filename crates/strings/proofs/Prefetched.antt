@@ -11,7 +11,7 @@ use Rattle.strings.specs.Texts.{text_spot}
 use Rattle.strings.specs.Rules.{Resolved}
 use Rattle.strings.specs.inner.Ahead.{Prefetched, Stood, SeenBefore, ReadAhead, Ahead}
 use Rattle.strings.specs.declared.spot.Spot.{Spot}
-use Rattle.strings.proofs.Filling.{fill}
+use Rattle.strings.proofs.Filling.{fill_any}
 use Rattle.strings.proofs.Spots.{Spotted, spot-text, spot_out}
 
 module _ (t : Table) (k j : ℕ) {r : Option Spot} (g : r ≡ text_spot t k j) where
@@ -25,7 +25,7 @@ module _ (t : Table) (k j : ℕ) {r : Option Spot} (g : r ≡ text_spot t k j) w
 pub stood_more : {t : Table} {k j i : ℕ} {spots : List (Option Spot)} → Stood t k j i spots → i < length spots → {r : Option Spot} → r ≡ text_spot t k (j + i)
     → Stood t k j (i + 1) (set spots i r)
 stood_more {t} {k} {j} {i} {spots} s l {r} e = record {
-  each = fill None (λ (y : ℕ) (x : Option Spot). x ≡ text_spot t k (j + y)) spots i r l s.each e;
+  each = fill_any None (λ (y : ℕ) (x : Option Spot). x ≡ text_spot t k (j + y)) spots i r l s.each e;
 }
 
 -- m entries that stand and are seen, where no more are left or there are 64
