@@ -15,7 +15,7 @@ use Rattle.text.specs.Text.{chars}
 use Rattle.text.specs.inner.Zeros.{zeros_in}
 use Rattle.text.proofs.Counted.{zeros_none}
 use Rattle.lookup.specs.Lookup.{text_from}
-use Rattle.path.specs.Names.{split, add_char, names_of}
+use Rattle.path.specs.Names.{split, names_of}
 use Rattle.path.proofs.Split.{length_add}
 
 -- ---- zeros among characters
@@ -97,8 +97,8 @@ module _ (x r : List ℕ) where
       cc)
 
 module _ {texts s : List ℕ} {n : ℕ} (w : Counting texts n s) (x r : List ℕ) (e : s ≡ x ++ r) (even : length x % 2 ≡ 0) where
-  pub counting_few : length texts % 2 ≡ 0 → n + zeros_in x 0 (length x / 2) ≤ length texts
-  counting_few h = omega (arith, w.left, ap (λ (y : List ℕ). zeros_in y 0 (length y / 2)) e, zeros-block x r even, zeros_le texts 0 (length texts / 2))
+  pub counting_few : n + zeros_in x 0 (length x / 2) ≤ length texts
+  counting_few = omega (arith, w.left, ap (λ (y : List ℕ). zeros_in y 0 (length y / 2)) e, zeros-block x r even, zeros_le texts 0 (length texts / 2))
 
   pub counting_more : Counting texts (n + zeros_in x 0 (length x / 2)) r
   counting_more = record {

@@ -67,13 +67,12 @@ fn put_places(
     ensures { answers.new
         ≡ splice answers.old 0 (places (told_in kind (held_table b.now s buckets.now)) (names_of texts.now)) }
 {
-    let mut lengths = [0usize; 64];
-    let mut hashes = [0u32; 64];
-    let mut low = [0usize; 64];
-    let mut text = [0usize; 64];
-    let mut results = [0usize; 64];
+    let mut lengths = [0; 64];
+    let mut hashes = [0; 64];
+    let mut low = [0; 64];
+    let mut picked = [None; 64];
     let mut skipped = 0;
-    let mut i = 0usize;
+    let mut i = 0;
     let mut at = 0;
     while at < texts.len() {
         let n = group::measure_group(texts, t, at, &mut lengths, &mut hashes);
@@ -90,11 +89,9 @@ fn put_places(
             &hashes,
             n,
             &mut low,
-            &mut text,
-            &mut results,
+            &mut picked,
         );
-        let mut j = 0;
-        while j < n {
+        for j in 0..n {
             let k = lengths[j];
             let l = first::find_picked(
                 b,
@@ -104,8 +101,7 @@ fn put_places(
                 kind,
                 le::wide(hashes[j]),
                 low[j] % 4294967296,
-                text[j],
-                results[j],
+                picked[j],
                 texts,
                 at,
                 k,
@@ -113,12 +109,12 @@ fn put_places(
             put_place(answers, i, l);
             i += PLACE_SIZE;
             at += 2 * k + 2;
-            j += 1;
         }
     }
 }
 
-// Looks up each text in a table that is accepted: refusal 24 or 25, or how many there are; nothing is written unless there is a place for each.
+// Looks up each text in a table that is accepted: refusal 24 or 25, or how many there are. Nothing is written unless there is a place for
+// each.
 pub fn find_each(
     b: &[u8],
     t: &[u32; 2048],
@@ -135,23 +131,11 @@ pub fn find_each(
     ensures answers { answers.new
         ≡ answers_after (told_in kind (held_table b.now s buckets.now)) texts.now answers.old (answer_of result) }
 {
-    let c = path::names::check_path(texts);
-    if let Verdict::Refused(num, place) = c {
-        return Batch {
-            answer: Verdict::Refused(num, place),
-            texts: 0,
-        };
-    }
+    path::names::check_path(texts)?;
     let n = count_texts(texts);
     if answers.len() / PLACE_SIZE < n {
-        return Batch {
-            answer: Verdict::Refused(25, n),
-            texts: 0,
-        };
+        return Err(Refusal(Rule::AnswerRoom, n));
     }
     put_places(b, t, s, segments, buckets, kind, texts, answers);
-    Batch {
-        answer: Verdict::Accepted,
-        texts: n,
-    }
+    Ok(n)
 }
