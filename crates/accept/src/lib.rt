@@ -9,6 +9,9 @@ ghost use Rattle.tree.specs.Outcome.{workspace_after};
 ghost use Rattle.accept.specs.Verdict.{verdict_of};
 ghost use Rattle.accept.specs.inner.Accepted.{Judged};
 
+pub mod file;
+
+use hash::HashTables;
 use layout::View;
 use strings::Strings;
 use verdict::Refusal;
@@ -19,7 +22,7 @@ fn check_contents(b: &[u8], v: &View, ws: &mut [u8]) -> Result<(), Refusal>
     ensures answer { answer_of result ≡ verdict_of Bits64 b.now (length ws.old) }
     ensures workspace { ws.new ≡ workspace_after Bits64 b.now ws.old (verdict_of Bits64 b.now (length ws.old)) }
 {
-    let t = hash::tables();
+    let t = HashTables::new();
     let p = v.places;
     let value_chars = p.value_chars;
     let name_chars = p.name_chars;

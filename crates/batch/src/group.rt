@@ -3,29 +3,26 @@
 ghost use Rattle.std.specs.Prelude.{◌≡◌, ◌+◌, ◌%◌, ◌≤◌, ◌<◌, length};
 ghost use Rattle.verdict.specs.Checks.{first_fault};
 ghost use Rattle.verdict.specs.Verdict.{Accepted};
-ghost use Rattle.hash.specs.inner.Tables.{Tables};
-ghost use Rattle.strings.specs.Order.{string_checks};
-ghost use Rattle.strings.specs.inner.Held.{Held, held_table};
+ghost use Rattle.strings.specs.inner.Lent.{lent_table};
 ghost use Rattle.path.specs.Names.{path_checks};
 ghost use Rattle.search.specs.inner.Group.{LowerBounds, Lengths};
 ghost use Rattle.batch.specs.inner.Groups.{Group, PackedBounds, Texts, Picked, SameLow};
 
+use hash::HashTables;
 use lookup::first::Candidate;
 use lookup::{Kind, first};
-use region::SAMPLES;
 use search::group;
-use strings::Strings;
+use strings::checked::CheckedTable;
 
 // Measures the texts from offset `at` on, until the slots are full or the texts end. One pass finds a text's end and its hash.
 pub fn measure_group(
     texts: &[u8],
-    t: &[u32; 2048],
+    t: &HashTables,
     at: usize,
     lengths: &mut [usize; 64],
     hashes: &mut [u32; 64],
 ) -> usize
-    requires { Tables t.now × (first_fault (path_checks texts.now) ≡ Accepted) × (at % 2 ≡ 0) × (at < length texts.now)
-        × (length lengths.old ≡ 64) × (length hashes.old ≡ 64) }
+    requires { (first_fault (path_checks texts.now) ≡ Accepted) × (at % 2 ≡ 0) × (at < length texts.now) × (length lengths.old ≡ 64) × (length hashes.old ≡ 64) }
     ensures { (1 ≤ result) × Group texts.now at result lengths.new hashes.new }
 {
     let mut p = at;
@@ -43,10 +40,7 @@ pub fn measure_group(
 
 // Picks an entry for each text, by its hash and its length.
 fn pick_each(
-    b: &[u8],
-    s: Strings,
-    segments: &[u32; SAMPLES],
-    buckets: &[u32],
+    checked: &CheckedTable,
     kind: Kind,
     lengths: &[usize; 64],
     hashes: &[u32; 64],
@@ -54,21 +48,11 @@ fn pick_each(
     n: usize,
     picked: &mut [Option<Candidate>; 64],
 )
-    requires { Held b.now s segments.now buckets.now × (first_fault (string_checks (held_table b.now s buckets.now)) ≡ Accepted)
-        × (n ≤ 64) × Lengths lengths.now hashes.now low.now × (length picked.old ≡ 64) }
-    ensures { Picked kind (held_table b.now s buckets.now) lengths.now n picked.new }
+    requires { (n ≤ 64) × Lengths lengths.now hashes.now low.now × (length picked.old ≡ 64) }
+    ensures { Picked kind (lent_table checked.now.table) lengths.now n picked.new }
 {
     for j in 0..n {
-        picked[j] = first::pick(
-            b,
-            s,
-            segments,
-            buckets,
-            kind,
-            le::wide(hashes[j]),
-            low[j],
-            lengths[j],
-        );
+        picked[j] = first::pick(checked, kind, le::wide(hashes[j]), low[j], lengths[j]);
     }
 }
 
@@ -89,10 +73,7 @@ fn read_ends(b: &[u8], picked: &[Option<Candidate>; 64], n: usize, low: &mut [us
 // An entry picked for each text of a group. The entries' texts are read ahead, unless the table is small: texts take a few times as much
 // memory as entries, so that is sooner than for the entries themselves.
 pub fn prefetch_texts(
-    b: &[u8],
-    s: Strings,
-    segments: &[u32; SAMPLES],
-    buckets: &[u32],
+    checked: &CheckedTable,
     kind: Kind,
     lengths: &[usize; 64],
     hashes: &[u32; 64],
@@ -100,16 +81,13 @@ pub fn prefetch_texts(
     low: &mut [usize; 64],
     picked: &mut [Option<Candidate>; 64],
 )
-    requires { Held b.now s segments.now buckets.now × (first_fault (string_checks (held_table b.now s buckets.now)) ≡ Accepted)
-        × (n ≤ 64) × Lengths lengths.now hashes.now low.old × (length picked.old ≡ 64)
-        × LowerBounds (held_table b.now s buckets.now) hashes.now n low.old }
-    ensures near { PackedBounds (held_table b.now s buckets.now) hashes.now n low.new }
-    ensures picked { Picked kind (held_table b.now s buckets.now) lengths.now n picked.new }
+    requires { (n ≤ 64) × Lengths lengths.now hashes.now low.old × (length picked.old ≡ 64) × LowerBounds (lent_table checked.now.table) hashes.now n low.old }
+    ensures near { PackedBounds (lent_table checked.now.table) hashes.now n low.new }
+    ensures picked { Picked kind (lent_table checked.now.table) lengths.now n picked.new }
 {
-    pick_each(
-        b, s, segments, buckets, kind, lengths, hashes, low, n, picked,
-    );
-    if group::spread(b, s, segments, buckets, 262144) {
-        read_ends(b, picked, n, low);
+    let table = &checked.table;
+    pick_each(checked, kind, lengths, hashes, low, n, picked);
+    if group::spread(table, 262144) {
+        read_ends(table.file, picked, n, low);
     }
 }

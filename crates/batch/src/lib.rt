@@ -5,9 +5,7 @@ ghost use Rattle.std.specs.Prelude.{◌≡◌, ◌+◌, ◌*◌, ◌%◌, ◌≤
 ghost use Rattle.laws.specs.inner.Lists.{splice};
 ghost use Rattle.verdict.specs.Checks.{first_fault};
 ghost use Rattle.verdict.specs.Verdict.{Accepted, answer_of};
-ghost use Rattle.hash.specs.inner.Tables.{Tables};
-ghost use Rattle.strings.specs.Order.{string_checks};
-ghost use Rattle.strings.specs.inner.Held.{Held, held_table};
+ghost use Rattle.strings.specs.inner.Lent.{lent_table};
 ghost use Rattle.lookup.specs.Kinds.{told_in};
 ghost use Rattle.path.specs.Names.{names_of, path_checks};
 ghost use Rattle.batch.specs.Places.{place, places, answers_after};
@@ -15,9 +13,9 @@ ghost use Rattle.batch.specs.inner.Answer.{Answered};
 
 mod group;
 
+use hash::HashTables;
 use lookup::{Kind, Lookup, first};
-use region::SAMPLES;
-use strings::Strings;
+use strings::checked::CheckedTable;
 use verdict::{Refusal, Rule};
 
 // The bytes of a text's place in the answers, and where its value stands in it, behind the kind.
@@ -51,22 +49,12 @@ fn put_place(answers: &mut [u8], at: usize, l: Lookup)
 }
 
 // Writes what each text's lookup answers, a group of texts at a time.
-fn put_places(
-    b: &[u8],
-    t: &[u32; 2048],
-    s: Strings,
-    segments: &[u32; SAMPLES],
-    buckets: &[u32],
-    kind: Kind,
-    texts: &[u8],
-    answers: &mut [u8],
-)
-    requires tables { Tables t.now × Held b.now s segments.now buckets.now
-        × (first_fault (string_checks (held_table b.now s buckets.now)) ≡ Accepted) }
+fn put_places(checked: &CheckedTable, t: &HashTables, kind: Kind, texts: &[u8], answers: &mut [u8])
     requires texts_value { (first_fault (path_checks texts.now) ≡ Accepted) × (8 * length (names_of texts.now) ≤ length answers.old) }
     ensures { answers.new
-        ≡ splice answers.old 0 (places (told_in kind (held_table b.now s buckets.now)) (names_of texts.now)) }
+        ≡ splice answers.old 0 (places (told_in kind (lent_table checked.now.table)) (names_of texts.now)) }
 {
+    let table = &checked.table;
     let mut lengths = [0; 64];
     let mut hashes = [0; 64];
     let mut low = [0; 64];
@@ -76,28 +64,12 @@ fn put_places(
     let mut at = 0;
     while at < texts.len() {
         let n = group::measure_group(texts, t, at, &mut lengths, &mut hashes);
-        skipped = search::group::lower_bounds(
-            b, s, segments, buckets, &hashes, n, skipped, &mut low,
-        );
-        group::prefetch_texts(
-            b,
-            s,
-            segments,
-            buckets,
-            kind,
-            &lengths,
-            &hashes,
-            n,
-            &mut low,
-            &mut picked,
-        );
+        skipped = search::group::lower_bounds(table, &hashes, n, skipped, &mut low);
+        group::prefetch_texts(checked, kind, &lengths, &hashes, n, &mut low, &mut picked);
         for j in 0..n {
             let k = lengths[j];
             let l = first::find_picked(
-                b,
-                s,
-                segments,
-                buckets,
+                checked,
                 kind,
                 le::wide(hashes[j]),
                 low[j] % 4294967296,
@@ -116,26 +88,21 @@ fn put_places(
 // Looks up each text in a table that is accepted: refusal 24 or 25, or how many there are. Nothing is written unless there is a place for
 // each.
 pub fn find_each(
-    b: &[u8],
-    t: &[u32; 2048],
-    s: Strings,
-    segments: &[u32; SAMPLES],
-    buckets: &[u32],
+    checked: &CheckedTable,
+    t: &HashTables,
     kind: Kind,
     texts: &[u8],
     answers: &mut [u8],
 ) -> Result<usize, Refusal>
-    requires { Tables t.now × Held b.now s segments.now buckets.now
-        × (first_fault (string_checks (held_table b.now s buckets.now)) ≡ Accepted) }
     ensures answer { Answered texts.now (length answers.old) result }
     ensures answers { answers.new
-        ≡ answers_after (told_in kind (held_table b.now s buckets.now)) texts.now answers.old (answer_of result) }
+        ≡ answers_after (told_in kind (lent_table checked.now.table)) texts.now answers.old (answer_of result) }
 {
     path::names::check_path(texts)?;
     let n = count_texts(texts);
     if answers.len() / PLACE_SIZE < n {
         return Err(Refusal(Rule::AnswerRoom, n));
     }
-    put_places(b, t, s, segments, buckets, kind, texts, answers);
+    put_places(checked, t, kind, texts, answers);
     Ok(n)
 }

@@ -65,56 +65,64 @@ pub fn byte_on(t: &[u32; 256], h: usize, b: usize) -> usize
 }
 
 // T, and after it the same entries one to seven zero bytes on, so that four characters go in one step.
-// A constant is laid on the stack at each use: this is made once, at the top, and lent.
-pub fn tables() -> [u32; 2048]
-    ensures { Tables result }
-{
-    let source = T;
-    let mut t = [0u32; 2048];
-    t[..256].copy_from_slice(&source);
-    for i in 256..2048 {
-        let e = t[i - 256];
-        t[i] = source[low(le::wide(e))] ^ (e >> 8);
+#[derive(Clone, Copy)]
+pub struct HashTables {
+    entries: [u32; 2048],
+    pub ghost made: { Tables entries },
+}
+
+impl HashTables {
+    // Made once, at the top, and lent: a constant is laid on the stack at each use.
+    pub fn new() -> Self {
+        let source = T;
+        let mut t = [0u32; 2048];
+        t[..256].copy_from_slice(&source);
+        for i in 256..2048 {
+            let e = t[i - 256];
+            t[i] = source[low(le::wide(e))] ^ (e >> 8);
+        }
+        HashTables { entries: t }
     }
-    t
-}
 
-// The hash after one character more: its low byte and its high byte in one step.
-pub fn char_on(t: &[u32; 2048], h: usize, c: usize) -> usize
-    requires { Tables t.now × (h < 2 ^ 32) × (c < 65536) }
-    ensures { (result ≡ hash_char h c) × (result < 2 ^ 32) }
-{
-    let x = h ^ c;
-    le::wide(t[256 + low(x)]) ^ (le::wide(t[low(x >> 8)]) ^ (x >> 16))
-}
+    // The hash after one character more: its low byte and its high byte in one step.
+    pub fn char_on(&self, h: usize, c: usize) -> usize
+        requires { (h < 2 ^ 32) × (c < 65536) }
+        ensures { (result ≡ hash_char h c) × (result < 2 ^ 32) }
+    {
+        let x = h ^ c;
+        le::wide(self.entries[256 + low(x)]) ^ (le::wide(self.entries[low(x >> 8)]) ^ (x >> 16))
+    }
 
-// A hash, k + 4 zero bytes on: each of its bytes through the table that is as far on as that byte has to go.
-fn bytes_on(t: &[u32; 2048], k: usize, x: usize) -> usize
-    requires { Tables t.now × (k ≤ 4) × (x < 2 ^ 32) }
-    ensures { (result ≡ zeros_on (k + 4) x) × (result < 2 ^ 32) }
-{
-    let first = 256 * k;
-    let a = le::wide(t[first + 768 + low(x)]) ^ le::wide(t[first + 512 + low(x >> 8)]);
-    let b = le::wide(t[first + 256 + low(x >> 16)]) ^ le::wide(t[first + low(x >> 24)]);
-    a ^ b
-}
+    // A hash, k + 4 zero bytes on: each of its bytes through the table that is as far on as that byte has to go.
+    fn bytes_on(&self, k: usize, x: usize) -> usize
+        requires { (k ≤ 4) × (x < 2 ^ 32) }
+        ensures { (result ≡ zeros_on (k + 4) x) × (result < 2 ^ 32) }
+    {
+        let first = 256 * k;
+        let a = le::wide(self.entries[first + 768 + low(x)])
+            ^ le::wide(self.entries[first + 512 + low(x >> 8)]);
+        let b = le::wide(self.entries[first + 256 + low(x >> 16)])
+            ^ le::wide(self.entries[first + low(x >> 24)]);
+        a ^ b
+    }
 
-// The hash after two characters more, read as one word: all four bytes in one step.
-pub fn pair_on(t: &[u32; 2048], h: usize, w: usize) -> usize
-    requires { Tables t.now × (h < 2 ^ 32) × (w < 2 ^ 32) }
-    ensures { (result ≡ hash_char (hash_char h (w % 65536)) (w / 65536)) × (result < 2 ^ 32) }
-{
-    bytes_on(t, 0, h ^ w)
-}
+    // The hash after two characters more, read as one word: all four bytes in one step.
+    pub fn pair_on(&self, h: usize, w: usize) -> usize
+        requires { (h < 2 ^ 32) × (w < 2 ^ 32) }
+        ensures { (result ≡ hash_char (hash_char h (w % 65536)) (w / 65536)) × (result < 2 ^ 32) }
+    {
+        self.bytes_on(0, h ^ w)
+    }
 
-// The hash after four characters more, read as two words: all eight bytes in one step. What the second word adds does not wait
-// for the hash.
-pub fn quad_on(t: &[u32; 2048], h: usize, v: usize, w: usize) -> usize
-    requires { Tables t.now × (h < 2 ^ 32) × (v < 2 ^ 32) × (w < 2 ^ 32) }
-    ensures { (result ≡ hash_char (hash_char (hash_char (hash_char h (v % 65536)) (v / 65536)) (w % 65536)) (w / 65536)) × (result < 2 ^ 32) }
-{
-    let near = bytes_on(t, 0, w);
-    bytes_on(t, 4, h ^ v) ^ near
+    // The hash after four characters more, read as two words: all eight bytes in one step. What the second word adds does not wait
+    // for the hash.
+    pub fn quad_on(&self, h: usize, v: usize, w: usize) -> usize
+        requires { (h < 2 ^ 32) × (v < 2 ^ 32) × (w < 2 ^ 32) }
+        ensures { (result ≡ hash_char (hash_char (hash_char (hash_char h (v % 65536)) (v / 65536)) (w % 65536)) (w / 65536)) × (result < 2 ^ 32) }
+    {
+        let near = self.bytes_on(0, w);
+        self.bytes_on(4, h ^ v) ^ near
+    }
 }
 
 // The bucket of a hash, among n. The tables have 1,024 and 512: a remainder by a number that is known takes no division.

@@ -1,15 +1,12 @@
 // A lookup whose text is compared later: what is known before any text of the table is read, so that a caller with many can have their
 // texts read ahead.
 ghost use Rattle.std.specs.Prelude.{◌≡◌, ◌+◌, ◌*◌, ◌≤◌, IfSome, length};
-ghost use Rattle.verdict.specs.Checks.{first_fault};
-ghost use Rattle.verdict.specs.Verdict.{Accepted};
 ghost use Rattle.hash.specs.Hash.{hash_text, bucket_of};
 ghost use Rattle.region.specs.Region.{place_of, Resolves};
 ghost use Rattle.region.specs.inner.Samples.{Mapped, Starts};
 ghost use Rattle.text.specs.Text.{chars};
 ghost use Rattle.layout.specs.Table.{entry_segment, entry_element};
-ghost use Rattle.strings.specs.Order.{string_checks};
-ghost use Rattle.strings.specs.inner.Held.{Held, held_table};
+ghost use Rattle.strings.specs.inner.Lent.{lent_table};
 ghost use Rattle.search.specs.inner.LowerBound.{LowerBound};
 ghost use Rattle.lookup.specs.Kinds.{told_in};
 ghost use Rattle.lookup.specs.inner.PickedEntry.{PickedEntry};
@@ -17,7 +14,8 @@ ghost use Rattle.lookup.specs.inner.PickedEntry.{PickedEntry};
 use crate::{Kind, Lookup};
 use layout::CHARACTER_SIZE;
 use region::{Region, SAMPLES};
-use strings::{Strings, entry, fields};
+use strings::checked::CheckedTable;
+use strings::{entry, fields};
 
 // An entry that bears as many characters as are asked for: where its text starts, where it ends, and what is told of it.
 #[derive(Clone, Copy, Debug, PartialEq, Eq)]
@@ -38,42 +36,30 @@ fn text_at(b: &[u8], chars: Region, segments: &[u32; SAMPLES], e: usize) -> usiz
 }
 
 // Entry `low` of the bucket of hash h, if it has that hash and bears a text of n characters.
-pub fn pick(
-    b: &[u8],
-    s: Strings,
-    segments: &[u32; SAMPLES],
-    buckets: &[u32],
-    kind: Kind,
-    h: usize,
-    low: usize,
-    n: usize,
-) -> Option<Candidate>
-    requires { Held b.now s segments.now buckets.now × (first_fault (string_checks (held_table b.now s buckets.now)) ≡ Accepted) }
-    ensures { IfSome result (PickedEntry kind (held_table b.now s buckets.now) n) }
+pub fn pick(checked: &CheckedTable, kind: Kind, h: usize, low: usize, n: usize) -> Option<Candidate>
+    ensures { IfSome result (PickedEntry kind (lent_table checked.now.table) n) }
 {
-    let k = hash::bucket(h, buckets.len());
-    if entry::entry_count(b, s, segments, buckets, k) <= low {
+    let table = &checked.table;
+    let k = hash::bucket(h, table.buckets.len());
+    if entry::entry_count(table, k) <= low {
         return None;
     }
-    let e = entry::entry_at(b, s, segments, buckets, k, low);
-    if fields::hash(b, e) != h || fields::length(b, e) - 1 != n {
+    let e = entry::entry_at(table, k, low);
+    if fields::hash(table.file, e) != h || fields::length(table.file, e) - 1 != n {
         return None;
     }
-    let text = text_at(b, s.chars, segments, e);
+    let text = text_at(table.file, table.parts.chars, table.segments, e);
     Some(Candidate {
         text,
         end: text + 2 * n,
-        result: crate::result_at(b, kind, e),
+        result: crate::result_at(table.file, kind, e),
     })
 }
 
 // What is told of the n characters at p of what is asked, for a caller that has their hash, its place in the bucket, and what was picked
 // there. Where that bears another text, all entries with the hash are read.
 pub fn find_picked(
-    b: &[u8],
-    s: Strings,
-    segments: &[u32; SAMPLES],
-    buckets: &[u32],
+    checked: &CheckedTable,
     kind: Kind,
     h: usize,
     low: usize,
@@ -82,16 +68,16 @@ pub fn find_picked(
     p: usize,
     n: usize,
 ) -> Lookup
-    requires held { Held b.now s segments.now buckets.now × (first_fault (string_checks (held_table b.now s buckets.now)) ≡ Accepted) }
     requires n_in_bounds { (p + 2 * n ≤ length q.now) × (h ≡ hash_text (chars q.now p n))
-        × LowerBound (held_table b.now s buckets.now) (bucket_of (length buckets.now) h) h low }
-    requires picked_entry { IfSome picked (PickedEntry kind (held_table b.now s buckets.now) n) }
-    ensures { result ≡ told_in kind (held_table b.now s buckets.now) (chars q.now p n) }
+        × LowerBound (lent_table checked.now.table) (bucket_of (length checked.now.table.buckets.now) h) h low }
+    requires picked_entry { IfSome picked (PickedEntry kind (lent_table checked.now.table) n) }
+    ensures { result ≡ told_in kind (lent_table checked.now.table) (chars q.now p n) }
 {
+    let table = &checked.table;
     if let Some(c) = picked
-        && text::alike(b, c.text, q, p, n)
+        && text::alike(table.file, c.text, q, p, n)
     {
         return Lookup::Found(c.result);
     }
-    crate::find_from(b, s, segments, buckets, kind, h, low, q, p, n)
+    crate::find_from(checked, kind, h, low, q, p, n)
 }

@@ -2,23 +2,21 @@
 #![tactic(auto)]
 
 ghost use Rattle.std.specs.Prelude.{◌≡◌, ◌+◌, ◌*◌, ◌≤◌, length};
-ghost use Rattle.verdict.specs.Checks.{first_fault};
 ghost use Rattle.verdict.specs.inner.Tells.{Tells};
-ghost use Rattle.verdict.specs.Verdict.{Accepted};
-ghost use Rattle.hash.specs.inner.Tables.{Tables};
 ghost use Rattle.hash.specs.Hash.{hash_text, bucket_of};
 ghost use Rattle.text.specs.Text.{chars, holds_zero?};
 ghost use Rattle.strings.specs.Texts.{text_of};
-ghost use Rattle.strings.specs.Order.{string_checks};
-ghost use Rattle.strings.specs.inner.Held.{Held, held_table, Here};
+ghost use Rattle.strings.specs.inner.Held.{Here};
+ghost use Rattle.strings.specs.inner.Lent.{lent_table};
 ghost use Rattle.search.specs.inner.LowerBound.{LowerBound};
 ghost use Rattle.lookup.specs.Lookup.{entry_of_text, told_unborne};
 ghost use Rattle.lookup.specs.Kinds.{told_in, tells_at, kind_of, told_number};
 
 pub mod first;
 
-use region::SAMPLES;
-use strings::{Strings, entry, fields, spot};
+use hash::HashTables;
+use strings::checked::CheckedTable;
+use strings::{entry, fields, spot};
 
 // What a look-up answers: found, with a number; collided, with how many entries have the text's hash; absent.
 #[derive(Clone, Copy, Debug, PartialEq, Eq)]
@@ -54,29 +52,19 @@ pub enum Kind {
 }
 
 // Whether entry j of bucket k bears the n characters at p of what is asked. Its length is right: where that fits, no 0 is looked for.
-fn entry_bears(
-    b: &[u8],
-    s: Strings,
-    segments: &[u32; SAMPLES],
-    buckets: &[u32],
-    k: usize,
-    j: usize,
-    q: &[u8],
-    p: usize,
-    n: usize,
-) -> bool
-    requires { Held b.now s segments.now buckets.now × Here (held_table b.now s buckets.now) k j
-        × (first_fault (string_checks (held_table b.now s buckets.now)) ≡ Accepted) × (p + 2 * n ≤ length q.now) }
-    ensures { Tells (text_of (held_table b.now s buckets.now) k j ≡ chars q.now p n) result }
+fn entry_bears(checked: &CheckedTable, k: usize, j: usize, q: &[u8], p: usize, n: usize) -> bool
+    requires { Here (lent_table checked.now.table) k j × (p + 2 * n ≤ length q.now) }
+    ensures { Tells (text_of (lent_table checked.now.table) k j ≡ chars q.now p n) result }
 {
-    let e = entry::entry_at(b, s, segments, buckets, k, j);
-    if fields::length(b, e) != n + 1 {
+    let table = &checked.table;
+    let e = entry::entry_at(table, k, j);
+    if fields::length(table.file, e) != n + 1 {
         return false;
     }
-    let Some(spot) = spot::entry_spot(b, s.chars, segments, e) else {
+    let Some(spot) = spot::entry_spot(table.file, table.parts.chars, table.segments, e) else {
         return false;
     };
-    text::alike(b, spot.at, q, p, n)
+    text::alike(table.file, spot.at, q, p, n)
 }
 
 // What is told of the n characters at p of what is asked, which no entry bears, when `count` entries have their hash. A 0 is looked for only
@@ -96,30 +84,20 @@ fn unborne(q: &[u8], p: usize, n: usize, count: usize) -> Lookup
 
 // The entry that bears the n characters at p of what is asked, whose hash is h: from `low` on, the first entry of its bucket whose hash
 // is not below h. Among equal hashes all are read. Where none bears the text, these are all entries of the table with the hash.
-fn find_entry(
-    b: &[u8],
-    s: Strings,
-    segments: &[u32; SAMPLES],
-    buckets: &[u32],
-    h: usize,
-    low: usize,
-    q: &[u8],
-    p: usize,
-    n: usize,
-) -> Lookup
-    requires held { Held b.now s segments.now buckets.now × (first_fault (string_checks (held_table b.now s buckets.now)) ≡ Accepted) }
+fn find_entry(checked: &CheckedTable, h: usize, low: usize, q: &[u8], p: usize, n: usize) -> Lookup
     requires n_in_bounds { (p + 2 * n ≤ length q.now) × (h ≡ hash_text (chars q.now p n))
-        × LowerBound (held_table b.now s buckets.now) (bucket_of (length buckets.now) h) h low }
-    ensures { result ≡ entry_of_text (held_table b.now s buckets.now) (chars q.now p n) }
+        × LowerBound (lent_table checked.now.table) (bucket_of (length checked.now.table.buckets.now) h) h low }
+    ensures { result ≡ entry_of_text (lent_table checked.now.table) (chars q.now p n) }
 {
-    let k = hash::bucket(h, buckets.len());
-    let m = entry::entry_count(b, s, segments, buckets, k);
+    let table = &checked.table;
+    let k = hash::bucket(h, table.buckets.len());
+    let m = entry::entry_count(table, k);
     for j in low..m {
-        let e = entry::entry_at(b, s, segments, buckets, k, j);
-        if fields::hash(b, e) != h {
+        let e = entry::entry_at(table, k, j);
+        if fields::hash(table.file, e) != h {
             return unborne(q, p, n, j - low);
         }
-        if entry_bears(b, s, segments, buckets, k, j, q, p, n) {
+        if entry_bears(checked, k, j, q, p, n) {
             return Lookup::Found(e);
         }
     }
@@ -139,10 +117,7 @@ fn result_at(b: &[u8], kind: Kind, e: usize) -> usize
 
 // What is told of those characters, for a caller that has their hash, and its place in the bucket.
 pub(crate) fn find_from(
-    b: &[u8],
-    s: Strings,
-    segments: &[u32; SAMPLES],
-    buckets: &[u32],
+    checked: &CheckedTable,
     kind: Kind,
     h: usize,
     low: usize,
@@ -150,13 +125,13 @@ pub(crate) fn find_from(
     p: usize,
     n: usize,
 ) -> Lookup
-    requires held { Held b.now s segments.now buckets.now × (first_fault (string_checks (held_table b.now s buckets.now)) ≡ Accepted) }
     requires n_in_bounds { (p + 2 * n ≤ length q.now) × (h ≡ hash_text (chars q.now p n))
-        × LowerBound (held_table b.now s buckets.now) (bucket_of (length buckets.now) h) h low }
-    ensures { result ≡ told_in kind (held_table b.now s buckets.now) (chars q.now p n) }
+        × LowerBound (lent_table checked.now.table) (bucket_of (length checked.now.table.buckets.now) h) h low }
+    ensures { result ≡ told_in kind (lent_table checked.now.table) (chars q.now p n) }
 {
-    match find_entry(b, s, segments, buckets, h, low, q, p, n) {
-        Lookup::Found(e) => Lookup::Found(result_at(b, kind, e)),
+    let table = &checked.table;
+    match find_entry(checked, h, low, q, p, n) {
+        Lookup::Found(e) => Lookup::Found(result_at(table.file, kind, e)),
         Lookup::Collided(others) => Lookup::Collided(others),
         Lookup::Absent => Lookup::Absent,
     }
@@ -164,22 +139,19 @@ pub(crate) fn find_from(
 
 // The same for a caller that has the text only.
 pub fn find_text(
-    b: &[u8],
-    t: &[u32; 2048],
-    s: Strings,
-    segments: &[u32; SAMPLES],
-    buckets: &[u32],
+    checked: &CheckedTable,
+    t: &HashTables,
     kind: Kind,
     q: &[u8],
     p: usize,
     n: usize,
 ) -> Lookup
-    requires { Tables t.now × Held b.now s segments.now buckets.now
-        × (first_fault (string_checks (held_table b.now s buckets.now)) ≡ Accepted) × (p + 2 * n ≤ length q.now) }
-    ensures { result ≡ told_in kind (held_table b.now s buckets.now) (chars q.now p n) }
+    requires { p + 2 * n ≤ length q.now }
+    ensures { result ≡ told_in kind (lent_table checked.now.table) (chars q.now p n) }
 {
+    let table = &checked.table;
     let h = text::hash_chars(q, t, p, n, 0);
-    let k = hash::bucket(h, buckets.len());
-    let low = search::lower_bound(b, s, segments, buckets, k, h);
-    find_from(b, s, segments, buckets, kind, h, low, q, p, n)
+    let k = hash::bucket(h, table.buckets.len());
+    let low = search::lower_bound(table, k, h);
+    find_from(checked, kind, h, low, q, p, n)
 }

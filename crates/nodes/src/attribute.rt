@@ -2,14 +2,10 @@
 ghost use Rattle.std.specs.Prelude.{◌≡◌, ℕ, ◌+◌, ◌*◌, ◌≤◌, ◌<◌, length};
 ghost use Rattle.verdict.specs.Checks.{first_fault};
 ghost use Rattle.verdict.specs.inner.Tells.{Tells, Sure};
-ghost use Rattle.verdict.specs.Verdict.{Accepted, answer_of};
-ghost use Rattle.hash.specs.inner.Tables.{Tables};
+ghost use Rattle.verdict.specs.Verdict.{answer_of};
 ghost use Rattle.memo.specs.inner.Memo.{Remembers};
 ghost use Rattle.layout.specs.Edition.{attribute_size};
-ghost use Rattle.layout.specs.Layout.{values};
 ghost use Rattle.layout.specs.declared.Edition.TheVariants.{Bits64};
-ghost use Rattle.strings.specs.Order.{string_checks};
-ghost use Rattle.strings.specs.inner.Held.{Held, held_table};
 ghost use Rattle.keys.specs.inner.Known.{Known};
 ghost use Rattle.nodes.specs.Node.{attribute_count, attribute_at};
 ghost use Rattle.nodes.specs.Attribute.{Typed};
@@ -18,12 +14,13 @@ ghost use Rattle.nodes.specs.inner.Doubts.{Trusted, NoDoubt};
 ghost use Rattle.nodes.specs.Order.{node_attribute_checks};
 ghost use Rattle.nodes.specs.inner.Noted.{noted};
 
+use crate::prepared::PreparedFile;
 use crate::{fields, long};
+use hash::HashTables;
 use keys::Names;
 use layout::ATTRIBUTE_SIZE;
-use region::SAMPLES;
 use search::run;
-use strings::{Strings, spot};
+use strings::spot;
 use verdict::{Refusal, Rule};
 
 // Whether type, extended code and truth word of the attribute at q are right.
@@ -74,66 +71,43 @@ fn attribute_right(b: &[u8], names: Names, p: usize, i: usize, q: usize) -> bool
 }
 
 // Whether refusal 19 is not due to the attribute at q. An entry with its address would stand in the bucket of the text there.
-pub fn text_right(
-    b: &[u8],
-    t: &[u32; 2048],
-    s: Strings,
-    segments: &[u32; SAMPLES],
-    buckets: &[u32],
-    q: usize,
-    memo: &mut [u32; 3072],
-) -> bool
-    requires { Tables t.now × Held b.now s segments.now buckets.now × (held_table b.now s buckets.now ≡ values Bits64 b.now)
-        × (first_fault (string_checks (values Bits64 b.now)) ≡ Accepted) × (q + attribute_size Bits64 ≤ length b.now) × Remembers (noted b.now) memo.old }
-    ensures answer { Tells (TextRight Bits64 b.now q) result }
-    ensures memo { Remembers (noted b.now) memo.new }
+pub fn text_right(prepared: &PreparedFile, t: &HashTables, q: usize, memo: &mut [u32; 3072]) -> bool
+    requires { (q + attribute_size Bits64 ≤ length prepared.now.file.now) × Remembers (noted prepared.now.file.now) memo.old }
+    ensures answer { Tells (TextRight Bits64 prepared.now.file.now q) result }
+    ensures memo { Remembers (noted prepared.now.file.now) memo.new }
 {
-    let word = fields::type_word(b, q);
+    let table = &prepared.values().table;
+    let word = fields::type_word(table.file, q);
     if words::kind(word) != 3 {
         return true;
     }
-    let seg = fields::text_segment(b, q);
-    let el = fields::text_element(b, q);
-    let Some(spot) = spot::spot_at(b, s.chars, segments, seg, el) else {
+    let seg = fields::text_segment(table.file, q);
+    let el = fields::text_element(table.file, q);
+    let Some(spot) = spot::spot_at(table.file, table.parts.chars, table.segments, seg, el) else {
         return false;
     };
-    if words::extended(word) != long::remembered_hash(b, t, spot.at, spot.left, memo) {
+    if words::extended(word) != long::remembered_hash(table.file, t, spot.at, spot.left, memo) {
         return false;
     }
-    let h = long::text_hash(b, t, spot.at, spot.left, memo);
-    let k = hash::bucket(h, buckets.len());
-    let low = search::lower_bound(b, s, segments, buckets, k, h);
-    let address = fields::value_word(b, q);
-    run::run_has(
-        b,
-        s,
-        segments,
-        buckets,
-        k,
-        h,
-        low,
-        strings::fields::ADDRESS_AT,
-        address,
-    )
+    let h = long::text_hash(table.file, t, spot.at, spot.left, memo);
+    let k = hash::bucket(h, table.buckets.len());
+    let low = search::lower_bound(table, k, h);
+    let address = fields::value_word(table.file, q);
+    run::run_has(table, k, h, low, strings::fields::ADDRESS_AT, address)
 }
 
 // The same where it may be known of the attribute already: that nothing is doubted saves a look at its place.
 fn text_passes(
-    b: &[u8],
-    t: &[u32; 2048],
-    s: Strings,
-    segments: &[u32; SAMPLES],
-    buckets: &[u32],
+    prepared: &PreparedFile,
+    t: &HashTables,
     q: usize,
     known: bool,
     doubts: &[u32; 4096],
     memo: &mut [u32; 3072],
 ) -> bool
-    requires { Tables t.now × Held b.now s segments.now buckets.now × (held_table b.now s buckets.now ≡ values Bits64 b.now)
-        × (first_fault (string_checks (values Bits64 b.now)) ≡ Accepted) × (q + attribute_size Bits64 ≤ length b.now) × Sure (NoDoubt doubts.now) known
-        × Trusted Bits64 b.now doubts.now q × Remembers (noted b.now) memo.old }
-    ensures answer { Tells (TextRight Bits64 b.now q) result }
-    ensures memo { Remembers (noted b.now) memo.new }
+    requires { (q + attribute_size Bits64 ≤ length prepared.now.file.now) × Sure (NoDoubt doubts.now) known × Trusted Bits64 prepared.now.file.now doubts.now q × Remembers (noted prepared.now.file.now) memo.old }
+    ensures answer { Tells (TextRight Bits64 prepared.now.file.now q) result }
+    ensures memo { Remembers (noted prepared.now.file.now) memo.new }
 {
     if known {
         return true;
@@ -141,17 +115,13 @@ fn text_passes(
     if doubts[q / 4 % 4096] == 0 {
         return true;
     }
-    text_right(b, t, s, segments, buckets, q, memo)
+    text_right(prepared, t, q, memo)
 }
 
 // Refusals 18 and 19 of the attributes of the node at p, the first of which stands at a; 19 is due only to those that are doubted.
 pub fn check_attributes(
-    b: &[u8],
-    t: &[u32; 2048],
-    names: Names,
-    s: Strings,
-    segments: &[u32; SAMPLES],
-    buckets: &[u32],
+    prepared: &PreparedFile,
+    t: &HashTables,
     p: usize,
     a: usize,
     n: usize,
@@ -159,19 +129,19 @@ pub fn check_attributes(
     doubts: &[u32; 4096],
     memo: &mut [u32; 3072],
 ) -> Result<(), Refusal>
-    requires tables { Tables t.now × Known Bits64 b.now names × Held b.now s segments.now buckets.now
-        × (held_table b.now s buckets.now ≡ values Bits64 b.now) × (first_fault (string_checks (values Bits64 b.now)) ≡ Accepted) }
-    requires n_value { (n ≡ attribute_count b.now p) × (a ≡ attribute_at Bits64 b.now p 0) × (a + n * attribute_size Bits64 ≤ length b.now) × Sure (NoDoubt doubts.now) known
-        × ((i : ℕ) → i < n → Trusted Bits64 b.now doubts.now (attribute_at Bits64 b.now p i)) × Remembers (noted b.now) memo.old }
-    ensures answer { answer_of result ≡ first_fault (node_attribute_checks Bits64 b.now p) }
-    ensures memo { Remembers (noted b.now) memo.new }
+    requires attributes { (n ≡ attribute_count prepared.now.file.now p) × (a ≡ attribute_at Bits64 prepared.now.file.now p 0)
+        × (a + n * attribute_size Bits64 ≤ length prepared.now.file.now) }
+    requires doubts { Sure (NoDoubt doubts.now) known × ((i : ℕ) → i < n → Trusted Bits64 prepared.now.file.now doubts.now (attribute_at Bits64 prepared.now.file.now p i))
+        × Remembers (noted prepared.now.file.now) memo.old }
+    ensures answer { answer_of result ≡ first_fault (node_attribute_checks Bits64 prepared.now.file.now p) }
+    ensures memo { Remembers (noted prepared.now.file.now) memo.new }
 {
     for i in 0..n {
         let q = a + i * ATTRIBUTE_SIZE;
-        if !attribute_right(b, names, p, i, q) {
+        if !attribute_right(prepared.file, prepared.names, p, i, q) {
             return Err(Refusal(Rule::Attribute, q));
         }
-        if !text_passes(b, t, s, segments, buckets, q, known, doubts, memo) {
+        if !text_passes(prepared, t, q, known, doubts, memo) {
             return Err(Refusal(Rule::AttributeText, q));
         }
     }

@@ -6,4 +6,5 @@ pub mod attribute;
 pub mod fields;
 pub mod long;
 mod node;
+pub mod prepared;
 pub mod value;

@@ -2,12 +2,13 @@
 // about a text of more than 64 characters is remembered. Shorter ones are hashed each time, which costs less than to look them up.
 ghost use Rattle.std.specs.Prelude.{◌≡◌, ◌+◌, ◌*◌, ◌≤◌, ◌<◌, ◌^◌, length};
 ghost use Rattle.verdict.specs.inner.Tells.{Sure};
-ghost use Rattle.hash.specs.inner.Tables.{Tables};
 ghost use Rattle.hash.specs.Hash.{hash_text};
 ghost use Rattle.hash.specs.Fold.{value_hash};
 ghost use Rattle.text.specs.Text.{text_in};
 ghost use Rattle.memo.specs.inner.Memo.{Remembers};
 ghost use Rattle.nodes.specs.inner.Noted.{noted};
+
+use hash::HashTables;
 
 // Whether a text with n characters left is worth remembering: at most 65,535 characters are left anywhere.
 fn worth(n: usize) -> bool
@@ -19,12 +20,12 @@ fn worth(n: usize) -> bool
 // The value hash of the text at x, where n characters are left.
 pub fn remembered_hash(
     b: &[u8],
-    t: &[u32; 2048],
+    t: &HashTables,
     x: usize,
     n: usize,
     memo: &mut [u32; 3072],
 ) -> usize
-    requires { Tables t.now × (x + 2 * n ≤ length b.now) × (length b.now < 2 ^ 32) × Remembers (noted b.now) memo.old }
+    requires { (x + 2 * n ≤ length b.now) × (length b.now < 2 ^ 32) × Remembers (noted b.now) memo.old }
     ensures answer { result ≡ value_hash (text_in b.now x n) }
     ensures memo { Remembers (noted b.now) memo.new }
 {
@@ -44,8 +45,8 @@ pub fn remembered_hash(
 }
 
 // The hash of the text at x, where n characters are left.
-pub fn text_hash(b: &[u8], t: &[u32; 2048], x: usize, n: usize, memo: &mut [u32; 3072]) -> usize
-    requires { Tables t.now × (x + 2 * n ≤ length b.now) × (length b.now < 2 ^ 32) × Remembers (noted b.now) memo.old }
+pub fn text_hash(b: &[u8], t: &HashTables, x: usize, n: usize, memo: &mut [u32; 3072]) -> usize
+    requires { (x + 2 * n ≤ length b.now) × (length b.now < 2 ^ 32) × Remembers (noted b.now) memo.old }
     ensures answer { result ≡ hash_text (text_in b.now x n) }
     ensures memo { Remembers (noted b.now) memo.new }
 {

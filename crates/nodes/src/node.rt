@@ -2,31 +2,26 @@
 ghost use Rattle.std.specs.Prelude.{◌≡◌, ◌+◌, ◌*◌, ◌≤◌, ◌<◌, length};
 ghost use Rattle.verdict.specs.Checks.{first_fault};
 ghost use Rattle.verdict.specs.inner.Tells.{Tells, Sure};
-ghost use Rattle.verdict.specs.Verdict.{Accepted, answer_of};
-ghost use Rattle.hash.specs.inner.Tables.{Tables};
+ghost use Rattle.verdict.specs.Verdict.{answer_of};
 ghost use Rattle.memo.specs.inner.Memo.{Remembers};
 ghost use Rattle.region.specs.Region.{Resolves};
-ghost use Rattle.region.specs.inner.Samples.{Mapped, Starts};
 ghost use Rattle.layout.specs.Header.{key_count};
-ghost use Rattle.layout.specs.Edition.{attribute_size, node_size};
-ghost use Rattle.layout.specs.Layout.{attributes_at, nodes_at, values};
+ghost use Rattle.layout.specs.Edition.{node_size};
+ghost use Rattle.layout.specs.Layout.{nodes_at};
 ghost use Rattle.layout.specs.declared.Edition.TheVariants.{Bits64};
-ghost use Rattle.strings.specs.Order.{string_checks};
-ghost use Rattle.strings.specs.inner.Held.{Held, held_table};
 ghost use Rattle.keys.specs.inner.Known.{Known};
 ghost use Rattle.nodes.specs.Node.{node_at, Live};
 ghost use Rattle.nodes.specs.Rules.{NodeRule, ChildRule};
 ghost use Rattle.nodes.specs.inner.Doubts.{AllTrusted, NoDoubt};
 ghost use Rattle.nodes.specs.inner.Search.{NamesRise};
 ghost use Rattle.nodes.specs.Order.{attribute_range_checks, node_checks};
-ghost use Rattle.nodes.specs.inner.Held.{Ready};
 ghost use Rattle.nodes.specs.inner.Noted.{noted};
 
+use crate::prepared::PreparedFile;
 use crate::{attribute, fields};
+use hash::HashTables;
 use keys::Names;
-use layout::{ATTRIBUTE_SIZE, NODE_SIZE, Places};
-use region::{Region, SAMPLES};
-use strings::Strings;
+use layout::{ATTRIBUTE_SIZE, NODE_SIZE};
 use verdict::{Refusal, Rule};
 
 // Whether refusal 16 is not due to node seg:el, which stands at p.
@@ -75,20 +70,20 @@ fn rising(b: &[u8], q: usize, n: usize) -> bool
 }
 
 // Whether refusal 23 is not due to the live node at p.
-fn children_right(b: &[u8], nodes: Region, segments: &[u32; SAMPLES], p: usize) -> bool
-    requires mapped { Mapped (node_size Bits64) b.now (nodes_at Bits64 b.now) nodes × Starts (node_size Bits64) b.now (nodes_at Bits64 b.now) nodes.shift segments.now }
-    requires node_size_in_bounds { (p + node_size Bits64 ≤ length b.now) × Live b.now p }
-    ensures { Tells (ChildRule Bits64 b.now p) result }
+fn children_right(prepared: &PreparedFile, p: usize) -> bool
+    requires { (p + node_size Bits64 ≤ length prepared.now.file.now) × Live prepared.now.file.now p }
+    ensures { Tells (ChildRule Bits64 prepared.now.file.now p) result }
 {
+    let b = prepared.file;
     let n = fields::child_field(b, p);
     if n == 0 {
         return true;
     }
     let r = region::range_at(
         b,
-        nodes,
+        prepared.view.places.nodes,
         NODE_SIZE,
-        segments,
+        &prepared.view.node_segments,
         fields::child_segment(b, p),
         fields::child_element(b, p),
         n,
@@ -101,36 +96,28 @@ fn children_right(b: &[u8], nodes: Region, segments: &[u32; SAMPLES], p: usize) 
 
 // Refusals 17 to 19 of the live node at x; 19 is due only to attributes that are doubted.
 fn check_attribute_range(
-    b: &[u8],
-    t: &[u32; 2048],
-    attributes: Region,
-    names: Names,
-    attribute_segments: &[u32; SAMPLES],
-    s: Strings,
-    segments: &[u32; SAMPLES],
-    buckets: &[u32],
+    prepared: &PreparedFile,
+    t: &HashTables,
     x: usize,
     known: bool,
     doubts: &[u32; 4096],
     memo: &mut [u32; 3072],
 ) -> Result<(), Refusal>
-    requires tables { Tables t.now × Known Bits64 b.now names × Held b.now s segments.now buckets.now
-        × (held_table b.now s buckets.now ≡ values Bits64 b.now) × (first_fault (string_checks (values Bits64 b.now)) ≡ Accepted) }
-    requires mapped { Mapped (attribute_size Bits64) b.now (attributes_at b.now) attributes
-        × Starts (attribute_size Bits64) b.now (attributes_at b.now) attributes.shift attribute_segments.now × (x + node_size Bits64 ≤ length b.now) × Live b.now x
-        × Sure (NoDoubt doubts.now) known × AllTrusted Bits64 b.now doubts.now × Remembers (noted b.now) memo.old }
-    ensures answer { answer_of result ≡ first_fault (attribute_range_checks Bits64 b.now x) }
-    ensures memo { Remembers (noted b.now) memo.new }
+    requires node { (x + node_size Bits64 ≤ length prepared.now.file.now) × Live prepared.now.file.now x }
+    requires doubts { Sure (NoDoubt doubts.now) known × AllTrusted Bits64 prepared.now.file.now doubts.now × Remembers (noted prepared.now.file.now) memo.old }
+    ensures answer { answer_of result ≡ first_fault (attribute_range_checks Bits64 prepared.now.file.now x) }
+    ensures memo { Remembers (noted prepared.now.file.now) memo.new }
 {
+    let b = prepared.file;
     let n = fields::attribute_field(b, x);
     if n == 0 {
         return Ok(());
     }
     let r = region::range_at(
         b,
-        attributes,
+        prepared.view.places.attributes,
         ATTRIBUTE_SIZE,
-        attribute_segments,
+        &prepared.view.attribute_segments,
         fields::attribute_segment(b, x),
         fields::attribute_element(b, x),
         n,
@@ -138,21 +125,13 @@ fn check_attribute_range(
     let Some(a) = r else {
         return Err(Refusal(Rule::AttributeRange, x));
     };
-    attribute::check_attributes(
-        b, t, names, s, segments, buckets, x, a, n, known, doubts, memo,
-    )
+    attribute::check_attributes(prepared, t, x, a, n, known, doubts, memo)
 }
 
 // Refusals 16 to 19 and 23 of node seg:el, which stands at x; 19 is due only to attributes that are doubted.
 pub fn check_node(
-    b: &[u8],
-    t: &[u32; 2048],
-    p: Places,
-    names: Names,
-    attribute_segments: &[u32; SAMPLES],
-    node_segments: &[u32; SAMPLES],
-    value_segments: &[u32; SAMPLES],
-    value_buckets: &[u32],
+    prepared: &PreparedFile,
+    t: &HashTables,
     seg: usize,
     el: usize,
     x: usize,
@@ -160,37 +139,20 @@ pub fn check_node(
     doubts: &[u32; 4096],
     memo: &mut [u32; 3072],
 ) -> Result<(), Refusal>
-    requires { Tables t.now × Ready Bits64 b.now p names attribute_segments.now node_segments.now value_segments.now value_buckets.now
-        × Resolves (node_size Bits64) b.now (nodes_at Bits64 b.now) seg el × (x ≡ node_at Bits64 b.now seg el) × Sure (NoDoubt doubts.now) known
-        × AllTrusted Bits64 b.now doubts.now × Remembers (noted b.now) memo.old }
-    ensures answer { answer_of result ≡ first_fault (node_checks Bits64 b.now seg el) }
-    ensures memo { Remembers (noted b.now) memo.new }
+    requires node { Resolves (node_size Bits64) prepared.now.file.now (nodes_at Bits64 prepared.now.file.now) seg el × (x ≡ node_at Bits64 prepared.now.file.now seg el) }
+    requires doubts { Sure (NoDoubt doubts.now) known × AllTrusted Bits64 prepared.now.file.now doubts.now × Remembers (noted prepared.now.file.now) memo.old }
+    ensures answer { answer_of result ≡ first_fault (node_checks Bits64 prepared.now.file.now seg el) }
+    ensures memo { Remembers (noted prepared.now.file.now) memo.new }
 {
-    if !node_right(b, names, p.keys, seg, el, x) {
+    let b = prepared.file;
+    if !node_right(b, prepared.names, prepared.view.places.keys, seg, el, x) {
         return Err(Refusal(Rule::Node, x));
     }
     if fields::node_name(b, x) == 0 {
         return Ok(());
     }
-    let s = Strings {
-        chars: p.value_chars,
-        list: p.value_list,
-    };
-    check_attribute_range(
-        b,
-        t,
-        p.attributes,
-        names,
-        attribute_segments,
-        s,
-        value_segments,
-        value_buckets,
-        x,
-        known,
-        doubts,
-        memo,
-    )?;
-    if !children_right(b, p.nodes, node_segments, x) {
+    check_attribute_range(prepared, t, x, known, doubts, memo)?;
+    if !children_right(prepared, x) {
         return Err(Refusal(Rule::Children, x));
     }
     Ok(())

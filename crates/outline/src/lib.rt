@@ -4,7 +4,6 @@
 ghost use Rattle.std.specs.Prelude.{◌≡◌, length};
 ghost use Rattle.verdict.specs.Verdict.{answer_of};
 ghost use Rattle.layout.specs.declared.Edition.TheVariants.{Bits64};
-ghost use Rattle.outline.specs.inner.Ready.{OutlineReady};
 ghost use Rattle.outline.specs.Outlined.{outline_after};
 ghost use Rattle.outline.specs.inner.Answer.{OutlineWritten};
 
@@ -12,24 +11,14 @@ mod blocks;
 mod texts;
 mod values;
 
-use layout::Places;
-use region::SAMPLES;
+use accept::file::AcceptedFile;
 use tree::{DEEPEST_LEVEL, ranges};
 use verdict::{Refusal, Rule};
 
 // Writes the root's block: refusal 26, or the outline's length in bytes; the first pass, with an empty buffer, tells its length, so nothing is written unless all of it fits.
-pub fn write_outline(
-    b: &[u8],
-    p: Places,
-    attribute_segments: &[u32; SAMPLES],
-    node_segments: &[u32; SAMPLES],
-    value_segments: &[u32; SAMPLES],
-    name_segments: &[u32; SAMPLES],
-    out: &mut [u8],
-) -> Result<usize, Refusal>
-    requires { OutlineReady Bits64 b.now p attribute_segments.now node_segments.now value_segments.now name_segments.now }
-    ensures answer { OutlineWritten Bits64 b.now (length out.old) result }
-    ensures buffer { out.new ≡ outline_after Bits64 b.now out.old (answer_of result) }
+pub fn write_outline(accepted: &AcceptedFile, out: &mut [u8]) -> Result<usize, Refusal>
+    ensures answer { OutlineWritten Bits64 accepted.now.file.now (length out.old) result }
+    ensures buffer { out.new ≡ outline_after Bits64 accepted.now.file.now out.old (answer_of result) }
 {
     let root = ranges::root_at(p.nodes);
     let mut none = [0u8; 0];

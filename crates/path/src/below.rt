@@ -3,30 +3,26 @@ ghost use Rattle.std.specs.Prelude.{◌≡◌, ◌+◌, ◌≤◌, length};
 ghost use Rattle.layout.specs.declared.Edition.TheVariants.{Bits64};
 ghost use Rattle.tree.specs.Chain.{deepest_level};
 ghost use Rattle.tree.specs.File.{Used, node_of, tree_of};
-ghost use Rattle.tree.specs.inner.Marking.{TreeReady};
 ghost use Rattle.path.specs.inner.Indices.{matches_at};
 ghost use Rattle.path.specs.inner.Written.{Wrote};
 
 use layout::NODE_SIZE;
 use nodes::fields;
-use region::{Region, SAMPLES};
-use tree::ranges;
+use tree::{Nodes, ranges};
 
 // Lists the nodes below node a, which stands at p, that the name indices lead to: from place k of the listing on, each where it fits.
 // Answers the next place, so an empty listing counts them.
 pub fn list_below(
-    b: &[u8],
-    nodes: Region,
-    segments: &[u32; SAMPLES],
+    nodes: &Nodes,
     wanted: &[u32],
     a: usize,
     p: usize,
     list: &mut [u8],
     k: usize,
 ) -> usize
-    requires tree_ready { TreeReady Bits64 b.now nodes segments.now × Used Bits64 b.now a × (p ≡ node_of Bits64 b.now a) }
-    requires few { (length wanted.now ≤ deepest_level) × (k + length (matches_at (tree_of Bits64 b.now) wanted.now a) ≤ 4294967296) }
-    ensures { Wrote list.old k (matches_at (tree_of Bits64 b.now) wanted.now a) result list.new }
+    requires used { Used Bits64 nodes.now.file.now a × (p ≡ node_of Bits64 nodes.now.file.now a) }
+    requires few { (length wanted.now ≤ deepest_level) × (k + length (matches_at (tree_of Bits64 nodes.now.file.now) wanted.now a) ≤ 4294967296) }
+    ensures { Wrote list.old k (matches_at (tree_of Bits64 nodes.now.file.now) wanted.now a) result list.new }
 {
     let [index, rest @ ..] = wanted else {
         if k < list.len() / 4 {
@@ -35,12 +31,12 @@ pub fn list_below(
         return k + 1;
     };
     let name = le::wide(*index);
-    let c = ranges::children_of(b, nodes, segments, p);
+    let c = ranges::children_of(nodes, p);
     let mut m = k;
     for j in 0..c.count {
         let x = c.place + j * NODE_SIZE;
-        if fields::node_name(b, x) == name {
-            m = list_below(b, nodes, segments, rest, c.first + j, x, list, m);
+        if fields::node_name(nodes.file, x) == name {
+            m = list_below(nodes, rest, c.first + j, x, list, m);
         }
     }
     m

@@ -2,17 +2,15 @@
 ghost use Rattle.std.specs.Prelude.{◌≡◌, ◌+◌, ◌*◌, ◌%◌, ◌<◌, MatchOption, length};
 ghost use Rattle.verdict.specs.Checks.{first_fault};
 ghost use Rattle.verdict.specs.Verdict.{Accepted, answer_of};
-ghost use Rattle.hash.specs.inner.Tables.{Tables};
 ghost use Rattle.layout.specs.Layout.{names};
 ghost use Rattle.layout.specs.declared.Edition.TheVariants.{Bits64};
-ghost use Rattle.strings.specs.Order.{string_checks};
-ghost use Rattle.strings.specs.inner.Held.{Held, held_table};
+ghost use Rattle.strings.specs.inner.Lent.{lent_table};
 ghost use Rattle.path.specs.Names.{path_checks};
 ghost use Rattle.path.specs.inner.Indices.{NameEnd, Unborne, WantedIs};
 
+use hash::HashTables;
 use lookup::{Kind, Lookup};
-use region::SAMPLES;
-use strings::Strings;
+use strings::checked::CheckedTable;
 use tree::MOST_LEVELS;
 use verdict::{Refusal, Rule};
 
@@ -51,17 +49,9 @@ fn name_length(path: &[u8], at: usize) -> usize
 }
 
 // The indices of a path's names, or nothing where no node can bear them: below the root a chain has fewer than `MOST_LEVELS` nodes.
-pub(crate) fn find_names(
-    b: &[u8],
-    t: &[u32; 2048],
-    s: Strings,
-    segments: &[u32; SAMPLES],
-    buckets: &[u32],
-    path: &[u8],
-) -> Option<Wanted>
-    requires { Tables t.now × Held b.now s segments.now buckets.now × (held_table b.now s buckets.now ≡ names Bits64 b.now)
-        × (first_fault (string_checks (names Bits64 b.now)) ≡ Accepted) × (first_fault (path_checks path.now) ≡ Accepted) }
-    ensures { MatchOption result (Unborne Bits64 b.now path.now) (WantedIs Bits64 b.now path.now) }
+pub(crate) fn find_names(checked: &CheckedTable, t: &HashTables, path: &[u8]) -> Option<Wanted>
+    requires { (lent_table checked.now.table ≡ names Bits64 checked.now.table.file.now) × (first_fault (path_checks path.now) ≡ Accepted) }
+    ensures { MatchOption result (Unborne Bits64 checked.now.table.file.now path.now) (WantedIs Bits64 checked.now.table.file.now path.now) }
 {
     let mut indices = [0; MOST_LEVELS];
     let mut at = 0;
@@ -70,17 +60,7 @@ pub(crate) fn find_names(
             return Some(Wanted { count, indices });
         }
         let n = name_length(path, at);
-        let Lookup::Found(i) = lookup::find_text(
-            b,
-            t,
-            s,
-            segments,
-            buckets,
-            Kind::Name,
-            path,
-            at,
-            n,
-        ) else {
+        let Lookup::Found(i) = lookup::find_text(checked, t, Kind::Name, path, at, n) else {
             return None;
         };
         indices[count] = i as u32;

@@ -7,12 +7,12 @@ ghost use Rattle.verdict.specs.Verdict.{Accepted};
 ghost use Rattle.region.specs.inner.Samples.{Mapped};
 ghost use Rattle.strings.specs.inner.Begins.{AllBegun};
 ghost use Rattle.strings.specs.Order.{all_entry_checks};
-ghost use Rattle.strings.specs.inner.Held.{Held, held_table};
+ghost use Rattle.strings.specs.inner.Lent.{lent_table};
 ghost use Rattle.positions.specs.inner.Packed.{Packed, begun_in, all_begun};
 
 use layout::CHARACTER_SIZE;
-use region::{Region, SAMPLES};
-use strings::Strings;
+use region::Region;
+use strings::{StringTable, StringTable};
 
 // At how many of the n characters at p a text can begin, which are a segment's first.
 fn begun_in(b: &[u8], p: usize, n: usize) -> usize
@@ -40,19 +40,12 @@ fn count_begun(b: &[u8], chars: Region) -> usize
 }
 
 // Whether texts begin nowhere but at entries' addresses, when those are all places where texts can: there are as many entries as such places.
-pub fn is_packed(
-    b: &[u8],
-    s: Strings,
-    segments: &[u32; SAMPLES],
-    buckets: &[u32],
-    begun: bool,
-) -> bool
-    requires { Held b.now s segments.now buckets.now
-        × (first_fault (all_entry_checks (held_table b.now s buckets.now)) ≡ Accepted) × Sure (AllBegun (held_table b.now s buckets.now)) begun }
-    ensures { Sure (Packed (held_table b.now s buckets.now)) result }
+pub fn is_packed(table: &StringTable, begun: bool) -> bool
+    requires { (first_fault (all_entry_checks (lent_table table.now)) ≡ Accepted) × Sure (AllBegun (lent_table table.now)) begun }
+    ensures { Sure (Packed (lent_table table.now)) result }
 {
     if !begun {
         return false;
     }
-    count_begun(b, s.chars) == crate::entry_total(b, s, segments, buckets)
+    count_begun(table.file, table.parts.chars) == crate::entry_total(table)
 }

@@ -4,30 +4,22 @@ ghost use Rattle.verdict.specs.Checks.{first_fault};
 ghost use Rattle.verdict.specs.Verdict.{Accepted};
 ghost use Rattle.layout.specs.Table.{entries, count};
 ghost use Rattle.strings.specs.Order.{all_entry_checks};
-ghost use Rattle.strings.specs.inner.Held.{Held, held_table};
+ghost use Rattle.strings.specs.inner.Lent.{lent_table};
 ghost use Rattle.positions.specs.inner.Total.{all_entries, below_in, all_below, FirstUncarried};
 
-use region::SAMPLES;
-use strings::{Strings, entry, fields};
+use strings::{StringTable, StringTable, entry, fields};
 
 // How many entries of bucket k carry an index below m.
-fn count_carrying_in(
-    b: &[u8],
-    s: Strings,
-    segments: &[u32; SAMPLES],
-    buckets: &[u32],
-    k: usize,
-    m: usize,
-) -> usize
-    requires { Held b.now s segments.now buckets.now × (k < length buckets.now) }
-    ensures { (result ≡ below_in (held_table b.now s buckets.now) m k)
-        × (result ≤ entries (held_table b.now s buckets.now) k) }
+fn count_carrying_in(table: &StringTable, k: usize, m: usize) -> usize
+    requires { k < length table.now.buckets.now }
+    ensures { (result ≡ below_in (lent_table table.now) m k)
+        × (result ≤ entries (lent_table table.now) k) }
 {
-    let n = entry::entry_count(b, s, segments, buckets, k);
+    let n = entry::entry_count(table, k);
     let mut c = 0usize;
     for j in 0..n {
-        let e = entry::entry_at(b, s, segments, buckets, k, j);
-        if fields::index(b, e) < m {
+        let e = entry::entry_at(table, k, j);
+        if fields::index(table.file, e) < m {
             c += 1;
         }
     }
@@ -35,42 +27,28 @@ fn count_carrying_in(
 }
 
 // How many entries of the table carry one.
-fn count_carrying(
-    b: &[u8],
-    s: Strings,
-    segments: &[u32; SAMPLES],
-    buckets: &[u32],
-    m: usize,
-) -> usize
-    requires { Held b.now s segments.now buckets.now }
-    ensures { (result ≡ all_below (held_table b.now s buckets.now) m)
-        × (result ≤ all_entries (held_table b.now s buckets.now)) }
+fn count_carrying(table: &StringTable, m: usize) -> usize
+    ensures { (result ≡ all_below (lent_table table.now) m)
+        × (result ≤ all_entries (lent_table table.now)) }
 {
     let mut c = 0usize;
     for k in 0..buckets.len() {
-        c += count_carrying_in(b, s, segments, buckets, k, m);
+        c += count_carrying_in(table, k, m);
     }
     c
 }
 
 // The first of n list positions that no entry carries. No two entries carry one index, so all positions below m are carried exactly where as
 // many entries carry an index below m: that is searched by halving, with a pass over the entries for each round.
-pub fn first_uncarried(
-    b: &[u8],
-    s: Strings,
-    segments: &[u32; SAMPLES],
-    buckets: &[u32],
-    n: usize,
-) -> usize
-    requires { Held b.now s segments.now buckets.now × (first_fault (all_entry_checks (held_table b.now s buckets.now)) ≡ Accepted)
-        × (n ≡ count (held_table b.now s buckets.now)) × (all_entries (held_table b.now s buckets.now) + 1 < n) }
-    ensures { FirstUncarried (held_table b.now s buckets.now) result }
+pub fn first_uncarried(table: &StringTable, n: usize) -> usize
+    requires { (first_fault (all_entry_checks (lent_table table.now)) ≡ Accepted) × (n ≡ count (lent_table table.now)) × (all_entries (lent_table table.now) + 1 < n) }
+    ensures { FirstUncarried (lent_table table.now) result }
 {
     let mut lo = 1usize;
     let mut hi = n;
     while lo + 1 < hi {
         let mid = lo + (hi - lo) / 2;
-        if count_carrying(b, s, segments, buckets, mid) + 1 == mid {
+        if count_carrying(table, mid) + 1 == mid {
             lo = mid;
         } else {
             hi = mid;

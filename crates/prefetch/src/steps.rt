@@ -5,7 +5,6 @@ ghost use Rattle.verdict.specs.inner.Tells.{Sure};
 ghost use Rattle.verdict.specs.Verdict.{Accepted};
 ghost use Rattle.le.specs.Le.{u16_at};
 ghost use Rattle.words.specs.Words.{extended_of};
-ghost use Rattle.hash.specs.inner.Tables.{Tables};
 ghost use Rattle.hash.specs.Hash.{bucket_of};
 ghost use Rattle.hash.specs.Fold.{value_hash};
 ghost use Rattle.region.specs.inner.Samples.{Mapped, Starts};
@@ -15,8 +14,8 @@ ghost use Rattle.layout.specs.Edition.{attribute_size};
 ghost use Rattle.layout.specs.Layout.{values};
 ghost use Rattle.layout.specs.declared.Edition.TheVariants.{Bits64};
 ghost use Rattle.strings.specs.Rules.{EntryAddress};
-ghost use Rattle.strings.specs.Order.{all_entry_checks, string_checks};
-ghost use Rattle.strings.specs.inner.Held.{Held, held_table};
+ghost use Rattle.strings.specs.Order.{all_entry_checks};
+ghost use Rattle.strings.specs.inner.Lent.{lent_table};
 ghost use Rattle.search.specs.inner.LowerBound.{LowerBound};
 ghost use Rattle.search.specs.inner.Group.{LowerBounds, Lengths};
 ghost use Rattle.positions.specs.inner.Packed.{Packed};
@@ -25,10 +24,12 @@ ghost use Rattle.nodes.specs.inner.Noted.{noted};
 ghost use Rattle.prefetch.specs.inner.Slots.{SlotsIn};
 ghost use Rattle.prefetch.specs.inner.Batch.{SpotFits, Behind, AllSpots, AllFit, AllSeen, AllBehind, AllHashed, AllFound, AllRight};
 
+use hash::HashTables;
 use nodes::{fields, long};
 use region::{Region, SAMPLES};
 use search::{group, run};
-use strings::{Strings, ahead, spot};
+use strings::checked::CheckedTable;
+use strings::{StringTable, StringTable, ahead, spot};
 
 // Where the texts stand, and how many characters are left there.
 fn find_spots(
@@ -93,7 +94,7 @@ fn can_begin(el: usize, seen: usize, packed: bool) -> bool
 // a packed table, whether it can begin where it does, by the character that was seen before it.
 fn passes(
     b: &[u8],
-    t: &[u32; 2048],
+    t: &HashTables,
     q: usize,
     x: usize,
     n: usize,
@@ -101,8 +102,7 @@ fn passes(
     packed: bool,
     memo: &mut [u32; 3072],
 ) -> bool
-    requires { Tables t.now × (q + attribute_size Bits64 ≤ length b.now) × SpotFits b.now x n × (seen % 65536 ≡ u16_at b.now (x - 2))
-        × (length b.now < 2 ^ 32) × Remembers (noted b.now) memo.old }
+    requires { (q + attribute_size Bits64 ≤ length b.now) × SpotFits b.now x n × (seen % 65536 ≡ u16_at b.now (x - 2)) × (length b.now < 2 ^ 32) × Remembers (noted b.now) memo.old }
     ensures answer { Sure ((extended_of (type_word b.now q) ≡ value_hash (text_in b.now x n))
         × Sure (Behind b.now x (text_element b.now q)) packed) result }
     ensures memo { Remembers (noted b.now) memo.new }
@@ -116,7 +116,7 @@ fn passes(
 // Whether each does.
 fn all_pass(
     b: &[u8],
-    t: &[u32; 2048],
+    t: &HashTables,
     slots: &[u32; 64],
     n: usize,
     at: &[u32; 64],
@@ -125,9 +125,7 @@ fn all_pass(
     packed: bool,
     memo: &mut [u32; 3072],
 ) -> bool
-    requires { Tables t.now × (length slots.now ≡ 64) × SlotsIn Bits64 b.now slots.now n × (n ≤ 64) × Lengths at.now left.now seen.now
-        × AllFit b.now n at.now left.now × AllSeen b.now n at.now seen.now × (length b.now < 2 ^ 32)
-        × Remembers (noted b.now) memo.old }
+    requires { (length slots.now ≡ 64) × SlotsIn Bits64 b.now slots.now n × (n ≤ 64) × Lengths at.now left.now seen.now × AllFit b.now n at.now left.now × AllSeen b.now n at.now seen.now × (length b.now < 2 ^ 32) × Remembers (noted b.now) memo.old }
     ensures answer { Sure (AllHashed b.now slots.now n at.now left.now
         × Sure (AllBehind b.now slots.now n at.now) packed) result }
     ensures memo { Remembers (noted b.now) memo.new }
@@ -152,15 +150,14 @@ fn all_pass(
 // The string hashes of the texts: any would do, but with these their entries are found.
 fn hash_texts(
     b: &[u8],
-    t: &[u32; 2048],
+    t: &HashTables,
     n: usize,
     at: &[u32; 64],
     left: &[u32; 64],
     hashes: &mut [u32; 64],
     memo: &mut [u32; 3072],
 )
-    requires { Tables t.now × (n ≤ 64) × Lengths at.now left.now hashes.old × AllFit b.now n at.now left.now
-        × (length b.now < 2 ^ 32) × Remembers (noted b.now) memo.old }
+    requires { (n ≤ 64) × Lengths at.now left.now hashes.old × AllFit b.now n at.now left.now × (length b.now < 2 ^ 32) × Remembers (noted b.now) memo.old }
     ensures hashes { length hashes.new ≡ 64 }
     ensures memo { Remembers (noted b.now) memo.new }
 {
@@ -170,95 +167,67 @@ fn hash_texts(
 }
 
 // Whether the text of the attribute at q, whose hash h stands at place `low` of its bucket, or would, is at an entry's address.
-fn found(
-    b: &[u8],
-    s: Strings,
-    segments: &[u32; SAMPLES],
-    buckets: &[u32],
-    q: usize,
-    h: usize,
-    low: usize,
-) -> bool
-    requires { Held b.now s segments.now buckets.now × (first_fault (all_entry_checks (held_table b.now s buckets.now)) ≡ Accepted)
-        × LowerBound (held_table b.now s buckets.now) (bucket_of (length buckets.now) h) h low × (q + attribute_size Bits64 ≤ length b.now) }
-    ensures { Sure (EntryAddress (held_table b.now s buckets.now) (text_segment b.now q) (text_element b.now q)) result }
+fn found(table: &StringTable, q: usize, h: usize, low: usize) -> bool
+    requires { (first_fault (all_entry_checks (lent_table table.now)) ≡ Accepted) × LowerBound (lent_table table.now) (bucket_of (length table.now.buckets.now) h) h low × (q + attribute_size Bits64 ≤ length table.now.file.now) }
+    ensures { Sure (EntryAddress (lent_table table.now) (text_segment table.now.file.now q) (text_element table.now.file.now q)) result }
 {
-    let k = hash::bucket(h, buckets.len());
-    run::run_has(
-        b,
-        s,
-        segments,
-        buckets,
-        k,
-        h,
-        low,
-        12,
-        fields::value_word(b, q),
-    )
+    let k = hash::bucket(h, table.buckets.len());
+    run::run_has(table, k, h, low, 12, fields::value_word(table.file, q))
 }
 
 // Whether each is.
 fn find_entries(
-    b: &[u8],
-    s: Strings,
-    segments: &[u32; SAMPLES],
-    buckets: &[u32],
+    table: &StringTable,
     slots: &[u32; 64],
     n: usize,
     hashes: &[u32; 64],
     low: &[usize; 64],
 ) -> bool
-    requires { Held b.now s segments.now buckets.now × (first_fault (all_entry_checks (held_table b.now s buckets.now)) ≡ Accepted)
-        × SlotsIn Bits64 b.now slots.now n × (n ≤ 64) × (length slots.now ≡ 64) × (length hashes.now ≡ 64)
-        × LowerBounds (held_table b.now s buckets.now) hashes.now n low.now }
-    ensures { Sure (AllFound b.now (held_table b.now s buckets.now) slots.now n) result }
+    requires { (first_fault (all_entry_checks (lent_table table.now)) ≡ Accepted) × SlotsIn Bits64 table.now.file.now slots.now n × (n ≤ 64) × (length slots.now ≡ 64) × (length hashes.now ≡ 64) × LowerBounds (lent_table table.now) hashes.now n low.now }
+    ensures { Sure (AllFound table.now.file.now (lent_table table.now) slots.now n) result }
 {
-    (0..n).all(|j| found(
-        b,
-        s,
-        segments,
-        buckets,
-        le::wide(slots[j]),
-        le::wide(hashes[j]),
-        low[j],
-    ))
+    (0..n).all(|j| found(table, le::wide(slots[j]), le::wide(hashes[j]), low[j]))
 }
 
 // Whether 19 holds of the attributes in the first n slots. In a packed table the character before a text tells that its address is an
 // entry's; in another the entry is looked for.
 pub fn batch_right(
-    b: &[u8],
-    t: &[u32; 2048],
-    s: Strings,
-    segments: &[u32; SAMPLES],
-    buckets: &[u32],
+    prepared: &PreparedFile,
+    t: &HashTables,
     slots: &[u32; 64],
     n: usize,
     packed: bool,
     memo: &mut [u32; 3072],
 ) -> bool
-    requires { Tables t.now × Held b.now s segments.now buckets.now × (held_table b.now s buckets.now ≡ values Bits64 b.now)
-        × (first_fault (string_checks (values Bits64 b.now)) ≡ Accepted) × (length slots.now ≡ 64) × SlotsIn Bits64 b.now slots.now n × (n ≤ 64)
-        × Sure (Packed (values Bits64 b.now)) packed × Remembers (noted b.now) memo.old }
-    ensures answer { Sure (AllRight Bits64 b.now slots.now n) result }
-    ensures memo { Remembers (noted b.now) memo.new }
+    requires { (length slots.now ≡ 64) × SlotsIn Bits64 prepared.now.file.now slots.now n × (n ≤ 64) × Sure (Packed (values Bits64 prepared.now.file.now)) packed × Remembers (noted prepared.now.file.now) memo.old }
+    ensures answer { Sure (AllRight Bits64 prepared.now.file.now slots.now n) result }
+    ensures memo { Remembers (noted prepared.now.file.now) memo.new }
 {
+    let table = &prepared.values().table;
     let mut at = [0u32; 64];
     let mut left = [0u32; 64];
-    if !find_spots(b, s.chars, segments, slots, n, &mut at, &mut left) {
+    if !find_spots(
+        table.file,
+        table.parts.chars,
+        table.segments,
+        slots,
+        n,
+        &mut at,
+        &mut left,
+    ) {
         return false;
     }
     let mut seen = [0u32; 64];
-    load_before(b, n, &at, &left, &mut seen);
-    if !all_pass(b, t, slots, n, &at, &left, &seen, packed, memo) {
+    load_before(table.file, n, &at, &left, &mut seen);
+    if !all_pass(table.file, t, slots, n, &at, &left, &seen, packed, memo) {
         return false;
     }
     if packed {
         return true;
     }
     let mut hashes = [0u32; 64];
-    hash_texts(b, t, n, &at, &left, &mut hashes, memo);
+    hash_texts(table.file, t, n, &at, &left, &mut hashes, memo);
     let mut low = [0usize; 64];
-    group::lower_bounds(b, s, segments, buckets, &hashes, n, 0, &mut low);
-    find_entries(b, s, segments, buckets, slots, n, &hashes, &low)
+    group::lower_bounds(table, &hashes, n, 0, &mut low);
+    find_entries(table, slots, n, &hashes, &low)
 }

@@ -7,28 +7,20 @@ ghost use Rattle.verdict.specs.inner.Tells.{Tells};
 ghost use Rattle.verdict.specs.Verdict.{Accepted};
 ghost use Rattle.layout.specs.Table.{bucket_at};
 ghost use Rattle.strings.specs.Order.{all_entry_checks};
-ghost use Rattle.strings.specs.inner.Held.{Held, held_table};
+ghost use Rattle.strings.specs.inner.Lent.{lent_table};
 ghost use Rattle.search.specs.inner.Group.{LowerBounds, Looked, Estimated, Within, Lengths};
 
 use crate::{near, pending};
-use region::SAMPLES;
-use strings::{Strings, entry};
+use strings::{StringTable, StringTable, entry};
 
 // After a group of which most estimates were of no use, as many groups go without.
 const SKIPPED: usize = 15;
 
 // Whether the buckets of a table take that many bytes: where they do, most looks at what they lead to would wait for memory.
-pub fn spread(
-    b: &[u8],
-    s: Strings,
-    segments: &[u32; SAMPLES],
-    buckets: &[u32],
-    bytes: usize,
-) -> bool
-    requires { Held b.now s segments.now buckets.now }
-    ensures { Tells (bucket_at (held_table b.now s buckets.now) 0 + bytes ≤ s.list) result }
+pub fn spread(table: &StringTable, bytes: usize) -> bool
+    ensures { Tells (bucket_at (lent_table table.now) 0 + bytes ≤ table.now.parts.list) result }
 {
-    s.list - le::wide(buckets[0]) >= bytes
+    table.parts.list - le::wide(table.buckets[0]) >= bytes
 }
 
 // Looks at each.
@@ -50,31 +42,23 @@ struct Window {
 }
 
 // M entries for hash h when w was met at place g of its bucket. Of a bucket of fewer it is the bucket's count twice: it can be read, too.
-fn window_at<const M: usize>(
-    b: &[u8],
-    s: Strings,
-    segments: &[u32; SAMPLES],
-    buckets: &[u32],
-    h: usize,
-    g: usize,
-    w: usize,
-) -> Window
-    requires { Held b.now s segments.now buckets.now × (h < 2 ^ 32) × (g < 2 ^ 32) × (w < 2 ^ 32) × (1 ≤ M) }
-    ensures { (result.first + 4 ≤ length b.now) × (result.last + 4 ≤ length b.now) }
+fn window_at<const M: usize>(table: &StringTable, h: usize, g: usize, w: usize) -> Window
+    requires { (h < 2 ^ 32) × (g < 2 ^ 32) × (w < 2 ^ 32) × (1 ≤ M) }
+    ensures { (result.first + 4 ≤ length table.now.file.now) × (result.last + 4 ≤ length table.now.file.now) }
 {
-    let k = hash::bucket(h, buckets.len());
-    let n = entry::entry_count(b, s, segments, buckets, k);
+    let k = hash::bucket(h, table.buckets.len());
+    let n = entry::entry_count(table, k);
     if n < M {
         return Window {
             start: 0,
-            first: buckets[k],
-            last: buckets[k],
+            first: table.buckets[k],
+            last: table.buckets[k],
         };
     }
     let r = crate::expected(n, h, g, w);
     let f = r.saturating_sub(M / 2).min(n - M);
-    let e = entry::entry_at(b, s, segments, buckets, k, f);
-    let l = entry::entry_at(b, s, segments, buckets, k, f + M - 1);
+    let e = entry::entry_at(table, k, f);
+    let l = entry::entry_at(table, k, f + M - 1);
     Window {
         start: f as u32,
         first: e as u32,
@@ -84,10 +68,7 @@ fn window_at<const M: usize>(
 
 // M entries for each hash, from where it was looked for before.
 fn find_windows<const M: usize>(
-    b: &[u8],
-    s: Strings,
-    segments: &[u32; SAMPLES],
-    buckets: &[u32],
+    table: &StringTable,
     hashes: &[u32; 64],
     n: usize,
     met: &[u32; 64],
@@ -95,16 +76,15 @@ fn find_windows<const M: usize>(
     first: &mut [u32; 64],
     last: &mut [u32; 64],
 )
-    requires { Held b.now s segments.now buckets.now × (n ≤ 64) × (length hashes.now ≡ 64) × (length met.now ≡ 64)
-        × Lengths estimate.old first.old last.old × (1 ≤ M) }
-    ensures { Estimated b.now n estimate.new first.new × Within b.now n last.new }
+    requires { (n ≤ 64) × (length hashes.now ≡ 64) × (length met.now ≡ 64) × Lengths estimate.old first.old last.old × (1 ≤ M) }
+    ensures { Estimated table.now.file.now n estimate.new first.new × Within table.now.file.now n last.new }
 {
     for j in 0..n {
         let a = window_at::<M>(
-            b,
+            table.file,
             s,
-            segments,
-            buckets,
+            table.segments,
+            table.buckets,
             le::wide(hashes[j]),
             le::wide(estimate[j]),
             le::wide(met[j]),
@@ -118,37 +98,60 @@ fn find_windows<const M: usize>(
 // Eight entries for each hash, from `estimate` on, with the first and the last hash of them. One entry for each is looked at first, from nowhere
 // and then from what was met there. In a table of less than a megabyte one look is enough.
 fn probe_windows(
-    b: &[u8],
-    s: Strings,
-    segments: &[u32; SAMPLES],
-    buckets: &[u32],
+    table: &StringTable,
     hashes: &[u32; 64],
     n: usize,
     estimate: &mut [u32; 64],
     least: &mut [u32; 64],
     most: &mut [u32; 64],
 )
-    requires { Held b.now s segments.now buckets.now × (n ≤ 64) × (length hashes.now ≡ 64)
-        × Lengths estimate.old least.old most.old }
+    requires { (n ≤ 64) × (length hashes.now ≡ 64) × Lengths estimate.old least.old most.old }
     ensures { Lengths estimate.new least.new most.new }
 {
     let mut first = [0u32; 64];
     let mut last = [0u32; 64];
     find_windows::<1>(
-        b, s, segments, buckets, hashes, n, least, estimate, &mut first, &mut last,
+        table.file,
+        s,
+        table.segments,
+        table.buckets,
+        hashes,
+        n,
+        least,
+        estimate,
+        &mut first,
+        &mut last,
     );
-    probe(b, n, &first, least);
-    if spread(b, s, segments, buckets, 1048576) {
+    probe(table.file, n, &first, least);
+    if spread(table, 1048576) {
         find_windows::<1>(
-            b, s, segments, buckets, hashes, n, least, estimate, &mut first, &mut last,
+            table.file,
+            s,
+            table.segments,
+            table.buckets,
+            hashes,
+            n,
+            least,
+            estimate,
+            &mut first,
+            &mut last,
         );
-        probe(b, n, &first, least);
+        probe(table.file, n, &first, least);
     }
     find_windows::<8>(
-        b, s, segments, buckets, hashes, n, least, estimate, &mut first, &mut last,
+        table.file,
+        s,
+        table.segments,
+        table.buckets,
+        hashes,
+        n,
+        least,
+        estimate,
+        &mut first,
+        &mut last,
     );
-    probe(b, n, &first, least);
-    probe(b, n, &last, most);
+    probe(table.file, n, &first, least);
+    probe(table.file, n, &last, most);
 }
 
 // Where to look for h when eight entries from g on have hashes from `least` to `most`: there, or seven entries on or back.
@@ -190,49 +193,36 @@ fn shift_each(
 }
 
 // A guess for each hash: where eight entries are to be read. In a table of less than 64 kilobytes nothing is read for it: it is near as it is.
-fn estimate_windows(
-    b: &[u8],
-    s: Strings,
-    segments: &[u32; SAMPLES],
-    buckets: &[u32],
-    hashes: &[u32; 64],
-    n: usize,
-    estimate: &mut [u32; 64],
-)
-    requires { Held b.now s segments.now buckets.now × (n ≤ 64) × (length hashes.now ≡ 64) × (length estimate.old ≡ 64) }
+fn estimate_windows(table: &StringTable, hashes: &[u32; 64], n: usize, estimate: &mut [u32; 64])
+    requires { (n ≤ 64) × (length hashes.now ≡ 64) × (length estimate.old ≡ 64) }
     ensures { length estimate.new ≡ 64 }
 {
-    if !spread(b, s, segments, buckets, 65536) {
+    if !spread(table, 65536) {
         return;
     }
     let mut least = [0u32; 64];
     let mut most = [0u32; 64];
-    probe_windows(
-        b, s, segments, buckets, hashes, n, estimate, &mut least, &mut most,
-    );
+    probe_windows(table, hashes, n, estimate, &mut least, &mut most);
     shift_each(hashes, n, &least, &most, estimate);
 }
 
 // Looks for each hash where it is guessed to stand. Answers how many are not found so, and lists these.
 fn probe_each(
-    b: &[u8],
-    s: Strings,
-    segments: &[u32; SAMPLES],
-    buckets: &[u32],
+    table: &StringTable,
     hashes: &[u32; 64],
     n: usize,
     estimate: &[u32; 64],
     low: &mut [usize; 64],
     which: &mut [usize; 64],
 ) -> usize
-    requires { Held b.now s segments.now buckets.now × (n ≤ 64) × (length hashes.now ≡ 64) × Lengths estimate.now low.old which.old }
-    ensures { Looked (held_table b.now s buckets.now) hashes.now n low.new which.new result 0 }
+    requires { (n ≤ 64) × (length hashes.now ≡ 64) × Lengths estimate.now low.old which.old }
+    ensures { Looked (lent_table table.now) hashes.now n low.new which.new result 0 }
 {
     let mut m = 0;
     for j in 0..n {
         let h = le::wide(hashes[j]);
-        let k = hash::bucket(h, buckets.len());
-        let told = near::probe_near(b, s, segments, buckets, k, h, le::wide(estimate[j]));
+        let k = hash::bucket(h, table.buckets.len());
+        let told = near::probe_near(table, k, h, le::wide(estimate[j]));
         low[j] = told.unwrap_or(0);
         which[m] = j;
         if told.is_none() {
@@ -245,32 +235,26 @@ fn probe_each(
 // The places of the first n hashes, each in its bucket. The next `skipped` groups are halved without an estimate. Answers how many are left of
 // these, or how many are to be next: some where most estimates were of no use, so that these cost little where hashes are not spread evenly.
 pub fn lower_bounds(
-    b: &[u8],
-    s: Strings,
-    segments: &[u32; SAMPLES],
-    buckets: &[u32],
+    table: &StringTable,
     hashes: &[u32; 64],
     n: usize,
     skipped: usize,
     low: &mut [usize; 64],
 ) -> usize
-    requires { Held b.now s segments.now buckets.now × (first_fault (all_entry_checks (held_table b.now s buckets.now)) ≡ Accepted)
-        × (n ≤ 64) × (length hashes.now ≡ 64) × (length low.old ≡ 64) }
-    ensures { LowerBounds (held_table b.now s buckets.now) hashes.now n low.new }
+    requires { (first_fault (all_entry_checks (lent_table table.now)) ≡ Accepted) × (n ≤ 64) × (length hashes.now ≡ 64) × (length low.old ≡ 64) }
+    ensures { LowerBounds (lent_table table.now) hashes.now n low.new }
 {
     if skipped > 0 {
-        pending::find_all(b, s, segments, buckets, hashes, n, low);
+        pending::find_all(table, hashes, n, low);
         return skipped - 1;
     }
     let mut estimate = [0u32; 64];
-    estimate_windows(b, s, segments, buckets, hashes, n, &mut estimate);
+    estimate_windows(table, hashes, n, &mut estimate);
     let mut which = [0usize; 64];
-    let m = probe_each(
-        b, s, segments, buckets, hashes, n, &estimate, low, &mut which,
-    );
+    let m = probe_each(table, hashes, n, &estimate, low, &mut which);
     if m == 0 {
         return 0;
     }
-    pending::find_rest(b, s, segments, buckets, hashes, n, &which, m, low);
+    pending::find_rest(table, hashes, n, &which, m, low);
     if n < 2 * m { SKIPPED } else { 0 }
 }

@@ -4,7 +4,7 @@
 
 ghost use Rattle.std.specs.Prelude.{◌≤◌, ◌<◌, ◌^◌, length};
 ghost use Rattle.laws.specs.Halving.{Rounds};
-ghost use Rattle.strings.specs.inner.Held.{Held, held_table};
+ghost use Rattle.strings.specs.inner.Lent.{lent_table};
 ghost use Rattle.search.specs.inner.LowerBound.{Halved};
 
 pub mod group;
@@ -12,8 +12,7 @@ mod near;
 mod pending;
 pub mod run;
 
-use region::SAMPLES;
-use strings::{Strings, entry, fields};
+use strings::{StringTable, StringTable, entry, fields};
 
 // No bucket has 2 to the 31 entries: a file has at most 2 to the 30 bytes.
 const MOST_ROUNDS: usize = 31;
@@ -51,25 +50,18 @@ fn rounds(n: usize) -> usize
 
 // The first entry of bucket k whose hash is not below h, or the number of entries, by halving. `left` is the number of rounds left; a
 // round reads one entry.
-pub fn lower_bound(
-    b: &[u8],
-    s: Strings,
-    segments: &[u32; SAMPLES],
-    buckets: &[u32],
-    k: usize,
-    h: usize,
-) -> usize
-    requires { Held b.now s segments.now buckets.now × (k < length buckets.now) }
-    ensures { Halved (held_table b.now s buckets.now) k h result }
+pub fn lower_bound(table: &StringTable, k: usize, h: usize) -> usize
+    requires { k < length table.now.buckets.now }
+    ensures { Halved (lent_table table.now) k h result }
 {
     let mut lo = 0;
-    let mut hi = entry::entry_count(b, s, segments, buckets, k);
+    let mut hi = entry::entry_count(table, k);
     let mut left = rounds(hi);
     while lo < hi {
         left -= 1;
         let mid = lo + (hi - lo) / 2;
-        let e = entry::entry_at(b, s, segments, buckets, k, mid);
-        if fields::hash(b, e) < h {
+        let e = entry::entry_at(table, k, mid);
+        if fields::hash(table.file, e) < h {
             lo = mid + 1;
         } else {
             hi = mid;

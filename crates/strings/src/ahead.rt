@@ -4,12 +4,12 @@ ghost use Rattle.std.specs.Prelude.{◌≡◌, ◌+◌, ◌-◌, ◌*◌, ◌%�
 ghost use Rattle.le.specs.Le.{u16_at};
 ghost use Rattle.layout.specs.Table.{entries};
 ghost use Rattle.strings.specs.Texts.{text_spot};
-ghost use Rattle.strings.specs.inner.Held.{Held, held_table, Here};
+ghost use Rattle.strings.specs.inner.Held.{Here};
+ghost use Rattle.strings.specs.inner.Lent.{lent_table};
 ghost use Rattle.strings.specs.inner.Ahead.{Stood, SeenBefore, ReadAhead, Ahead};
 
 use crate::spot::Spot;
-use crate::{Strings, entry, fields, spot};
-use region::SAMPLES;
+use crate::{StringTable, StringTable, entry, fields, spot};
 
 // The spot of an entry's text, what touch_whole reads there, and from which entry on those before it are known to have other texts.
 #[derive(Clone, Copy)]
@@ -46,63 +46,41 @@ fn touch_whole(b: &[u8], spot: Spot, len: usize) -> usize
 }
 
 // The spot of the text of entry j of bucket k.
-fn text_spot(
-    b: &[u8],
-    s: Strings,
-    segments: &[u32; SAMPLES],
-    buckets: &[u32],
-    k: usize,
-    j: usize,
-) -> Option<Spot>
-    requires { Held b.now s segments.now buckets.now × Here (held_table b.now s buckets.now) k j }
-    ensures { result ≡ text_spot (held_table b.now s buckets.now) k j }
+fn text_spot(table: &StringTable, k: usize, j: usize) -> Option<Spot>
+    requires { Here (lent_table table.now) k j }
+    ensures { result ≡ text_spot (lent_table table.now) k j }
 {
-    let e = entry::entry_at(b, s, segments, buckets, k, j);
-    spot::entry_spot(b, s.chars, segments, e)
+    let e = entry::entry_at(table, k, j);
+    spot::entry_spot(table.file, table.parts.chars, table.segments, e)
 }
 
 // The spots of the texts of m entries of bucket k from j on.
-fn find_spots(
-    b: &[u8],
-    s: Strings,
-    segments: &[u32; SAMPLES],
-    buckets: &[u32],
-    k: usize,
-    j: usize,
-    m: usize,
-    spots: &mut [Option<Spot>; 64],
-)
-    requires { Held b.now s segments.now buckets.now × (k < length buckets.now)
-        × (j + m ≤ entries (held_table b.now s buckets.now) k) × (m ≤ 64) }
-    ensures { Stood (held_table b.now s buckets.now) k j m spots.new }
+fn find_spots(table: &StringTable, k: usize, j: usize, m: usize, spots: &mut [Option<Spot>; 64])
+    requires { (k < length table.now.buckets.now) × (j + m ≤ entries (lent_table table.now) k) × (m ≤ 64) }
+    ensures { Stood (lent_table table.now) k j m spots.new }
 {
     for i in 0..m {
-        spots[i] = text_spot(b, s, segments, buckets, k, j + i);
+        spots[i] = text_spot(table, k, j + i);
     }
 }
 
 // What touch_whole reads of them. This is where the memory is waited for, so little else is done here: the fewer the instructions between
 // two reads, the more of them the processor has under way.
 fn load_ahead(
-    b: &[u8],
-    s: Strings,
-    segments: &[u32; SAMPLES],
-    buckets: &[u32],
+    table: &StringTable,
     k: usize,
     j: usize,
     m: usize,
     spots: &[Option<Spot>; 64],
     seen: &mut [usize; 64],
 )
-    requires { Held b.now s segments.now buckets.now × (k < length buckets.now)
-        × (j + m ≤ entries (held_table b.now s buckets.now) k) × (m ≤ 64)
-        × Stood (held_table b.now s buckets.now) k j m spots.now }
-    ensures { SeenBefore b.now m spots.now seen.new }
+    requires { (k < length table.now.buckets.now) × (j + m ≤ entries (lent_table table.now) k) × (m ≤ 64) × Stood (lent_table table.now) k j m spots.now }
+    ensures { SeenBefore table.now.file.now m spots.now seen.new }
 {
     for i in 0..m {
         if let Some(spot) = spots[i] {
-            let e = entry::entry_at(b, s, segments, buckets, k, j + i);
-            seen[i] = touch_whole(b, spot, fields::length(b, e));
+            let e = entry::entry_at(table, k, j + i);
+            seen[i] = touch_whole(table.file, spot, fields::length(table.file, e));
         }
     }
 }
@@ -110,25 +88,20 @@ fn load_ahead(
 // Sees to it that entry j of bucket k, which has n, is prefetched: at each multiple of 64 it and the 63 behind it are, as far as there are
 // so many.
 pub(crate) fn keep_ahead(
-    b: &[u8],
-    s: Strings,
-    segments: &[u32; SAMPLES],
-    buckets: &[u32],
+    table: &StringTable,
     k: usize,
     n: usize,
     j: usize,
     spots: &mut [Option<Spot>; 64],
     seen: &mut [usize; 64],
 )
-    requires { Held b.now s segments.now buckets.now × (k < length buckets.now)
-        × (n ≡ entries (held_table b.now s buckets.now) k) × (j ≤ n)
-        × Ahead (held_table b.now s buckets.now) k j spots.old seen.old }
-    ensures { ReadAhead (held_table b.now s buckets.now) k (j - j % 64) spots.new seen.new }
+    requires { (k < length table.now.buckets.now) × (n ≡ entries (lent_table table.now) k) × (j ≤ n) × Ahead (lent_table table.now) k j spots.old seen.old }
+    ensures { ReadAhead (lent_table table.now) k (j - j % 64) spots.new seen.new }
 {
     if j % 64 != 0 {
         return;
     }
     let m = (n - j).min(64);
-    find_spots(b, s, segments, buckets, k, j, m, spots);
-    load_ahead(b, s, segments, buckets, k, j, m, spots, seen);
+    find_spots(table, k, j, m, spots);
+    load_ahead(table, k, j, m, spots, seen);
 }

@@ -4,11 +4,11 @@
 ghost use Rattle.std.specs.Prelude.{◌≡◌, ◌+◌, ◌≤◌, ◌<◌, length};
 ghost use Rattle.multimap.specs.inner.Multimap.{Filled};
 ghost use Rattle.layout.specs.Table.{entries};
-ghost use Rattle.strings.specs.inner.Held.{Held, held_table, Here};
+ghost use Rattle.strings.specs.inner.Held.{Here};
+ghost use Rattle.strings.specs.inner.Lent.{lent_table};
 ghost use Rattle.strings.specs.inner.Apart.{Apart, Fingerprinted, Collected, Met, Sifted, Clear, AwayWithin};
 
-use crate::{Strings, entry, fields, spot};
-use region::SAMPLES;
+use crate::{StringTable, StringTable, entry, fields, spot};
 
 // Entries of one bucket that have different texts: those from start on, before end.
 #[derive(Clone, Copy)]
@@ -25,34 +25,24 @@ pub struct Round {
 }
 
 // The fingerprint of the text of entry j. The length is that which the entry tells.
-fn fingerprint_at(
-    b: &[u8],
-    s: Strings,
-    segments: &[u32; SAMPLES],
-    buckets: &[u32],
-    k: usize,
-    j: usize,
-) -> usize
-    requires { Held b.now s segments.now buckets.now × Here (held_table b.now s buckets.now) k j }
-    ensures { Fingerprinted (held_table b.now s buckets.now) k j result }
+fn fingerprint_at(table: &StringTable, k: usize, j: usize) -> usize
+    requires { Here (lent_table table.now) k j }
+    ensures { Fingerprinted (lent_table table.now) k j result }
 {
-    let e = entry::entry_at(b, s, segments, buckets, k, j);
-    let Some(spot) = spot::entry_spot(b, s.chars, segments, e) else {
+    let e = entry::entry_at(table, k, j);
+    let Some(spot) = spot::entry_spot(table.file, table.parts.chars, table.segments, e) else {
         return 0;
     };
-    let length = fields::length(b, e);
+    let length = fields::length(table.file, e);
     if length == 0 || length > spot.left + 1 {
         return 0;
     }
-    text::fingerprint::fingerprint(b, spot.at, length - 1)
+    text::fingerprint::fingerprint(table.file, spot.at, length - 1)
 }
 
 // Whether entry j, whose fingerprint is x, may have the text of one of the n collected entries, those from `from` on.
 fn met(
-    b: &[u8],
-    s: Strings,
-    segments: &[u32; SAMPLES],
-    buckets: &[u32],
+    table: &StringTable,
     k: usize,
     from: usize,
     n: usize,
@@ -60,13 +50,12 @@ fn met(
     x: usize,
     map: &[u16; 20480],
 ) -> bool
-    requires { Held b.now s segments.now buckets.now × Here (held_table b.now s buckets.now) k j × (from + n ≤ j)
-        × Fingerprinted (held_table b.now s buckets.now) k j x × Collected (held_table b.now s buckets.now) k from n map.now }
-    ensures { Met (held_table b.now s buckets.now) k from n j result }
+    requires { Here (lent_table table.now) k j × (from + n ≤ j) × Fingerprinted (lent_table table.now) k j x × Collected (lent_table table.now) k from n map.now }
+    ensures { Met (lent_table table.now) k from n j result }
 {
     let mut c = multimap::last(map, n, x);
     while c > 0 {
-        if entry::same_text(b, s, segments, buckets, k, from + (c - 1), j) {
+        if entry::same_text(table, k, from + (c - 1), j) {
             return true;
         }
         c = multimap::before(map, n, c - 1, x);
@@ -75,25 +64,15 @@ fn met(
 }
 
 // Collects the fingerprints of entries from `from` on, at most so many, up to one that may have the text of one before it.
-fn collect(
-    b: &[u8],
-    s: Strings,
-    segments: &[u32; SAMPLES],
-    buckets: &[u32],
-    k: usize,
-    from: usize,
-    most: usize,
-    map: &mut [u16; 20480],
-) -> usize
-    requires { Held b.now s segments.now buckets.now × (k < length buckets.now)
-        × (from + most ≤ entries (held_table b.now s buckets.now) k) × (most ≤ 8192) × Filled 0 map.old }
-    ensures answer { Sifted (held_table b.now s buckets.now) k from result most }
-    ensures map { Collected (held_table b.now s buckets.now) k from result map.new }
+fn collect(table: &StringTable, k: usize, from: usize, most: usize, map: &mut [u16; 20480]) -> usize
+    requires { (k < length table.now.buckets.now) × (from + most ≤ entries (lent_table table.now) k) × (most ≤ 8192) × Filled 0 map.old }
+    ensures answer { Sifted (lent_table table.now) k from result most }
+    ensures map { Collected (lent_table table.now) k from result map.new }
 {
     for n in 0..most {
         let j = from + n;
-        let x = fingerprint_at(b, s, segments, buckets, k, j);
-        if met(b, s, segments, buckets, k, from, n, j, x, map) {
+        let x = fingerprint_at(table, k, j);
+        if met(table, k, from, n, j, x, map) {
             return n;
         }
         multimap::insert(map, n, x);
@@ -103,24 +82,19 @@ fn collect(
 
 // The first entry behind the n collected ones, before end, that may have the text of one of them; end if there is none.
 fn sift(
-    b: &[u8],
-    s: Strings,
-    segments: &[u32; SAMPLES],
-    buckets: &[u32],
+    table: &StringTable,
     k: usize,
     from: usize,
     n: usize,
     end: usize,
     map: &[u16; 20480],
 ) -> usize
-    requires { Held b.now s segments.now buckets.now × (k < length buckets.now) × (from + n ≤ end)
-        × (end ≤ entries (held_table b.now s buckets.now) k) × Apart (held_table b.now s buckets.now) k from (from + n)
-        × Collected (held_table b.now s buckets.now) k from n map.now }
-    ensures { Clear (held_table b.now s buckets.now) k from n result × (result ≤ end) }
+    requires { (k < length table.now.buckets.now) × (from + n ≤ end) × (end ≤ entries (lent_table table.now) k) × Apart (lent_table table.now) k from (from + n) × Collected (lent_table table.now) k from n map.now }
+    ensures { Clear (lent_table table.now) k from n result × (result ≤ end) }
 {
     for j in from + n..end {
-        let x = fingerprint_at(b, s, segments, buckets, k, j);
-        if met(b, s, segments, buckets, k, from, n, j, x, map) {
+        let x = fingerprint_at(table, k, j);
+        if met(table, k, from, n, j, x, map) {
             return j;
         }
     }
@@ -128,44 +102,26 @@ fn sift(
 }
 
 // One round: entries from `from` on are collected, and those behind them, before end, are compared with them.
-fn sift_some(
-    b: &[u8],
-    s: Strings,
-    segments: &[u32; SAMPLES],
-    buckets: &[u32],
-    k: usize,
-    from: usize,
-    end: usize,
-) -> Round
-    requires { Held b.now s segments.now buckets.now × (k < length buckets.now) × (from < end)
-        × (end ≤ entries (held_table b.now s buckets.now) k) }
-    ensures { Clear (held_table b.now s buckets.now) k from result.collected result.clear × (result.clear ≤ end) × (0 < result.collected) }
+fn sift_some(table: &StringTable, k: usize, from: usize, end: usize) -> Round
+    requires { (k < length table.now.buckets.now) × (from < end) × (end ≤ entries (lent_table table.now) k) }
+    ensures { Clear (lent_table table.now) k from result.collected result.clear × (result.clear ≤ end) × (0 < result.collected) }
 {
     let mut map = [0u16; 20480];
     let most = (end - from).min(8192);
-    let collected = collect(b, s, segments, buckets, k, from, most, &mut map);
-    let clear = sift(b, s, segments, buckets, k, from, collected, end, &map);
+    let collected = collect(table, k, from, most, &mut map);
+    let clear = sift(table, k, from, collected, end, &map);
     Round { collected, clear }
 }
 
 // The entry before which, from `from` on and before end, no two entries have the same text.
-pub(crate) fn apart_until(
-    b: &[u8],
-    s: Strings,
-    segments: &[u32; SAMPLES],
-    buckets: &[u32],
-    k: usize,
-    from: usize,
-    end: usize,
-) -> usize
-    requires { Held b.now s segments.now buckets.now × (k < length buckets.now) × (from ≤ end)
-        × (end ≤ entries (held_table b.now s buckets.now) k) }
-    ensures { Apart (held_table b.now s buckets.now) k from result }
+pub(crate) fn apart_until(table: &StringTable, k: usize, from: usize, end: usize) -> usize
+    requires { (k < length table.now.buckets.now) × (from ≤ end) × (end ≤ entries (lent_table table.now) k) }
+    ensures { Apart (lent_table table.now) k from result }
 {
     let mut done = from;
     let mut clear = end;
     while done < clear {
-        let r = sift_some(b, s, segments, buckets, k, done, clear);
+        let r = sift_some(table, k, done, clear);
         done += r.collected;
         clear = r.clear;
     }
@@ -173,20 +129,12 @@ pub(crate) fn apart_until(
 }
 
 // Where the run of entries with hash h that holds entry j starts.
-fn run_start(
-    b: &[u8],
-    s: Strings,
-    segments: &[u32; SAMPLES],
-    buckets: &[u32],
-    k: usize,
-    j: usize,
-    h: usize,
-) -> usize
-    requires { Held b.now s segments.now buckets.now × Here (held_table b.now s buckets.now) k j }
+fn run_start(table: &StringTable, k: usize, j: usize, h: usize) -> usize
+    requires { Here (lent_table table.now) k j }
     ensures { result ≤ j }
 {
     for i in (0..j).rev() {
-        if entry::hash_at(b, s, segments, buckets, k, i) != h {
+        if entry::hash_at(table, k, i) != h {
             return i + 1;
         }
     }
@@ -194,22 +142,12 @@ fn run_start(
 }
 
 // Where it ends, of the n entries of the bucket.
-fn run_end(
-    b: &[u8],
-    s: Strings,
-    segments: &[u32; SAMPLES],
-    buckets: &[u32],
-    k: usize,
-    n: usize,
-    j: usize,
-    h: usize,
-) -> usize
-    requires { Held b.now s segments.now buckets.now × (k < length buckets.now) × (j ≤ n)
-        × (n ≤ entries (held_table b.now s buckets.now) k) }
+fn run_end(table: &StringTable, k: usize, n: usize, j: usize, h: usize) -> usize
+    requires { (k < length table.now.buckets.now) × (j ≤ n) × (n ≤ entries (lent_table table.now) k) }
     ensures { (j ≤ result) × (result ≤ n) }
 {
     for i in j..n {
-        if entry::hash_at(b, s, segments, buckets, k, i) != h {
+        if entry::hash_at(table, k, i) != h {
             return i;
         }
     }
@@ -218,30 +156,20 @@ fn run_end(
 
 // Entries that are known to have different texts, when entry j of the n of bucket k is next: where 64 entries from a multiple of 64 on have one
 // hash, those of the whole run are compared.
-pub(crate) fn span_at(
-    b: &[u8],
-    s: Strings,
-    segments: &[u32; SAMPLES],
-    buckets: &[u32],
-    k: usize,
-    n: usize,
-    j: usize,
-    span: Span,
-) -> Span
-    requires { Held b.now s segments.now buckets.now × (k < length buckets.now) × (n ≡ entries (held_table b.now s buckets.now) k)
-        × (j < n) × Apart (held_table b.now s buckets.now) k span.start span.end }
-    ensures { Apart (held_table b.now s buckets.now) k result.start result.end }
+pub(crate) fn span_at(table: &StringTable, k: usize, n: usize, j: usize, span: Span) -> Span
+    requires { (k < length table.now.buckets.now) × (n ≡ entries (lent_table table.now) k) × (j < n) × Apart (lent_table table.now) k span.start span.end }
+    ensures { Apart (lent_table table.now) k result.start result.end }
 {
     if j % 64 != 0 || j < span.end || n - j < 64 {
         return span;
     }
-    let h = entry::hash_at(b, s, segments, buckets, k, j);
-    if entry::hash_at(b, s, segments, buckets, k, j + 63) != h {
+    let h = entry::hash_at(table, k, j);
+    if entry::hash_at(table, k, j + 63) != h {
         return span;
     }
-    let start = run_start(b, s, segments, buckets, k, j, h);
-    let end = run_end(b, s, segments, buckets, k, n, j, h);
-    let clear = apart_until(b, s, segments, buckets, k, start, end);
+    let start = run_start(table, k, j, h);
+    let end = run_end(table, k, n, j, h);
+    let clear = apart_until(table, k, start, end);
     Span { start, end: clear }
 }
 

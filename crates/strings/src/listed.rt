@@ -2,20 +2,19 @@
 // list stays near, where between texts it would be read from afar each time.
 ghost use Rattle.std.specs.Prelude.{◌<◌, length};
 ghost use Rattle.verdict.specs.inner.Tells.{Sure};
-ghost use Rattle.strings.specs.inner.Held.{Held, held_table};
+ghost use Rattle.strings.specs.inner.Lent.{lent_table};
 ghost use Rattle.strings.specs.inner.Ahead.{BucketIndexed, AllIndexed};
 
-use crate::{Strings, entry};
-use region::SAMPLES;
+use crate::{StringTable, StringTable, entry};
 
 // Whether the indices of bucket k are right.
-fn bucket_listed(b: &[u8], s: Strings, segments: &[u32; SAMPLES], buckets: &[u32], k: usize) -> bool
-    requires { Held b.now s segments.now buckets.now × (k < length buckets.now) }
-    ensures { Sure (BucketIndexed (held_table b.now s buckets.now) k) result }
+fn bucket_listed(table: &StringTable, k: usize) -> bool
+    requires { k < length table.now.buckets.now }
+    ensures { Sure (BucketIndexed (lent_table table.now) k) result }
 {
-    let n = entry::entry_count(b, s, segments, buckets, k);
+    let n = entry::entry_count(table, k);
     for j in 0..n {
-        if !entry::indexed(b, s, segments, buckets, k, j) {
+        if !entry::indexed(table, k, j) {
             return false;
         }
     }
@@ -23,12 +22,11 @@ fn bucket_listed(b: &[u8], s: Strings, segments: &[u32; SAMPLES], buckets: &[u32
 }
 
 // Whether those of every bucket are. False tells only that some entry is at fault, and not which fault comes first.
-pub fn all_listed(b: &[u8], s: Strings, segments: &[u32; SAMPLES], buckets: &[u32]) -> bool
-    requires { Held b.now s segments.now buckets.now }
-    ensures { Sure (AllIndexed (held_table b.now s buckets.now)) result }
+pub fn all_listed(table: &StringTable) -> bool
+    ensures { Sure (AllIndexed (lent_table table.now)) result }
 {
     for k in 0..buckets.len() {
-        if !bucket_listed(b, s, segments, buckets, k) {
+        if !bucket_listed(table, k) {
             return false;
         }
     }

@@ -4,73 +4,55 @@ ghost use Rattle.verdict.specs.Checks.{first_fault};
 ghost use Rattle.verdict.specs.inner.Gives.{Gives};
 ghost use Rattle.verdict.specs.inner.Tells.{Sure};
 ghost use Rattle.verdict.specs.Verdict.{Accepted};
-ghost use Rattle.hash.specs.inner.Tables.{Tables};
 ghost use Rattle.strings.specs.Order.{entry_checks, all_entry_checks};
 ghost use Rattle.strings.specs.inner.Begins.{Begun, AllBegun};
 ghost use Rattle.strings.specs.inner.Ahead.{Prefetched};
-ghost use Rattle.strings.specs.inner.Held.{Held, held_table, Here};
+ghost use Rattle.strings.specs.inner.Held.{Here};
+ghost use Rattle.strings.specs.inner.Lent.{lent_table};
 
+use hash::HashTables;
 use crate::ahead::PrefetchedText;
 use crate::apart::Span;
-use crate::{Strings, ahead, apart, entry, fields, listed};
-use region::SAMPLES;
+use crate::{StringTable, StringTable, ahead, apart, entry, fields, listed};
 use verdict::Refusal;
 
 // Whether the text of entry j of bucket k, which passed, stands where one can begin; and so do those before it.
-fn still_begun(
-    b: &[u8],
-    s: Strings,
-    segments: &[u32; SAMPLES],
-    buckets: &[u32],
-    k: usize,
-    j: usize,
-    g: PrefetchedText,
-    before: bool,
-) -> bool
-    requires { Held b.now s segments.now buckets.now × Here (held_table b.now s buckets.now) k j
-        × (first_fault (entry_checks (held_table b.now s buckets.now) k j) ≡ Accepted)
-        × Prefetched (held_table b.now s buckets.now) k j g.spot g.seen }
-    ensures { Sure ((before ≡ true) × Begun (held_table b.now s buckets.now) k j) result }
+fn still_begun(table: &StringTable, k: usize, j: usize, g: PrefetchedText, before: bool) -> bool
+    requires { Here (lent_table table.now) k j × (first_fault (entry_checks (lent_table table.now) k j) ≡ Accepted) × Prefetched (lent_table table.now) k j g.spot g.seen }
+    ensures { Sure ((before ≡ true) × Begun (lent_table table.now) k j) result }
 {
     if !before {
         return false;
     }
-    let e = entry::entry_at(b, s, segments, buckets, k, j);
-    if fields::element(b, e) == 0 {
+    let e = entry::entry_at(table, k, j);
+    if fields::element(table.file, e) == 0 {
         return true;
     }
     g.seen % 65536 == 0
 }
 
 // Refusals 7 to 12 of every entry, up to the first fault; where there is none, whether their texts are known to stand where texts can begin.
-pub fn check_entries(
-    b: &[u8],
-    t: &[u32; 2048],
-    s: Strings,
-    segments: &[u32; SAMPLES],
-    buckets: &[u32],
-) -> Result<bool, Refusal>
-    requires { Tables t.now × Held b.now s segments.now buckets.now }
-    ensures { Gives (first_fault (all_entry_checks (held_table b.now s buckets.now))) (Sure (AllBegun (held_table b.now s buckets.now))) result }
+pub fn check_entries(table: &StringTable, t: &HashTables) -> Result<bool, Refusal>
+    ensures { Gives (first_fault (all_entry_checks (lent_table table.now))) (Sure (AllBegun (lent_table table.now))) result }
 {
-    let right = listed::all_listed(b, s, segments, buckets);
+    let right = listed::all_listed(table);
     let mut spots = [None; 64];
     let mut seen = [0usize; 64];
     let mut begun = true;
-    'buckets: for k in 0..buckets.len() {
-        let n = entry::entry_count(b, s, segments, buckets, k);
+    'table.buckets: for k in 0..buckets.len() {
+        let n = entry::entry_count(table, k);
         let mut span = Span { start: 0, end: 0 };
         'entries: for j in 0..n {
-            ahead::keep_ahead(b, s, segments, buckets, k, n, j, &mut spots, &mut seen);
-            span = apart::span_at(b, s, segments, buckets, k, n, j, span);
+            ahead::keep_ahead(table, k, n, j, &mut spots, &mut seen);
+            span = apart::span_at(table, k, n, j, span);
             let i = j % 64;
             let g = PrefetchedText {
                 spot: spots[i],
                 seen: seen[i],
                 from: apart::away_from(span, j),
             };
-            entry::check_entry(b, t, s, segments, buckets, k, j, g, right)?;
-            begun = still_begun(b, s, segments, buckets, k, j, g, begun);
+            entry::check_entry(table, t, k, j, g, right)?;
+            begun = still_begun(table, k, j, g, begun);
         }
     }
     Ok(begun)

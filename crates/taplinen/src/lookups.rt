@@ -10,6 +10,7 @@ ghost use Rattle.batch.specs.Places.{answers_after};
 ghost use Rattle.batch.specs.inner.Answer.{Answered};
 ghost use Rattle.accept.specs.Rules.{FileRules};
 
+use hash::HashTables;
 use layout::View;
 use lookup::{Kind, Lookup};
 use strings::Strings;
@@ -20,7 +21,7 @@ pub fn find(file: &[u8], v: View, kind: Kind, text: &[u8]) -> Lookup
     requires { Fits Bits64 file.now v × FileRules Bits64 file.now × (length text.now % 2 ≡ 0) }
     ensures { result ≡ told_in kind (table_of Bits64 kind file.now) (text_from text.now) }
 {
-    let t = hash::tables();
+    let t = HashTables::new();
     let p = v.places;
     let n = text.len() / 2;
     match kind {
@@ -48,13 +49,19 @@ pub fn find(file: &[u8], v: View, kind: Kind, text: &[u8]) -> Lookup
 }
 
 // What each of many texts is told.
-pub fn find_texts(file: &[u8], v: View, kind: Kind, texts: &[u8], answers: &mut [u8]) -> Result<usize, Refusal>
+pub fn find_texts(
+    file: &[u8],
+    v: View,
+    kind: Kind,
+    texts: &[u8],
+    answers: &mut [u8],
+) -> Result<usize, Refusal>
     requires { Fits Bits64 file.now v × FileRules Bits64 file.now }
     ensures answer { Answered texts.now (length answers.old) result }
     ensures answers { answers.new
         ≡ answers_after (told_in kind (table_of Bits64 kind file.now)) texts.now answers.old (answer_of result) }
 {
-    let t = hash::tables();
+    let t = HashTables::new();
     let p = v.places;
     match kind {
         Kind::Name => {

@@ -5,6 +5,7 @@ ghost use Rattle.taplinen.specs.Questions.{accept_answer, text_answer, name_answ
 
 use crate::answer::Answer;
 use crate::{answer, lookups};
+use hash::HashTables;
 use lookup::Kind;
 use strings::Strings;
 use verdict::Verdict;
@@ -77,7 +78,7 @@ pub fn taplinen_path(file: &[u8], ws: &mut [u8], path: &[u8], list: &mut [u8]) -
         chars,
         list: p.name_list,
     };
-    let t = hash::tables();
+    let t = HashTables::new();
     let r = path::listing::list_path(
         file,
         &t,

@@ -3,12 +3,13 @@
 
 ghost use Rattle.std.specs.Prelude.{◌≡◌, ◌+◌, ◌*◌, ◌≤◌, ◌<◌, ◌^◌, length};
 ghost use Rattle.verdict.specs.inner.Tells.{Tells};
-ghost use Rattle.hash.specs.inner.Tables.{Tables};
 ghost use Rattle.hash.specs.Hash.{hash_on};
 ghost use Rattle.hash.specs.Fold.{fold_text, value_hash_of};
 ghost use Rattle.text.specs.Text.{chars, text_in, HoldsZero};
 ghost use Rattle.text.specs.inner.Zeros.{zeros_in};
 ghost use Rattle.text.specs.inner.Measure.{MeasuredOn, Measured, ValueRun, CharOrEnd};
+
+use hash::HashTables;
 
 pub mod fingerprint;
 pub mod parts;
@@ -28,8 +29,8 @@ fn measured(length: usize, hash: usize) -> Extent
 }
 
 // The text at offset p, of at most n characters: four in a step, while four are left.
-pub fn measure(b: &[u8], t: &[u32; 2048], p: usize, n: usize) -> Extent
-    requires { Tables t.now × (p + 2 * n ≤ length b.now) }
+pub fn measure(b: &[u8], t: &HashTables, p: usize, n: usize) -> Extent
+    requires { p + 2 * n ≤ length b.now }
     ensures { Measured b.now p n result }
 {
     let mut h = 0;
@@ -40,16 +41,16 @@ pub fn measure(b: &[u8], t: &[u32; 2048], p: usize, n: usize) -> Extent
             return measured(i, h);
         }
         if v < 65536 {
-            return measured(i + 1, hash::char_on(t, h, v));
+            return measured(i + 1, t.char_on(h, v));
         }
         let w = le::u32_at(b, p + 2 * (i + 2));
         if w & 65535 == 0 {
-            return measured(i + 2, hash::pair_on(t, h, v));
+            return measured(i + 2, t.pair_on(h, v));
         }
         if w < 65536 {
-            return measured(i + 3, hash::char_on(t, hash::pair_on(t, h, v), w));
+            return measured(i + 3, t.char_on(t.pair_on(h, v), w));
         }
-        h = hash::quad_on(t, h, v, w);
+        h = t.quad_on(h, v, w);
     }
     let i = 4 * (n / 4);
     let few = measure_few(b, t, p + 2 * i, n - i, h);
@@ -57,8 +58,8 @@ pub fn measure(b: &[u8], t: &[u32; 2048], p: usize, n: usize) -> Extent
 }
 
 // The same by single characters, on from the hash h: where a segment ends, fewer than four are left.
-fn measure_few(b: &[u8], t: &[u32; 2048], p: usize, n: usize, h: usize) -> Extent
-    requires { Tables t.now × (p + 2 * n ≤ length b.now) × (h < 2 ^ 32) }
+fn measure_few(b: &[u8], t: &HashTables, p: usize, n: usize, h: usize) -> Extent
+    requires { (p + 2 * n ≤ length b.now) × (h < 2 ^ 32) }
     ensures { MeasuredOn b.now p n h result }
 {
     let mut g = h;
@@ -67,7 +68,7 @@ fn measure_few(b: &[u8], t: &[u32; 2048], p: usize, n: usize, h: usize) -> Exten
         if c == 0 {
             return measured(i, g);
         }
-        g = hash::char_on(t, g, c);
+        g = t.char_on(g, c);
     }
     measured(n, g)
 }
@@ -75,8 +76,8 @@ fn measure_few(b: &[u8], t: &[u32; 2048], p: usize, n: usize, h: usize) -> Exten
 // The value hash, on from h, of the text at offset p, if a 0 ends it within n characters; otherwise 16,384 more than the hash of the n folded
 // characters, with which the text goes on. It is one number since it is asked for at every attribute. Four characters in a step, while four
 // are left.
-pub fn value_run(b: &[u8], t: &[u32; 2048], p: usize, n: usize, h: usize) -> usize
-    requires { Tables t.now × (p + 2 * n ≤ length b.now) × (h < 2 ^ 32) }
+pub fn value_run(b: &[u8], t: &HashTables, p: usize, n: usize, h: usize) -> usize
+    requires { (p + 2 * n ≤ length b.now) × (h < 2 ^ 32) }
     ensures { ValueRun b.now p n h result }
 {
     let mut g = h;
@@ -89,23 +90,23 @@ pub fn value_run(b: &[u8], t: &[u32; 2048], p: usize, n: usize, h: usize) -> usi
             return hash::low_14(g);
         }
         if v < 65536 {
-            return hash::low_14(hash::char_on(t, g, f.first));
+            return hash::low_14(t.char_on(g, f.first));
         }
         if w & 65535 == 0 {
-            return hash::low_14(hash::pair_on(t, g, f.first));
+            return hash::low_14(t.pair_on(g, f.first));
         }
         if w < 65536 {
-            return hash::low_14(hash::char_on(t, hash::pair_on(t, g, f.first), f.second));
+            return hash::low_14(t.char_on(t.pair_on(g, f.first), f.second));
         }
-        g = hash::quad_on(t, g, f.first, f.second);
+        g = t.quad_on(g, f.first, f.second);
     }
     let i = 4 * (n / 4);
     value_run_few(b, t, p + 2 * i, n - i, g)
 }
 
 // The same by single characters.
-fn value_run_few(b: &[u8], t: &[u32; 2048], p: usize, n: usize, h: usize) -> usize
-    requires { Tables t.now × (p + 2 * n ≤ length b.now) × (h < 2 ^ 32) }
+fn value_run_few(b: &[u8], t: &HashTables, p: usize, n: usize, h: usize) -> usize
+    requires { (p + 2 * n ≤ length b.now) × (h < 2 ^ 32) }
     ensures { ValueRun b.now p n h result }
 {
     let mut g = h;
@@ -114,14 +115,14 @@ fn value_run_few(b: &[u8], t: &[u32; 2048], p: usize, n: usize, h: usize) -> usi
         if c == 0 {
             return hash::low_14(g);
         }
-        g = hash::char_on(t, g, hash::fold(c));
+        g = t.char_on(g, hash::fold(c));
     }
     16384 + g
 }
 
 // The value hash, on from h, of the text at offset p, of at most n characters.
-pub fn value_hash(b: &[u8], t: &[u32; 2048], p: usize, n: usize, h: usize) -> usize
-    requires { Tables t.now × (p + 2 * n ≤ length b.now) × (h < 2 ^ 32) }
+pub fn value_hash(b: &[u8], t: &HashTables, p: usize, n: usize, h: usize) -> usize
+    requires { (p + 2 * n ≤ length b.now) × (h < 2 ^ 32) }
     ensures { result ≡ value_hash_of (hash_on h (fold_text (text_in b.now p n))) }
 {
     let r = value_run(b, t, p, n, h);
@@ -160,36 +161,36 @@ pub fn holds_zero(b: &[u8], p: usize, n: usize) -> bool
 }
 
 // The hash, on from h, of k characters that a caller asks with: four in a step, while four are left.
-pub fn hash_chars(s: &[u8], t: &[u32; 2048], p: usize, k: usize, h: usize) -> usize
-    requires { Tables t.now × (p + 2 * k ≤ length s.now) × (h < 2 ^ 32) }
+pub fn hash_chars(s: &[u8], t: &HashTables, p: usize, k: usize, h: usize) -> usize
+    requires { (p + 2 * k ≤ length s.now) × (h < 2 ^ 32) }
     ensures { (result ≡ hash_on h (chars s.now p k)) × (result < 2 ^ 32) }
 {
     let mut g = h;
     for j in 0..k / 4 {
         let i = 4 * j;
         let v = le::u32_at(s, p + 2 * i);
-        g = hash::quad_on(t, g, v, le::u32_at(s, p + 2 * (i + 2)));
+        g = t.quad_on(g, v, le::u32_at(s, p + 2 * (i + 2)));
     }
     let i = 4 * (k / 4);
     hash_few(s, t, p + 2 * i, k - i, g)
 }
 
 // The same of fewer than four characters, on from the hash h.
-fn hash_few(s: &[u8], t: &[u32; 2048], p: usize, k: usize, h: usize) -> usize
-    requires { Tables t.now × (p + 2 * k ≤ length s.now) × (k < 4) × (h < 2 ^ 32) }
+fn hash_few(s: &[u8], t: &HashTables, p: usize, k: usize, h: usize) -> usize
+    requires { (p + 2 * k ≤ length s.now) × (k < 4) × (h < 2 ^ 32) }
     ensures { (result ≡ hash_on h (chars s.now p k)) × (result < 2 ^ 32) }
 {
     if k == 0 {
         return h;
     }
     if k == 1 {
-        return hash::char_on(t, h, le::u16_at(s, p));
+        return t.char_on(h, le::u16_at(s, p));
     }
-    let g = hash::pair_on(t, h, le::u32_at(s, p));
+    let g = t.pair_on(h, le::u32_at(s, p));
     if k == 2 {
         return g;
     }
-    hash::char_on(t, g, le::u16_at(s, p + 4))
+    t.char_on(g, le::u16_at(s, p + 4))
 }
 
 // Whether two texts of the file are the same: that at p with m characters left, and that at q with n.

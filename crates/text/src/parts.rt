@@ -1,9 +1,10 @@
 // The two hashes of a text that a caller hands over whole or in parts (docs/changes/T-07.md).
 ghost use Rattle.std.specs.Prelude.{◌≡◌, ◌+◌, ◌*◌, ◌/◌, ◌≤◌, ◌<◌, ◌^◌, length};
-ghost use Rattle.hash.specs.inner.Tables.{Tables};
 ghost use Rattle.hash.specs.Hash.{hash_bytes, hash_on};
 ghost use Rattle.hash.specs.Fold.{fold_text, value_hash};
 ghost use Rattle.text.specs.Text.{chars};
+
+use hash::HashTables;
 
 // From so many bytes on, the eight tables of many bytes a step save more time than it takes to make them.
 const LONG: usize = 512;
@@ -30,7 +31,7 @@ pub fn hash_bytes(s: &[u8], h: usize) -> usize
     if n < LONG {
         return hash_each(s, h);
     }
-    let t = hash::tables();
+    let t = HashTables::new();
     let g = crate::hash_chars(s, &t, 0, n / 2, h);
     hash_each(&s[2 * (n / 2)..], g)
 }
@@ -50,15 +51,15 @@ fn fold_each(s: &[u8], p: usize, n: usize, h: usize) -> usize
 }
 
 // The hash of n characters at p, each folded: four in a step, while four are left.
-fn fold_fours(s: &[u8], t: &[u32; 2048], p: usize, n: usize) -> usize
-    requires { Tables t.now × (p + 2 * n ≤ length s.now) }
+fn fold_fours(s: &[u8], t: &HashTables, p: usize, n: usize) -> usize
+    requires { p + 2 * n ≤ length s.now }
     ensures { result ≡ hash_on 0 (fold_text (chars s.now p n)) }
 {
     let mut g = 0;
     for k in 0..n / 4 {
         let i = 4 * k;
         let f = hash::fold_quad(le::u32_at(s, p + 2 * i), le::u32_at(s, p + 2 * (i + 2)));
-        g = hash::quad_on(t, g, f.first, f.second);
+        g = t.quad_on(g, f.first, f.second);
     }
     let i = 4 * (n / 4);
     fold_each(s, p + 2 * i, n - i, g)
@@ -72,6 +73,6 @@ pub fn value_hash_all(s: &[u8]) -> usize
     if n < LONG / 2 {
         return hash::low_14(fold_each(s, 0, n, 0));
     }
-    let t = hash::tables();
+    let t = HashTables::new();
     hash::low_14(fold_fours(s, &t, 0, n))
 }

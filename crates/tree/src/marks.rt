@@ -3,18 +3,17 @@ ghost use Rattle.std.specs.Prelude.{◌≡◌, ◌+◌, ◌≤◌, ◌<◌, leng
 ghost use Rattle.verdict.specs.Checks.{first_fault};
 ghost use Rattle.verdict.specs.Verdict.{answer_of};
 ghost use Rattle.verdict.specs.inner.Tells.{Tells};
-ghost use Rattle.region.specs.inner.Samples.{Counts};
 ghost use Rattle.layout.specs.Edition.{node_size};
-ghost use Rattle.layout.specs.Layout.{nodes_at};
 ghost use Rattle.layout.specs.declared.Edition.TheVariants.{Bits64};
 ghost use Rattle.tree.specs.File.{used_node_count};
 ghost use Rattle.tree.specs.Order.{all_range_checks};
 ghost use Rattle.tree.specs.Outcome.{workspace_after};
-ghost use Rattle.tree.specs.inner.Marking.{TreeReady, Free, Reached, MarkedOne};
+ghost use Rattle.tree.specs.inner.Marking.{Free, Reached, MarkedOne};
 
+use crate::Nodes;
 use layout::NODE_SIZE;
 use nodes::fields;
-use region::{Region, SAMPLES, SEGMENT_HEADER};
+use region::SEGMENT_HEADER;
 use verdict::{Refusal, Rule};
 
 // Whether none of the n nodes from number i on is the root or is marked.
@@ -26,34 +25,26 @@ fn range_free(ws: &[u8], i: usize, n: usize) -> bool
 }
 
 // Marks the child range of the node at p, or tells that it is not free and marks nothing.
-fn mark_node(
-    b: &[u8],
-    nodes: Region,
-    segments: &[u32; SAMPLES],
-    counts: &[u32; SAMPLES],
-    p: usize,
-    ws: &mut [u8],
-) -> bool
-    requires tree_ready { TreeReady Bits64 b.now nodes segments.now × Counts (node_size Bits64) b.now (nodes_at Bits64 b.now) nodes.shift counts.now
-        × (p + node_size Bits64 ≤ length b.now) × (used_node_count Bits64 b.now ≤ length ws.old) }
-    requires reached { Reached Bits64 b.now p }
-    ensures { MarkedOne Bits64 b.now p ws.old result ws.new }
+fn mark_node(nodes: &Nodes, p: usize, ws: &mut [u8]) -> bool
+    requires within { (p + node_size Bits64 ≤ length nodes.now.file.now) × (used_node_count Bits64 nodes.now.file.now ≤ length ws.old) }
+    requires reached { Reached Bits64 nodes.now.file.now p }
+    ensures { MarkedOne Bits64 nodes.now.file.now p ws.old result ws.new }
 {
-    if fields::node_name(b, p) == 0 {
+    if fields::node_name(nodes.file, p) == 0 {
         return true;
     }
-    let n = fields::child_field(b, p);
+    let n = fields::child_field(nodes.file, p);
     if n == 0 {
         return true;
     }
     let i = region::number(
-        b,
-        nodes,
+        nodes.file,
+        nodes.region,
         NODE_SIZE,
-        segments,
-        counts,
-        fields::child_segment(b, p),
-        fields::child_element(b, p),
+        nodes.segments,
+        nodes.counts,
+        fields::child_segment(nodes.file, p),
+        fields::child_element(nodes.file, p),
     );
     if !range_free(ws, i, n) {
         return false;
@@ -63,33 +54,25 @@ fn mark_node(
 }
 
 // Refusal 21 of every used node in file order; the first U bytes are 0 before.
-pub fn mark_nodes(
-    b: &[u8],
-    nodes: Region,
-    segments: &[u32; SAMPLES],
-    counts: &[u32; SAMPLES],
-    used: usize,
-    ws: &mut [u8],
-) -> Result<(), Refusal>
-    requires { TreeReady Bits64 b.now nodes segments.now × Counts (node_size Bits64) b.now (nodes_at Bits64 b.now) nodes.shift counts.now
-        × (used ≡ used_node_count Bits64 b.now) × (used_node_count Bits64 b.now ≤ length ws.old) }
-    ensures answer { answer_of result ≡ first_fault (all_range_checks Bits64 b.now) }
-    ensures workspace { ws.new ≡ workspace_after Bits64 b.now ws.old (first_fault (all_range_checks Bits64 b.now)) }
+pub fn mark_nodes(nodes: &Nodes, used: usize, ws: &mut [u8]) -> Result<(), Refusal>
+    requires { (used ≡ used_node_count Bits64 nodes.now.file.now) × (used_node_count Bits64 nodes.now.file.now ≤ length ws.old) }
+    ensures answer { answer_of result ≡ first_fault (all_range_checks Bits64 nodes.now.file.now) }
+    ensures workspace { ws.new ≡ workspace_after Bits64 nodes.now.file.now ws.old (first_fault (all_range_checks Bits64 nodes.now.file.now)) }
 {
     ws[..used].fill(0);
     let mut answer = Ok(());
-    let mut at = region::first_start(nodes);
-    'segments: for seg in 0..nodes.count {
+    let mut at = region::first_start(nodes.region);
+    'segments: for seg in 0..nodes.region.count {
         let first = at + SEGMENT_HEADER;
-        for el in 0..region::used_count(b, at) {
+        for el in 0..region::used_count(nodes.file, at) {
             let p = first + el * NODE_SIZE;
-            if !mark_node(b, nodes, segments, counts, p, ws) {
+            if !mark_node(nodes, p, ws) {
                 ws[..used].fill(0);
                 answer = Err(Refusal(Rule::ChildRange, p));
                 break 'segments;
             }
         }
-        at = region::next_start(b, at, NODE_SIZE);
+        at = region::next_start(nodes.file, at, NODE_SIZE);
     }
     answer
 }

@@ -2,15 +2,16 @@
 ghost use Rattle.std.specs.Prelude.{◌≡◌, ◌+◌, ◌≤◌, ◌<◌, ◌^◌, length};
 ghost use Rattle.layout.specs.Edition.{node_size};
 ghost use Rattle.layout.specs.declared.Edition.TheVariants.{Bits64};
-ghost use Rattle.tree.specs.inner.Marking.{TreeReady, Reached};
+ghost use Rattle.tree.specs.inner.Marking.{Reached};
 ghost use Rattle.tree.specs.inner.Children.{ChildrenOf};
 
+use crate::Nodes;
 use layout::NODE_SIZE;
 use nodes::fields;
-use region::{Region, SAMPLES, SEGMENT_HEADER};
+use region::{Region, SEGMENT_HEADER};
 
 // The number of the first, where it stands, and how many they are.
-#[derive(Clone, Copy, Debug, PartialEq, Eq)]
+#[derive(Clone, Copy)]
 pub struct Children {
     pub first: usize,
     pub place: usize,
@@ -26,26 +27,34 @@ pub fn root_at(nodes: Region) -> usize
 }
 
 // The children of the node at p; a nameless node has none.
-pub fn children_of(b: &[u8], nodes: Region, segments: &[u32; SAMPLES], p: usize) -> Children
-    requires { TreeReady Bits64 b.now nodes segments.now × Reached Bits64 b.now p × (p + node_size Bits64 ≤ length b.now) }
-    ensures { ChildrenOf Bits64 b.now p result }
+pub fn children_of(nodes: &Nodes, p: usize) -> Children
+    requires { Reached Bits64 nodes.now.file.now p × (p + node_size Bits64 ≤ length nodes.now.file.now) }
+    ensures { ChildrenOf Bits64 nodes.now.file.now p result }
 {
-    let seg = fields::child_segment(b, p);
-    let el = fields::child_element(b, p);
+    let seg = fields::child_segment(nodes.file, p);
+    let el = fields::child_element(nodes.file, p);
     let first = seg * 65536 + el;
     let none = Children {
         first,
         place: 0,
         count: 0,
     };
-    if fields::node_name(b, p) == 0 {
+    if fields::node_name(nodes.file, p) == 0 {
         return none;
     }
-    let count = fields::child_field(b, p);
+    let count = fields::child_field(nodes.file, p);
     if count == 0 {
         return none;
     }
-    let Some(place) = region::range_at(b, nodes, NODE_SIZE, segments, seg, el, count) else {
+    let Some(place) = region::range_at(
+        nodes.file,
+        nodes.region,
+        NODE_SIZE,
+        nodes.segments,
+        seg,
+        el,
+        count,
+    ) else {
         return none;
     };
     Children {
