@@ -10,7 +10,7 @@ ghost use Rattle.accept.specs.Verdict.{verdict_of};
 
 use layout::View;
 use strings::checked::CheckedTable;
-use strings::{StringTable, StringTable, StringTable, Strings};
+use strings::{StringTable, Strings};
 use tree::Nodes;
 
 // With room for each used node its verdict is acceptance: every rule but 20, which is about the workspace, holds of it.

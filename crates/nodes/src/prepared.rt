@@ -8,7 +8,7 @@ ghost use Rattle.nodes.specs.inner.Held.{Ready};
 use keys::Names;
 use layout::View;
 use strings::checked::CheckedTable;
-use strings::{StringTable, StringTable, StringTable, Strings};
+use strings::{StringTable, Strings};
 
 #[derive(Clone, Copy)]
 pub struct PreparedFile<'a> {

@@ -16,7 +16,7 @@ mod uncarried;
 
 use hash::HashTables;
 use layout::{BUCKET_COUNT_SIZE, ENTRY_SIZE};
-use strings::{StringTable, StringTable, entry, table};
+use strings::{StringTable, entry, table};
 use verdict::{Refusal, Rule};
 
 // The number of entries of all buckets, by the bytes that they take: from the first bucket's start up to the address

@@ -7,7 +7,7 @@ ghost use Rattle.strings.specs.Order.{all_entry_checks};
 ghost use Rattle.strings.specs.inner.Lent.{lent_table};
 ghost use Rattle.positions.specs.inner.Total.{all_entries, below_in, all_below, FirstUncarried};
 
-use strings::{StringTable, StringTable, entry, fields};
+use strings::{StringTable, entry, fields};
 
 // How many entries of bucket k carry an index below m.
 fn count_carrying_in(table: &StringTable, k: usize, m: usize) -> usize

@@ -25,11 +25,12 @@ ghost use Rattle.prefetch.specs.inner.Slots.{SlotsIn};
 ghost use Rattle.prefetch.specs.inner.Batch.{SpotFits, Behind, AllSpots, AllFit, AllSeen, AllBehind, AllHashed, AllFound, AllRight};
 
 use hash::HashTables;
+use nodes::prepared::PreparedFile;
 use nodes::{fields, long};
 use region::{Region, SAMPLES};
 use search::{group, run};
 use strings::checked::CheckedTable;
-use strings::{StringTable, StringTable, ahead, spot};
+use strings::{StringTable, ahead, spot};
 
 // Where the texts stand, and how many characters are left there.
 fn find_spots(

@@ -11,7 +11,7 @@ ghost use Rattle.strings.specs.inner.Lent.{lent_table};
 ghost use Rattle.search.specs.inner.Group.{LowerBounds, Looked, Estimated, Within, Lengths};
 
 use crate::{near, pending};
-use strings::{StringTable, StringTable, entry};
+use strings::{StringTable, entry};
 
 // After a group of which most estimates were of no use, as many groups go without.
 const SKIPPED: usize = 15;

@@ -12,7 +12,7 @@ mod near;
 mod pending;
 pub mod run;
 
-use strings::{StringTable, StringTable, entry, fields};
+use strings::{StringTable, entry, fields};
 
 // No bucket has 2 to the 31 entries: a file has at most 2 to the 30 bytes.
 const MOST_ROUNDS: usize = 31;

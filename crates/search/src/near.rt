@@ -5,7 +5,7 @@ ghost use Rattle.layout.specs.Table.{entries, hash_of};
 ghost use Rattle.strings.specs.inner.Lent.{lent_table};
 ghost use Rattle.search.specs.inner.LowerBound.{Near, count_few, Settled};
 
-use strings::{StringTable, StringTable, entry, fields};
+use strings::{StringTable, entry, fields};
 
 // How many of the m entries of bucket k from entry w on, one to eight, have hashes below h. Where hashes ascend these come first. Eight are
 // read and counted, the last one as often as it takes: a loop whose length differs from bucket to bucket would be mispredicted, and so would

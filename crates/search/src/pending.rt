@@ -7,7 +7,7 @@ ghost use Rattle.search.specs.inner.LowerBound.{Near, Searching};
 ghost use Rattle.search.specs.inner.Group.{SearchingAt, AllSearching, Advanced, ListedBelow, Gathered, Looked, AllNear, Lengths};
 
 use crate::Bounds;
-use strings::{StringTable, StringTable, entry, fields};
+use strings::{StringTable, entry, fields};
 
 // One round of the halving for hash h, if something is left: one entry is read.
 fn halve(table: &StringTable, h: usize, lo: usize, hi: usize) -> Bounds

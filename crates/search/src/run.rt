@@ -7,7 +7,7 @@ ghost use Rattle.strings.specs.inner.Lent.{lent_table};
 ghost use Rattle.search.specs.inner.LowerBound.{LowerBound};
 ghost use Rattle.search.specs.inner.Run.{Meets};
 
-use strings::{StringTable, StringTable, entry, fields};
+use strings::{StringTable, entry, fields};
 
 // Whether an entry of bucket k with hash h has w in the field at `field`: fields::INDEX_AT, or fields::ADDRESS_AT. `low` is where h stands in the
 // bucket, or would. Among equal hashes all are read.

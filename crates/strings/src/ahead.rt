@@ -9,7 +9,7 @@ ghost use Rattle.strings.specs.inner.Lent.{lent_table};
 ghost use Rattle.strings.specs.inner.Ahead.{Stood, SeenBefore, ReadAhead, Ahead};
 
 use crate::spot::Spot;
-use crate::{StringTable, StringTable, entry, fields, spot};
+use crate::{StringTable, entry, fields, spot};
 
 // The spot of an entry's text, what touch_whole reads there, and from which entry on those before it are known to have other texts.
 #[derive(Clone, Copy)]

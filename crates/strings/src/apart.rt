@@ -8,7 +8,7 @@ ghost use Rattle.strings.specs.inner.Held.{Here};
 ghost use Rattle.strings.specs.inner.Lent.{lent_table};
 ghost use Rattle.strings.specs.inner.Apart.{Apart, Fingerprinted, Collected, Met, Sifted, Clear, AwayWithin};
 
-use crate::{StringTable, StringTable, entry, fields, spot};
+use crate::{StringTable, entry, fields, spot};
 
 // Entries of one bucket that have different texts: those from start on, before end.
 #[derive(Clone, Copy)]

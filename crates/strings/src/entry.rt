@@ -14,7 +14,7 @@ ghost use Rattle.strings.specs.inner.Apart.{Compared, Away};
 
 use crate::ahead::PrefetchedText;
 use crate::spot::Spot;
-use crate::{StringTable, StringTable, fields, spot};
+use crate::{StringTable, fields, spot};
 use hash::HashTables;
 use layout::{BUCKET_COUNT_SIZE, ENTRY_SIZE, POSITION_SIZE};
 use verdict::{Refusal, Rule};

@@ -5,7 +5,7 @@ ghost use Rattle.verdict.specs.inner.Tells.{Sure};
 ghost use Rattle.strings.specs.inner.Lent.{lent_table};
 ghost use Rattle.strings.specs.inner.Ahead.{BucketIndexed, AllIndexed};
 
-use crate::{StringTable, StringTable, entry};
+use crate::{StringTable, entry};
 
 // Whether the indices of bucket k are right.
 fn bucket_listed(table: &StringTable, k: usize) -> bool
