@@ -20,14 +20,12 @@ fn put_chars(b: &[u8], q: usize, n: usize, out: &mut [u8], at: usize) -> usize
     ensures { Put out.old at (escaped (text_in b.now q n)) result out.new }
 {
     let mut p = at;
-    let mut i = 0;
-    while i < n {
+    for i in 0..n {
         let c = le::u16_at(b, q + 2 * i);
         if c == 0 {
             return p;
         }
         p = print::put_char(out, p, c);
-        i += 1;
     }
     p
 }

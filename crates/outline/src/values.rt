@@ -107,8 +107,7 @@ pub fn put_attributes(
         return at;
     };
     let mut e = at;
-    let mut i = 0;
-    while i < n {
+    for i in 0..n {
         e = put_attribute(
             b,
             p,
@@ -118,7 +117,6 @@ pub fn put_attributes(
             out,
             e,
         );
-        i += 1;
     }
     e
 }

@@ -33,7 +33,7 @@ returns-in_default c = let p = c.requires in absurd (attributes_lost p.0 p.1 c.a
 pub loop-i-init : goal.loop-i-init
 loop-i-init c = let p = c.requires in
     let t = attributes-at p.0 p.1 c.attribute_field-n.ensures.0 c.attribute_segment-seg.ensures.0 c.attribute_element-el.ensures.0 c.range_at.ensures c.in-At.is in
-    (t, (omega arith, left_start (omega arith) (omega arith) (ranged_start _ 0 _ ∙ ap (ranged _ 0) t.count)))
+    (t, left_start (omega arith) (omega arith) (ranged_start _ 0 _ ∙ ap (ranged _ 0) t.count))
 
 pub overflow_mul-i : goal.overflow_mul-i
 overflow_mul-i c = omega (arith, there (goal.at.overflow_mul-i c).In-loop-i)
@@ -48,10 +48,10 @@ put_attribute-e-requires c = let p = c.requires in
 
 pub loop-i-preserved : goal.loop-i-preserved
 loop-i-preserved c = let l = c.loop-i in
-    (l.invariant.0, (omega arith, left_more l.invariant.1.1 (put_same (attribute-text l.invariant.0 l.i) c.put_attribute-e.ensures) (ranged_next _ 0 _ l.i (omega arith))))
+    (l.invariant.0, left_more l.invariant.1 (put_same (attribute-text l.invariant.0 l.i) c.put_attribute-e.ensures) (ranged_next _ 0 _ l.i (omega arith)))
 
 pub shape_of-out : goal.shape_of-out
-shape_of-out c = c.loop-i.invariant.1.1.size
+shape_of-out c = c.loop-i.invariant.1.size
 
 pub returns : goal.returns
-returns c = left_end c.loop-i.invariant.1.1 (ranged-past _ 0 _ c.loop-i.i (omega arith))
+returns c = left_end c.loop-i.invariant.1 (ranged-past _ 0 _ c.loop-i.i (omega arith))
