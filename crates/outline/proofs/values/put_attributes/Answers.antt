@@ -50,8 +50,5 @@ pub loop-i-preserved : goal.loop-i-preserved
 loop-i-preserved c = let l = c.loop-i in
     (l.invariant.0, left_more l.invariant.1 (put_same (attribute-text l.invariant.0 l.i) c.put_attribute-e.ensures) (ranged_next _ 0 _ l.i (omega arith)))
 
-pub shape_of-out : goal.shape_of-out
-shape_of-out c = c.loop-i.invariant.1.size
-
 pub returns : goal.returns
 returns c = left_end c.loop-i.invariant.1 (ranged-past _ 0 _ c.loop-i.i (omega arith))
