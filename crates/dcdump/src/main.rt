@@ -7,6 +7,7 @@ mod messages;
 
 ghost use Rattle.std.specs.Prelude.{◌≤◌, length, IfOk};
 
+use buffers::{INPUT, OUTPUT};
 use std::io;
 use std::io::{Read, Stdin, Stdout, Write};
 
@@ -27,13 +28,13 @@ fn read_input(from: &mut Stdin, buf: &mut [u8]) -> io::Result<usize>
 
 // Writes the output for an input.
 fn report(to: &mut Stdout, input: &[u8]) -> io::Result<()> {
-    let mut out = buffers::output();
+    let mut out = buffers::zeros::<OUTPUT>();
     let n = dump::dump(input, &mut out);
     to.write_all(&out[..n])
 }
 
 fn main(rt: HostRuntime) -> io::Result<()> {
-    let mut input = buffers::input();
+    let mut input = buffers::zeros::<INPUT>();
     let n = read_input(&mut rt.stdin(), &mut input)?;
     report(&mut rt.stdout(), &input[..n])
 }
