@@ -20,8 +20,7 @@ fn ask_each(file: &[u8], ws: &mut [u8], kind: Kind, texts: &[u8], answers: &mut 
     if let Verdict::Refused(_, _) = v {
         return answer::answered(v, 0, 0);
     }
-    let view = a.view;
-    let r = lookups::find_texts(file, view, kind, texts, answers);
+    let r = lookups::find_texts(file, &a.view, kind, texts, answers);
     let w = r.answer;
     answer::answered(w, 0, r.texts)
 }

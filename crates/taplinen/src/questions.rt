@@ -36,8 +36,7 @@ fn ask(file: &[u8], ws: &mut [u8], kind: Kind, text: &[u8]) -> Answer
     if n % 2 != 0 {
         return answer::answered(Verdict::Refused(24, n), 0, 0);
     }
-    let view = a.view;
-    answer::told(lookups::find(file, view, kind, text))
+    answer::told(lookups::find(file, &a.view, kind, text))
 }
 
 // The index of a name.
