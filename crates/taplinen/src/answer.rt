@@ -10,7 +10,7 @@ use verdict::Verdict;
 // refusal 0: answered, value is the answer; otherwise the number of the refusal, value its place. kind, for lookups: 0 found, 1 absent,
 // 2 collided.
 #[repr(C)]
-#[derive(Clone, Copy)]
+#[derive(Clone, Copy, Debug, PartialEq, Eq)]
 pub struct Answer {
     pub refusal: u32,
     pub kind: u32,
@@ -36,9 +36,11 @@ pub fn answered(v: Verdict, kind: u32, value: usize) -> Answer
 }
 
 // What a lookup tells.
-pub fn told(l: Lookup) -> Answer
-    ensures { result ≡ answered Accepted (kind_of l) (told_number l) }
-{
-    let x = lookup::as_numbers(l);
-    answered(Verdict::Accepted, x.kind, x.value)
+impl From<Lookup> for Answer {
+    ghost from_gives = { λ l a. a ≡ answered Accepted (kind_of l) (told_number l) };
+
+    fn from(l: Lookup) -> Answer {
+        let x = lookup::as_numbers(l);
+        answered(Verdict::Accepted, x.kind, x.value)
+    }
 }

@@ -16,13 +16,11 @@ fn ask_each(file: &[u8], ws: &mut [u8], kind: Kind, texts: &[u8], answers: &mut 
     ensures answers { answers.new ≡ batch_places Bits64 kind file.now (length ws.old) texts.now answers.old }
 {
     let a = accept::accept(file, ws);
-    let v = a.answer;
-    if let Verdict::Refused(_, _) = v {
-        return answer::answered(v, 0, 0);
+    if let Verdict::Refused(_, _) = a.answer {
+        return answer::answered(a.answer, 0, 0);
     }
     let r = lookups::find_texts(file, &a.view, kind, texts, answers);
-    let w = r.answer;
-    answer::answered(w, 0, r.texts)
+    answer::answered(r.answer, 0, r.texts)
 }
 
 // The indices of many names.

@@ -7,7 +7,7 @@ use verdict::Verdict;
 
 // refusal 0: accepted, and the header's fields; otherwise the number of the refusal with its place, and 0 elsewhere.
 #[repr(C)]
-#[derive(Clone, Copy)]
+#[derive(Clone, Copy, Debug, Default)]
 pub struct HeaderReport {
     pub refusal: u32,
     pub version: u32,
@@ -23,27 +23,20 @@ pub fn taplinen_header(file: &[u8], ws: &mut [u8]) -> HeaderReport
     ensures workspace { ws.new ≡ workspace_left Bits64 file.now ws.old }
 {
     let a = accept::accept(file, ws);
-    let v = a.answer;
-    match v {
+    match a.answer {
         Verdict::Refused(num, place) => HeaderReport {
             refusal: num,
-            version: 0,
             place: place as u64,
-            timestamp: 0.0,
-            timestamp_bits: 0,
-            has_revision: 0,
-            revision: 0,
+            ..HeaderReport::default()
         },
         Verdict::Accepted => {
-            let view = a.view;
-            let h = view.header;
-            let t = h.timestamp;
+            let h = a.view.header;
             HeaderReport {
                 refusal: 0,
                 version: h.version as u32,
                 place: 0,
-                timestamp: t.value,
-                timestamp_bits: t.bits,
+                timestamp: h.timestamp.value,
+                timestamp_bits: h.timestamp.bits,
                 has_revision: 1,
                 revision: h.revision as u32,
             }

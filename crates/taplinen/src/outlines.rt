@@ -14,25 +14,18 @@ pub fn taplinen_outline(file: &[u8], ws: &mut [u8], out: &mut [u8]) -> Answer
     ensures outline { out.new ≡ outline_buffer Bits64 file.now (length ws.old) out.old }
 {
     let a = accept::accept(file, ws);
-    let v = a.answer;
-    if let Verdict::Refused(_, _) = v {
-        return answer::answered(v, 0, 0);
+    if let Verdict::Refused(_, _) = a.answer {
+        return answer::answered(a.answer, 0, 0);
     }
-    let view = a.view;
-    let p = view.places;
-    let attribute_segments = view.attribute_segments;
-    let node_segments = view.node_segments;
-    let value_segments = view.value_segments;
-    let name_segments = view.name_segments;
+    let view = &a.view;
     let r = outline::write_outline(
         file,
-        p,
-        &attribute_segments,
-        &node_segments,
-        &value_segments,
-        &name_segments,
+        view.places,
+        &view.attribute_segments,
+        &view.node_segments,
+        &view.value_segments,
+        &view.name_segments,
         out,
     );
-    let w = r.answer;
-    answer::answered(w, 0, r.length)
+    answer::answered(r.answer, 0, r.length)
 }

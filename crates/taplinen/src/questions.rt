@@ -16,10 +16,7 @@ pub fn taplinen_accept(file: &[u8], ws: &mut [u8]) -> Answer
     ensures workspace { ws.new ≡ workspace_left Bits64 file.now ws.old }
 {
     let a = accept::accept(file, ws);
-    let v = a.answer;
-    let view = a.view;
-    let p = view.places;
-    answer::answered(v, 0, p.used_nodes)
+    answer::answered(a.answer, 0, a.view.places.used_nodes)
 }
 
 // Asks for a text in either table.
@@ -28,15 +25,14 @@ fn ask(file: &[u8], ws: &mut [u8], kind: Kind, text: &[u8]) -> Answer
     ensures workspace { ws.new ≡ workspace_left Bits64 file.now ws.old }
 {
     let a = accept::accept(file, ws);
-    let v = a.answer;
-    if let Verdict::Refused(_, _) = v {
-        return answer::answered(v, 0, 0);
+    if let Verdict::Refused(_, _) = a.answer {
+        return answer::answered(a.answer, 0, 0);
     }
     let n = text.len();
     if n % 2 != 0 {
         return answer::answered(Verdict::Refused(24, n), 0, 0);
     }
-    answer::told(lookups::find(file, &a.view, kind, text))
+    Answer::from(lookups::find(file, &a.view, kind, text))
 }
 
 // The index of a name.
@@ -62,32 +58,25 @@ pub fn taplinen_path(file: &[u8], ws: &mut [u8], path: &[u8], list: &mut [u8]) -
     ensures listing { list.new ≡ path_listing Bits64 file.now (length ws.old) path.now list.old }
 {
     let a = accept::accept(file, ws);
-    let v = a.answer;
-    if let Verdict::Refused(_, _) = v {
-        return answer::answered(v, 0, 0);
+    if let Verdict::Refused(_, _) = a.answer {
+        return answer::answered(a.answer, 0, 0);
     }
-    let view = a.view;
-    let p = view.places;
-    let name_segments = view.name_segments;
-    let name_buckets = view.name_buckets;
-    let node_segments = view.node_segments;
-    let chars = p.name_chars;
-    let s = Strings {
-        chars,
-        list: p.name_list,
+    let view = &a.view;
+    let names = Strings {
+        chars: view.places.name_chars,
+        list: view.places.name_list,
     };
     let t = hash::tables();
     let r = path::listing::list_path(
         file,
         &t,
-        s,
-        &name_segments,
-        &name_buckets,
-        p.nodes,
-        &node_segments,
+        names,
+        &view.name_segments,
+        &view.name_buckets,
+        view.places.nodes,
+        &view.node_segments,
         path,
         list,
     );
-    let w = r.answer;
-    answer::answered(w, 0, r.matches)
+    answer::answered(r.answer, 0, r.matches)
 }

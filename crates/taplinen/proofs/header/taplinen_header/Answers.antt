@@ -21,7 +21,7 @@ overflow_cast-result-in-Accepted c = let h = (c.accept-a.ensures.answer.view c.i
 
 pub returns-in-Refused : goal.returns-in-Refused
 unfolding workspace_left reported
-returns-in-Refused c = record { answer = header_refused Bits64 _ _ c.accept-a.ensures.answer.answer c.in-Refused.is refl; workspace = c.accept-a.ensures.workspace }
+returns-in-Refused c = record { answer = header_refused Bits64 _ _ c.accept-a.ensures.answer.answer c.in-Refused.is (cc); workspace = c.accept-a.ensures.workspace }
 
 pub returns-in-Accepted : goal.returns-in-Accepted
 unfolding workspace_left reported

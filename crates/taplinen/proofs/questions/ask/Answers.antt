@@ -23,4 +23,4 @@ find-requires c = let f = to_find c.accept-a.ensures.answer c.in_default.is in
 pub returns : goal.returns
 unfolding text_answer text_verdict workspace_left
 returns c = let f = c.find.ensures in
-    record { answer = own_answer Bits64 _ _ _ c.accept-a.ensures.answer.answer _ _ c.in_default.is (text-even _ c.if-n-ne0.false) (λ z. (ap kind_of f, ap told_number f)) c.told.ensures; workspace = c.accept-a.ensures.workspace }
+    record { answer = own_answer Bits64 _ _ _ c.accept-a.ensures.answer.answer _ _ c.in_default.is (text-even _ c.if-n-ne0.false) (λ z. (ap kind_of f, ap told_number f)) c.from.ensures; workspace = c.accept-a.ensures.workspace }
