@@ -3,7 +3,7 @@ use Prim.Native.Nat.{ℕ, ◌≤◌}
 use mathlib.Core.Path.{◌≡◌, ◌∙◌}
 use mathlib.Core.Logic.{◌↔◌}
 use mathlib.Core.List.{List}
-use Rattle.verdict.specs.declared.Verdict.TheVariants.{Accepted}
+use Rattle.verdict.specs.Verdict.{Accepted}
 use Rattle.verdict.proofs.Laws.{append_inv, fault_append}
 use Rattle.layout.specs.Layout.{layout_checks, values, names}
 use Rattle.layout.specs.declared.Edition.{Edition}

@@ -3,7 +3,7 @@
 use Prim.Native.Nat.{ℕ, ◌<◌}
 use mathlib.Core.Path.{◌≡◌}
 use mathlib.Core.List.{List}
-use Rattle.verdict.specs.declared.Verdict.TheVariants.{Accepted}
+use Rattle.verdict.specs.Verdict.{Accepted}
 use Rattle.layout.specs.Header.{key_count}
 use Rattle.layout.specs.Layout.{LaidOut, values_at, values, names_at, names, value_bucket_count, name_bucket_count}
 use Rattle.layout.specs.inner.View.{Fits}

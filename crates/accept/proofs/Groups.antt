@@ -4,8 +4,8 @@ use mathlib.Core.Path.{◌≡◌, refl, ap, sym, ◌∙◌}
 use mathlib.Core.List.{List, ◌++◌}
 use lib.ListN.{length}
 use Rattle.verdict.specs.Checks.{Check, first_fault}
-use Rattle.verdict.specs.declared.Verdict.{Verdict}
-use Rattle.verdict.specs.declared.Verdict.TheVariants.{Refused}
+use Rattle.verdict.specs.Verdict.{Verdict}
+use Rattle.verdict.specs.Verdict.{Refused}
 use Rattle.verdict.proofs.Laws.{Clean, fault_append, fault_keep}
 use Rattle.layout.specs.Layout.{layout_checks, values, names}
 use Rattle.layout.specs.inner.View.{Fits}

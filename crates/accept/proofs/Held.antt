@@ -7,8 +7,8 @@ use mathlib.Core.List.{List}
 use lib.ListN.{length}
 use Rattle.verdict.specs.Checks.{first_fault}
 use Rattle.verdict.specs.inner.Tells.{Sure}
-use Rattle.verdict.specs.declared.Verdict.{Verdict}
-use Rattle.verdict.specs.declared.Verdict.TheVariants.{Accepted}
+use Rattle.verdict.specs.Verdict.{Verdict}
+use Rattle.verdict.specs.Verdict.{Accepted}
 use Rattle.region.specs.inner.Samples.{Mapped, Starts}
 use Rattle.layout.specs.Table.{Table, table, list_at, TableLaid, BucketStarts}
 use Rattle.layout.specs.Layout.{values, names, values_most, names_most, value_bucket_count, name_bucket_count}

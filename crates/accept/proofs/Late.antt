@@ -6,7 +6,7 @@ use mathlib.Core.List.{List, ◌++◌}
 use lib.Dec.{T}
 use mathlib.Core.Bool.{not}
 use Rattle.verdict.specs.Checks.{Check, first_fault}
-use Rattle.verdict.specs.declared.Verdict.TheVariants.{Refused}
+use Rattle.verdict.specs.Verdict.{Refused}
 use Rattle.verdict.proofs.Laws.{clean_inv}
 use Rattle.verdict.proofs.Broken.{append-refused}
 use Rattle.layout.specs.Layout.{layout_checks, values, names}

@@ -5,7 +5,7 @@ use mathlib.Core.Bool.{Bool, true, false, not, ◌||◌}
 use mathlib.Core.List.{List, [], ◌∷◌, ◌++◌}
 use lib.Dec.{T, eqb}
 use Rattle.verdict.specs.Checks.{Check, check, first_fault, each}
-use Rattle.verdict.specs.declared.Verdict.TheVariants.{Refused}
+use Rattle.verdict.specs.Verdict.{Refused}
 use Rattle.verdict.proofs.Laws.{never}
 use Rattle.region.specs.Checks.{segment_checks, region_checks}
 use Rattle.layout.specs.Header.{zero_word_checks, header_checks, key_checks}

@@ -4,7 +4,7 @@ use mathlib.Core.Path.{◌≡◌, refl, ap, sym, ◌∙◌}
 use mathlib.Core.Logic.{inl, inr, ⊎_elim}
 use mathlib.Core.List.{List, [], ◌++◌, append_assoc}
 use Rattle.verdict.specs.Checks.{Check, first_fault}
-use Rattle.verdict.specs.declared.Verdict.TheVariants.{Refused}
+use Rattle.verdict.specs.Verdict.{Refused}
 use Rattle.verdict.proofs.Laws.{Clean, never, append_inv, fault_keep}
 use Rattle.verdict.proofs.Broken.{clean_iff}
 use Rattle.verdict.proofs.Same.{SameOr, Never, same-all, same-append, same_is}

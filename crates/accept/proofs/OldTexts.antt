@@ -4,7 +4,7 @@ use mathlib.Core.Path.{ap, ◌∙◌}
 use mathlib.Core.Logic.{inl, inr, ⊎_elim}
 use mathlib.Core.List.{List, ◌++◌}
 use Rattle.verdict.specs.Checks.{Check}
-use Rattle.verdict.specs.declared.Verdict.TheVariants.{Refused}
+use Rattle.verdict.specs.Verdict.{Refused}
 use Rattle.verdict.proofs.Same.{SameOr, same-all, same-append, same_is}
 use Rattle.layout.specs.Layout.{layout_checks, values, names}
 use Rattle.layout.specs.declared.Edition.{Edition}

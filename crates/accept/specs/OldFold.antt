@@ -2,8 +2,8 @@
 -- this law only (proofs/OldFold, `fold_moved`).
 use Rattle.std.specs.Prelude.{ℕ, ◌≡◌, ◌⊎◌, List, [], ◌++◌}
 use Rattle.verdict.specs.Checks.{Check, first_fault, Holds}
-use Rattle.verdict.specs.declared.Verdict.{Verdict}
-use Rattle.verdict.specs.declared.Verdict.TheVariants.{Refused}
+use Rattle.verdict.specs.Verdict.{Verdict}
+use Rattle.verdict.specs.Verdict.{Refused}
 use Rattle.layout.specs.Layout.{layout_checks, values, names}
 use Rattle.layout.specs.declared.Edition.{Edition}
 use Rattle.strings.specs.Order.{string_checks}

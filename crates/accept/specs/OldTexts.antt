@@ -2,8 +2,8 @@
 -- of before is kept for this law only (proofs/OldTexts).
 use Rattle.std.specs.Prelude.{ℕ, ◌<◌, ◌≡◌, ◌⊎◌, List, ◌++◌}
 use Rattle.verdict.specs.Checks.{first_fault}
-use Rattle.verdict.specs.declared.Verdict.{Verdict}
-use Rattle.verdict.specs.declared.Verdict.TheVariants.{Refused}
+use Rattle.verdict.specs.Verdict.{Verdict}
+use Rattle.verdict.specs.Verdict.{Refused}
 use Rattle.text.specs.Text.{chars}
 use Rattle.layout.specs.Table.{Table, entries}
 use Rattle.layout.specs.Layout.{layout_checks, values, names}

@@ -1,7 +1,7 @@
 -- The verdict on a file (FORMAT, "Refusals"): every check of 1 to 23 in the stated order, and the first that does not hold.
 use Rattle.std.specs.Prelude.{ℕ, List, ◌++◌}
 use Rattle.verdict.specs.Checks.{Check, first_fault}
-use Rattle.verdict.specs.declared.Verdict.{Verdict}
+use Rattle.verdict.specs.Verdict.{Verdict}
 use Rattle.layout.specs.Layout.{layout_checks, values, names}
 use Rattle.layout.specs.declared.Edition.{Edition}
 use Rattle.strings.specs.Order.{string_checks}

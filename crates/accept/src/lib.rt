@@ -2,6 +2,7 @@
 #![tactic(auto)]
 
 ghost use Rattle.std.specs.Prelude.{◌≡◌, length};
+ghost use Rattle.verdict.specs.Verdict.{answer_of};
 ghost use Rattle.layout.specs.inner.View.{Fits};
 ghost use Rattle.layout.specs.declared.Edition.TheVariants.{Bits64};
 ghost use Rattle.tree.specs.Outcome.{workspace_after};
@@ -10,19 +11,12 @@ ghost use Rattle.accept.specs.inner.Accepted.{Judged};
 
 use layout::View;
 use strings::Strings;
-use verdict::Verdict;
-
-// The verdict, and the view, which means something only where the file is accepted.
-#[derive(Clone, Copy)]
-pub struct Acceptance {
-    pub answer: Verdict,
-    pub view: View,
-}
+use verdict::Refusal;
 
 // Refusals 7 to 23 of a file that is laid out, with what they leave in the workspace.
-fn check_contents(b: &[u8], v: &View, ws: &mut [u8]) -> Verdict
+fn check_contents(b: &[u8], v: &View, ws: &mut [u8]) -> Result<(), Refusal>
     requires { Fits Bits64 b.now v.now }
-    ensures answer { result ≡ verdict_of Bits64 b.now (length ws.old) }
+    ensures answer { answer_of result ≡ verdict_of Bits64 b.now (length ws.old) }
     ensures workspace { ws.new ≡ workspace_after Bits64 b.now ws.old (verdict_of Bits64 b.now (length ws.old)) }
 {
     let t = hash::tables();
@@ -75,8 +69,8 @@ fn check_contents(b: &[u8], v: &View, ws: &mut [u8]) -> Verdict
     tree::check_tree(b, nodes, &v.node_segments, &v.node_counts, p.used_nodes, ws)
 }
 
-// Accepts a file, or refuses it.
-pub fn accept(b: &[u8], ws: &mut [u8]) -> Acceptance
+// Accepts a file, with its view, or refuses it.
+pub fn accept(b: &[u8], ws: &mut [u8]) -> Result<View, Refusal>
     ensures answer { Judged Bits64 b.now ws.old result }
     ensures workspace { ws.new ≡ workspace_after Bits64 b.now ws.old (verdict_of Bits64 b.now (length ws.old)) }
 {

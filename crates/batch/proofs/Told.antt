@@ -10,7 +10,7 @@ use Rattle.laws.specs.inner.Lists.{splice}
 use Rattle.le.specs.Le.{u32_at, le4}
 use Rattle.le.proofs.Four.{le4_front, shifted}
 use Rattle.verdict.specs.Checks.{first_fault}
-use Rattle.verdict.specs.declared.Verdict.TheVariants.{Accepted, Refused}
+use Rattle.verdict.specs.Verdict.{Accepted, Refused}
 use Rattle.verdict.proofs.Laws.{Clean, never, pass, stop, fault_none, fault_append, fault_keep}
 use Rattle.lookup.specs.Kinds.{kind_of, told_number}
 use Rattle.lookup.specs.declared.Lookup.{Lookup}

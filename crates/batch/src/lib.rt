@@ -4,7 +4,7 @@
 ghost use Rattle.std.specs.Prelude.{◌≡◌, ◌+◌, ◌*◌, ◌%◌, ◌≤◌, ◌<◌, length};
 ghost use Rattle.laws.specs.inner.Lists.{splice};
 ghost use Rattle.verdict.specs.Checks.{first_fault};
-ghost use Rattle.verdict.specs.declared.Verdict.TheVariants.{Accepted};
+ghost use Rattle.verdict.specs.Verdict.{Accepted, answer_of};
 ghost use Rattle.hash.specs.inner.Tables.{Tables};
 ghost use Rattle.strings.specs.Order.{string_checks};
 ghost use Rattle.strings.specs.inner.Held.{Held, held_table};
@@ -18,19 +18,12 @@ mod group;
 use lookup::{Kind, Lookup, first};
 use region::SAMPLES;
 use strings::Strings;
-use verdict::Verdict;
+use verdict::{Refusal, Rule};
 
 // The bytes of a text's place in the answers, and where its value stands in it, behind the kind.
 const PLACE_SIZE: usize = 8;
 
 const VALUE_AT: usize = 4;
-
-// Refusal 24 or 25, or the number of texts.
-#[derive(Clone, Copy)]
-pub struct Batch {
-    pub answer: Verdict,
-    pub texts: usize,
-}
 
 // The end of the next block of characters: as long as its zeros can be counted at once.
 fn block_end(at: usize, end: usize) -> usize
@@ -133,7 +126,7 @@ fn put_places(
     }
 }
 
-// Looks up each text in a table that is accepted; nothing is written unless there is a place for each.
+// Looks up each text in a table that is accepted: refusal 24 or 25, or how many there are; nothing is written unless there is a place for each.
 pub fn find_each(
     b: &[u8],
     t: &[u32; 2048],
@@ -143,12 +136,12 @@ pub fn find_each(
     kind: Kind,
     texts: &[u8],
     answers: &mut [u8],
-) -> Batch
+) -> Result<usize, Refusal>
     requires { Tables t.now × Held b.now s segments.now buckets.now
         × (first_fault (string_checks (held_table b.now s buckets.now)) ≡ Accepted) }
     ensures answer { Answered texts.now (length answers.old) result }
     ensures answers { answers.new
-        ≡ answers_after (told_in kind (held_table b.now s buckets.now)) texts.now answers.old result.answer }
+        ≡ answers_after (told_in kind (held_table b.now s buckets.now)) texts.now answers.old (answer_of result) }
 {
     let c = path::names::check_path(texts);
     if let Verdict::Refused(num, place) = c {

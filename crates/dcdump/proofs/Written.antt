@@ -8,8 +8,8 @@ use lib.ListN.{length, take, drop}
 use lib.Seq.{take_at}
 use Rattle.laws.specs.inner.Lists.{splice}
 use Rattle.verdict.specs.Checks.{first_fault}
-use Rattle.verdict.specs.declared.Verdict.{Verdict}
-use Rattle.verdict.specs.declared.Verdict.TheVariants.{Accepted}
+use Rattle.verdict.specs.Verdict.{Verdict}
+use Rattle.verdict.specs.Verdict.{Accepted}
 use Rattle.layout.specs.declared.Edition.TheVariants.{Bits64}
 use Rattle.print.specs.inner.Put.{Put}
 use Rattle.print.proofs.Puts.{put_same, put_length, put_front}

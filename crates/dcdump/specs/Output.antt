@@ -1,8 +1,8 @@
 -- What the program writes for what it reads (FORMAT, "Frames").
 use Rattle.std.specs.Prelude.{ℕ, List, ◌++◌, length}
 use Rattle.verdict.specs.Checks.{first_fault}
-use Rattle.verdict.specs.declared.Verdict.{Verdict}
-use Rattle.verdict.specs.declared.Verdict.TheVariants.{Accepted, Refused}
+use Rattle.verdict.specs.Verdict.{Verdict}
+use Rattle.verdict.specs.Verdict.{Accepted, Refused}
 use Rattle.layout.specs.declared.Edition.TheVariants.{Bits64}
 use Rattle.accept.specs.Verdict.{verdict_of}
 use Rattle.outline.specs.Outline.{outline_of}

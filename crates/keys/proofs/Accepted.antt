@@ -5,7 +5,7 @@ use mathlib.Core.Path.{◌≡◌, ◌∙◌}
 use mathlib.Core.Logic.{◌↔◌}
 use mathlib.Core.List.{List}
 use Rattle.verdict.specs.Checks.{first_fault}
-use Rattle.verdict.specs.declared.Verdict.TheVariants.{Accepted}
+use Rattle.verdict.specs.Verdict.{Accepted}
 use Rattle.verdict.proofs.Laws.{pass, clean_inv, fault_none, each_inv, each_clean}
 use Rattle.layout.specs.Header.{key_count}
 use Rattle.layout.specs.declared.Edition.{Edition}

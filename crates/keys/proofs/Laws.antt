@@ -7,9 +7,11 @@ use mathlib.Core.Logic.{inl, inr, ⊎_elim}
 use mathlib.Core.List.{List, [], ◌∷◌}
 use Rattle.verdict.specs.Checks.{first_fault, each}
 use Rattle.verdict.specs.inner.Tells.{Tells}
-use Rattle.verdict.specs.declared.Verdict.{Verdict}
-use Rattle.verdict.specs.declared.Verdict.TheVariants.{Accepted, Refused}
-use Rattle.verdict.proofs.Laws.{Clean, never, pass, stop, fault_none}
+use Rattle.verdict.specs.Verdict.{Verdict}
+use Rattle.verdict.specs.Verdict.{Accepted, Refused}
+use Rattle.std.specs.Prelude.{Ok}
+use Rattle.verdict.proofs.Laws.{Clean, pass, stop, fault_none}
+use Rattle.verdict.proofs.Gives.{gives_ok}
 use Rattle.verdict.proofs.Scans.{each_more, each_stop, each_end, row_same}
 use Rattle.le.specs.Le.{u16_at}
 use Rattle.text.specs.Text.{text_in, chars}
@@ -92,20 +94,20 @@ module _ (ed : Edition) (b : List ℕ) (t : Table) (same : t ≡ names ed b) whe
     at_next {x} q = subst (λ (i : ℕ). name_text ed b (i - 1) ≡ x) e q
 
     pub root_top : Clean (string_checks t) → 2 ≤ m → name_text ed b m ≡ root_name → name_text ed b (m - 1) ≡ value_name
-        → SpecialsFound ed b (record { answer = Accepted; names = record { count = m; root = m; value = m - 1 } })
+        → SpecialsFound ed b (Ok (record { count = m; root = m; value = m - 1 }))
     unfolding special_checks
-    root_top ok l p q = record {
-      answer = sym (pass _ _ _ _ _ (record { two = omega (arith, e); highest = inl (at_top p, at_next q) }) ∙ fault_none);
-      names = λ w. known ok m m (m - 1) e (bears m root_name (omega arith) (omega arith) p) (bears (m - 1) value_name (omega arith) (omega arith) q);
-    }
+    root_top ok l p q =
+        gives_ok
+        (pass _ _ _ _ _ (record { two = omega (arith, e); highest = inl (at_top p, at_next q) }) ∙ fault_none)
+        (known ok m m (m - 1) e (bears m root_name (omega arith) (omega arith) p) (bears (m - 1) value_name (omega arith) (omega arith) q))
 
     pub value_top : Clean (string_checks t) → 2 ≤ m → name_text ed b m ≡ value_name → name_text ed b (m - 1) ≡ root_name
-        → SpecialsFound ed b (record { answer = Accepted; names = record { count = m; root = m - 1; value = m } })
+        → SpecialsFound ed b (Ok (record { count = m; root = m - 1; value = m }))
     unfolding special_checks
-    value_top ok l p q = record {
-      answer = sym (pass _ _ _ _ _ (record { two = omega (arith, e); highest = inr (at_top p, at_next q) }) ∙ fault_none);
-      names = λ w. known ok m (m - 1) m e (bears (m - 1) root_name (omega arith) (omega arith) q) (bears m value_name (omega arith) (omega arith) p);
-    }
+    value_top ok l p q =
+        gives_ok
+        (pass _ _ _ _ _ (record { two = omega (arith, e); highest = inr (at_top p, at_next q) }) ∙ fault_none)
+        (known ok m (m - 1) m e (bears (m - 1) root_name (omega arith) (omega arith) q) (bears m value_name (omega arith) (omega arith) p))
 
     pub too_few : m < 2 → Special ed b → ⊥
     too_few l r = omega (arith, e, r.two)
@@ -120,12 +122,9 @@ module _ (ed : Edition) (b : List ℕ) (t : Table) (same : t ≡ names ed b) whe
     pub other_top : (name_text ed b m ≡ root_name → ⊥) → (name_text ed b m ≡ value_name → ⊥) → Special ed b → ⊥
     other_top f g r = ⊎_elim (λ w. f (ap (name_text ed b) e ∙ w.0)) (λ w. g (ap (name_text ed b) e ∙ w.0)) r.highest
 
-  pub not-special : (place : ℕ) (n : Names) → place ≡ list_at t → (Special ed b → ⊥) → SpecialsFound ed b (record { answer = Refused 14 place; names = n })
+  pub not-special : (place : ℕ) → place ≡ list_at t → (Special ed b → ⊥) → first_fault (special_checks ed b) ≡ Refused 14 place
   unfolding special_checks
-  not-special place n e f = record {
-    answer = ap (Refused 14) (e ∙ ap list_at same) ∙ sym (stop _ _ _ _ _ f);
-    names = λ w. absurd (never refl w);
-  }
+  not-special place e f = stop _ _ _ _ _ f ∙ sym (ap (Refused 14) (e ∙ ap list_at same))
 
 -- ---- 15: one name of a key
 

@@ -1,6 +1,7 @@
 // Refusal 15.
 ghost use Rattle.std.specs.Prelude.{◌≡◌, ◌<◌};
 ghost use Rattle.verdict.specs.Checks.{first_fault};
+ghost use Rattle.verdict.specs.Verdict.{answer_of};
 ghost use Rattle.verdict.specs.inner.Tells.{Tells};
 ghost use Rattle.layout.specs.Header.{key_count};
 ghost use Rattle.layout.specs.Layout.{LaidOut};
@@ -11,7 +12,7 @@ ghost use Rattle.keys.specs.inner.Known.{Known};
 
 use crate::Names;
 use layout::{FIRST_KEY_AT, KEY_SIZE, KEYS_AT};
-use verdict::Verdict;
+use verdict::{Refusal, Rule};
 
 // The bytes of a name's index: a key is four of them.
 const NAME_SIZE: usize = 2;
@@ -41,9 +42,9 @@ fn key_right(b: &[u8], names: Names, k: usize) -> bool
 }
 
 // Refusal 15 of every key.
-pub fn check_keys(b: &[u8], names: Names) -> Verdict
+pub fn check_keys(b: &[u8], names: Names) -> Result<(), Refusal>
     requires { LaidOut Bits64 b.now × Known Bits64 b.now names }
-    ensures { result ≡ first_fault (all_key_checks Bits64 b.now) }
+    ensures { answer_of result ≡ first_fault (all_key_checks Bits64 b.now) }
 {
     let n = le::u32_at(b, KEYS_AT);
     let mut k = 0;

@@ -2,7 +2,7 @@
 ghost use Rattle.std.specs.Prelude.{◌≡◌, ◌*◌, ◌≤◌, ◌<◌, length};
 ghost use Rattle.verdict.specs.Checks.{first_fault};
 ghost use Rattle.verdict.specs.inner.Tells.{Tells};
-ghost use Rattle.verdict.specs.declared.Verdict.TheVariants.{Accepted};
+ghost use Rattle.verdict.specs.Verdict.{Accepted};
 ghost use Rattle.text.specs.Text.{chars};
 ghost use Rattle.layout.specs.Table.{count};
 ghost use Rattle.layout.specs.Layout.{names};
@@ -14,16 +14,8 @@ ghost use Rattle.keys.specs.inner.Known.{SpecialsFound};
 
 use crate::Names;
 use region::SAMPLES;
-use strings::spot::Spot;
 use strings::{Strings, entry};
-use verdict::Verdict;
-
-// What the check answers; the names mean something only where nothing is refused.
-#[derive(Clone, Copy)]
-pub struct Specials {
-    pub answer: Verdict,
-    pub names: Names,
-}
+use verdict::{Refusal, Rule};
 
 // Whether the text at list position i is the k characters of x.
 fn listed_is(
@@ -47,7 +39,7 @@ fn listed_is(
 }
 
 // Refusal 14 of a file whose names table passed 7 to 13.
-pub fn check_special(b: &[u8], s: Strings, segments: &[u32; SAMPLES], buckets: &[u32]) -> Specials
+pub fn check_special(b: &[u8], s: Strings, segments: &[u32; SAMPLES], buckets: &[u32]) -> Result<Names, Refusal>
     requires { Held b.now s segments.now buckets.now × (held_table b.now s buckets.now ≡ names Bits64 b.now)
         × (first_fault (string_checks (held_table b.now s buckets.now)) ≡ Accepted) }
     ensures { SpecialsFound Bits64 b.now result }

@@ -8,7 +8,7 @@ use mathlib.Core.List.{List, ◌++◌}
 use lib.ListN.{length}
 use Rattle.le.specs.Le.{u32_at}
 use Rattle.verdict.specs.Checks.{Check, first_fault, each}
-use Rattle.verdict.specs.declared.Verdict.TheVariants.{Accepted}
+use Rattle.verdict.specs.Verdict.{Accepted}
 use Rattle.verdict.proofs.Laws.{Clean, pass, clean_inv, append_inv, fault_append, fault_none, each_inv, each_clean}
 use Rattle.region.specs.Region.{end_of}
 use Rattle.region.specs.Checks.{region_checks}

@@ -2,17 +2,19 @@
 use Prim.Native.Nat.{ℕ, ◌+◌, ◌-◌, ◌≤◌, ◌<◌}
 use native.Mathlib.Nat.{eq-or-lt_of_le}
 use native.Mathlib.Omega.{arith}
-use mathlib.Core.Path.{◌≡◌, refl, ap, ◌∙◌}
+use mathlib.Core.Path.{◌≡◌, ap, ◌∙◌}
 use mathlib.Core.Logic.{⊎_elim}
 use mathlib.Core.List.{List}
 use lib.ListN.{length, get_or, set}
 use lib.Seq.{get_or-set_same, get_or-set_other}
 use Rattle.verdict.specs.Checks.{first_fault, each}
 use Rattle.verdict.specs.inner.Scans.{scanned}
-use Rattle.verdict.specs.declared.Verdict.TheVariants.{Refused}
-use Rattle.verdict.specs.declared.Scan.TheVariants.{End, Fault}
+use Rattle.std.specs.Prelude.{Ok, Err}
+use Rattle.verdict.specs.Verdict.{refused}
+use Rattle.verdict.specs.inner.Scans.{End}
+use Rattle.verdict.specs.declared.Refusal.{Refusal}
 use Rattle.verdict.proofs.Laws.{fault_none, each_none}
-use Rattle.verdict.proofs.Scans.{each_stop, told, no_end}
+use Rattle.verdict.proofs.Scans.{each_stop, told}
 use Rattle.layout.specs.Table.{Table, bucket_at, list_at, bucket_checks}
 use Rattle.layout.specs.inner.Scanned.{BucketsScanned}
 
@@ -30,16 +32,16 @@ filled_more f k x xs g q h i l =
 
 module _ (t : Table) (k : ℕ) (xs : List ℕ) (long : length xs ≡ t.buckets)
     (left : first_fault (each (bucket_checks t) t.buckets 0) ≡ first_fault (each (bucket_checks t) (t.buckets - k) k)) where
-  pub buckets_stop : (n p : ℕ) → k < t.buckets → first_fault (bucket_checks t k) ≡ Refused n p → BucketsScanned t (Fault n p) xs
+  pub buckets_stop : (r : Refusal) → k < t.buckets → first_fault (bucket_checks t k) ≡ refused r → BucketsScanned t (Err r) xs
   unfolding scanned
-  buckets_stop n p h q =
+  buckets_stop r h q =
       record {
         answer = told _ _ (left ∙ each_stop (bucket_checks t) _ _ (omega arith) q);
         long = long;
-        buckets = λ e w. absurd (no_end refl w);
+        buckets = λ e w. absurd (cc);
       }
 
-  pub buckets_done : (p : ℕ) → k ≡ t.buckets → p ≡ bucket_at t k → Filled (bucket_at t) k xs → BucketsScanned t (End p) xs
+  pub buckets_done : (p : ℕ) → k ≡ t.buckets → p ≡ bucket_at t k → Filled (bucket_at t) k xs → BucketsScanned t (Ok p) xs
   unfolding scanned list_at
   buckets_done p h q g =
       record {

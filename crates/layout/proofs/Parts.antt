@@ -6,7 +6,7 @@ use lib.ListN.{length}
 use Rattle.le.specs.Le.{u32_at}
 use Rattle.verdict.specs.Checks.{Check, at_most, equal, first_fault}
 use Rattle.verdict.specs.inner.Scans.{scanned}
-use Rattle.verdict.specs.declared.Verdict.{Verdict}
+use Rattle.verdict.specs.Verdict.{Verdict}
 use Rattle.region.specs.Checks.{field}
 use Rattle.layout.specs.Header.{zero_word_checks}
 use Rattle.layout.specs.Table.{Table, bucket_at, entries, list_at, count, table_end, bucket_checks, list_checks}

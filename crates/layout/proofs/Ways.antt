@@ -1,42 +1,28 @@
 -- The ways out of the scans of a table, of the front and of the whole file. Assumes nothing.
 use Prim.Native.Nat.{ℕ, ◌≤◌}
-use mathlib.Core.Path.{◌≡◌, sym, subst, ◌∙◌}
+use mathlib.Core.Path.{◌≡◌, subst, ◌∙◌}
 use mathlib.Core.List.{List, ◌++◌}
 use lib.ListN.{length}
 use Rattle.verdict.specs.Checks.{first_fault, each}
 use Rattle.verdict.specs.inner.Scans.{scanned}
-use Rattle.verdict.specs.declared.Verdict.TheVariants.{Refused}
-use Rattle.verdict.specs.declared.Scan.{Scan}
-use Rattle.verdict.specs.declared.Scan.TheVariants.{Fault}
-use Rattle.verdict.proofs.Laws.{Clean, never, pass, stop, fault_append, fault_keep}
+use Rattle.verdict.specs.Verdict.{Refused}
+use Rattle.verdict.specs.inner.Scans.{Scan}
+use Rattle.verdict.proofs.Laws.{Clean, pass, stop, fault_append, fault_keep}
 use Rattle.region.specs.Region.{end_of}
 use Rattle.region.specs.Checks.{region_checks}
 use Rattle.layout.specs.Header.{header_checks, key_checks}
 use Rattle.layout.specs.Table.{Table, table, bucket_checks, list_checks, table_end, table_checks}
 use Rattle.layout.specs.Edition.{attribute_size, node_size}
 use Rattle.layout.specs.Layout.{attributes_at, nodes_at, values_at, values, values_most, names_at, names, names_most, size_checks, front_checks, footer_checks, layout_checks, value_bucket_count, name_bucket_count}
-use Rattle.layout.specs.inner.Scanned.{FrontScanned, TableScanned}
-use Rattle.layout.specs.inner.View.{Walked}
-use Rattle.layout.specs.declared.front.FrontScan.{FrontScan}
-use Rattle.layout.specs.declared.tables.TableScan.{TableScan}
-use Rattle.layout.specs.declared.whole.Walk.{Walk}
+use Rattle.layout.specs.inner.Scanned.{TableScanned}
+use Rattle.layout.specs.declared.tables.TableEnds.{TableEnds}
+use Rattle.verdict.specs.declared.Refusal.{Refusal}
+use Rattle.std.specs.Prelude.{Result}
 use Rattle.layout.specs.declared.Edition.{Edition}
-use Rattle.verdict.proofs.Scans.{told, no_end}
 
 -- ---- a table: its characters, its buckets, its list
 
 module _ (t : Table) (most : ℕ) where
-  pub table_stop : (r : TableScan) (xs : List ℕ) {n p : ℕ} → first_fault (table_checks t most) ≡ Refused n p → r.answer ≡ Fault n p → length xs ≡ t.buckets
-      → TableScanned t most r xs
-  unfolding scanned
-  table_stop r xs q h l =
-      record {
-        answer = h ∙ told _ (table_end t) q;
-        long = l;
-        list = λ e w. absurd (no_end h w);
-        buckets = λ e w. absurd (no_end h w);
-      }
-
   pub characters_stop : {n p : ℕ} → first_fault (region_checks 2 t.bytes t.at) ≡ Refused n p → first_fault (table_checks t most) ≡ Refused n p
   unfolding table_checks
   characters_stop q = fault_keep (region_checks 2 t.bytes t.at) _ q
@@ -53,15 +39,6 @@ module _ (t : Table) (most : ℕ) where
 -- ---- the front: its size, the header, the keys, the attributes, the nodes
 
 module _ (ed : Edition) (b : List ℕ) where
-  pub front_stop : (r : FrontScan) {n p : ℕ} → first_fault (front_checks ed b) ≡ Refused n p → r.answer ≡ Fault n p → FrontScanned ed b r
-  unfolding scanned
-  front_stop r q h =
-      record {
-        answer = h ∙ told _ (values_at ed b) q;
-        attributes-at = λ e w. absurd (no_end h w);
-        nodes-at = λ e w. absurd (no_end h w);
-      }
-
   pub size_stop : (length b ≤ 1073741824 → ⊥) → first_fault (front_checks ed b) ≡ Refused 1 0
   unfolding front_checks size_checks
   size_stop h = stop _ _ _ _ _ h
@@ -101,29 +78,15 @@ module _ (ed : Edition) (b : List ℕ) where
 -- ---- the file: its front, its values, its names, its footer
 
 module _ (ed : Edition) (b : List ℕ) where
-  pub walk_stop : (w : Walk) (vs ns : List ℕ) {n p : ℕ} → first_fault (layout_checks ed b) ≡ Refused n p → w.answer ≡ Refused n p → Walked ed b w vs ns
-  walk_stop w vs ns q h =
-      record {
-        answer = h ∙ sym q;
-        attributes-at = λ e. absurd (never h e);
-        nodes-at = λ e. absurd (never h e);
-        values-at = λ e. absurd (never h e);
-        value_list = λ e. absurd (never h e);
-        names-at = λ e. absurd (never h e);
-        name_list = λ e. absurd (never h e);
-        value_buckets = λ e. absurd (never h e);
-        name_buckets = λ e. absurd (never h e);
-      }
-
   -- a table is scanned from where the code found the part before to end, with as many buckets as it has places for
-  pub values-scanned : {e n : ℕ} {r : TableScan} {xs : List ℕ} → e ≡ values_at ed b → n ≡ value_bucket_count → TableScanned (table b e n) 4294967295 r xs
+  pub values-scanned : {e n : ℕ} {r : Result TableEnds Refusal} {xs : List ℕ} → e ≡ values_at ed b → n ≡ value_bucket_count → TableScanned (table b e n) 4294967295 r xs
       → TableScanned (values ed b) values_most r xs
   unfolding values values_most
   values-scanned {e} {n} {r} {xs} q h s =
       subst (λ (m : ℕ). TableScanned (table b (values_at ed b) m) 4294967295 r xs) h
       (subst (λ (a : ℕ). TableScanned (table b a n) 4294967295 r xs) q s)
 
-  pub names-scanned : {e n : ℕ} {r : TableScan} {xs : List ℕ} → e ≡ names_at ed b → n ≡ name_bucket_count → TableScanned (table b e n) 65536 r xs
+  pub names-scanned : {e n : ℕ} {r : Result TableEnds Refusal} {xs : List ℕ} → e ≡ names_at ed b → n ≡ name_bucket_count → TableScanned (table b e n) 65536 r xs
       → TableScanned (names ed b) names_most r xs
   unfolding names names_most
   names-scanned {e} {n} {r} {xs} q h s =

@@ -1,18 +1,18 @@
 // The front of a file: the header, the keys, and the regions of attributes and nodes.
 ghost use Rattle.std.specs.Prelude.{◌≡◌, ◌≤◌, length};
 ghost use Rattle.verdict.specs.Checks.{first_fault, each};
-ghost use Rattle.verdict.specs.inner.Scans.{scanned};
+ghost use Rattle.verdict.specs.inner.Scans.{scanned, scan_of};
 ghost use Rattle.layout.specs.inner.Scanned.{FrontScanned};
 ghost use Rattle.layout.specs.Header.{header_of, header_checks, zero_word_checks, keys_at, key_checks, key_at, key_count};
 ghost use Rattle.layout.specs.declared.Edition.TheVariants.{Bits64};
 
 use crate::{ATTRIBUTE_SIZE, FIRST_KEY_AT, Header, KEYS_AT, MOST_BYTES, MOST_KEYS, NODE_SIZE};
-use verdict::Scan;
+use verdict::{Refusal, Rule};
 
 // The four words that must be 0.
-fn zero_words(b: &[u8]) -> Scan
+fn zero_words(b: &[u8]) -> Result<usize, Refusal>
     requires { 16 ≤ length b.now }
-    ensures { result ≡ scanned (first_fault (each (zero_word_checks b.now) 4 0)) keys_at }
+    ensures { scan_of result ≡ scanned (first_fault (each (zero_word_checks b.now) 4 0)) keys_at }
 {
     let mut p = 16;
     let mut i = 0usize;
@@ -30,8 +30,8 @@ fn zero_words(b: &[u8]) -> Scan
 }
 
 // Refusals 2 to 4 of the header, or where it ends.
-pub fn header(b: &[u8]) -> Scan
-    ensures { result ≡ scanned (first_fault (header_checks b.now)) keys_at }
+pub fn header(b: &[u8]) -> Result<usize, Refusal>
+    ensures { scan_of result ≡ scanned (first_fault (header_checks b.now)) keys_at }
 {
     if b.len() < 4 {
         return Scan::Fault(2, 0);
@@ -49,9 +49,9 @@ pub fn header(b: &[u8]) -> Scan
 }
 
 // Refusals 2 and 5 of the keys, or where they end.
-pub fn keys(b: &[u8]) -> Scan
+pub fn keys(b: &[u8]) -> Result<usize, Refusal>
     requires { keys_at ≤ length b.now }
-    ensures { result ≡ scanned (first_fault (key_checks b.now)) (key_at (key_count b.now)) }
+    ensures { scan_of result ≡ scanned (first_fault (key_checks b.now)) (key_at (key_count b.now)) }
 {
     if b.len() - KEYS_AT < 4 {
         return Scan::Fault(2, KEYS_AT);
@@ -69,26 +69,16 @@ pub fn keys(b: &[u8]) -> Scan
     Scan::End(FIRST_KEY_AT + 8 * n)
 }
 
-// What the scan of the front answers; the offsets mean something only where nothing is refused.
+// The offsets of the front's regions, and where the nodes end.
 #[derive(Clone, Copy)]
-pub struct FrontScan {
-    pub answer: Scan,
+pub struct Front {
     pub attributes: usize,
     pub nodes: usize,
-}
-
-fn front_refused(answer: Scan) -> FrontScan
-    ensures { result.answer ≡ answer }
-{
-    FrontScan {
-        answer,
-        attributes: 0,
-        nodes: 0,
-    }
+    pub end: usize,
 }
 
 // Refusals 1 to 5 up to the end of the nodes, or where they end.
-pub fn scan_front(b: &[u8]) -> FrontScan
+pub fn scan_front(b: &[u8]) -> Result<Front, Refusal>
     ensures { FrontScanned Bits64 b.now result }
 {
     if b.len() > MOST_BYTES {

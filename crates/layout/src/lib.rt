@@ -7,7 +7,6 @@ pub mod whole;
 
 use le::Float64;
 use region::{Region, SAMPLES};
-use verdict::Verdict;
 
 // A file has at most so many bytes.
 pub const MOST_BYTES: usize = 1_073_741_824;
@@ -88,11 +87,4 @@ pub struct View {
     pub name_segments: [u32; SAMPLES],
     pub value_buckets: [u32; VALUE_BUCKETS],
     pub name_buckets: [u32; NAME_BUCKETS],
-}
-
-// What layout answers: the view means something only where nothing is refused.
-#[derive(Clone, Copy)]
-pub struct CheckedLayout {
-    pub answer: Verdict,
-    pub view: View,
 }

@@ -1,17 +1,17 @@
 // Refusals 2 and 5 along a string table, and where its buckets start.
 ghost use Rattle.std.specs.Prelude.{◌≡◌, ◌+◌, ◌≤◌, length};
 ghost use Rattle.verdict.specs.Checks.{first_fault};
-ghost use Rattle.verdict.specs.inner.Scans.{scanned};
+ghost use Rattle.verdict.specs.inner.Scans.{scanned, scan_of};
 ghost use Rattle.layout.specs.Table.{table, bucket_at, list_at, table_end, bucket_checks, list_checks};
 ghost use Rattle.layout.specs.inner.Scanned.{BucketsScanned, TableScanned};
 
 use crate::CHARACTER_SIZE;
-use verdict::Scan;
+use verdict::{Refusal, Rule};
 
 // Bucket k of n, which starts at p.
-fn check_bucket(b: &[u8], at: usize, n: usize, k: usize, p: usize) -> Scan
+fn check_bucket(b: &[u8], at: usize, n: usize, k: usize, p: usize) -> Result<usize, Refusal>
     requires { (p ≡ bucket_at (table b.now at n) k) × (p ≤ length b.now) }
-    ensures { result ≡ scanned (first_fault (bucket_checks (table b.now at n) k)) (bucket_at (table b.now at n) (k + 1)) }
+    ensures { scan_of result ≡ scanned (first_fault (bucket_checks (table b.now at n) k)) (bucket_at (table b.now at n) (k + 1)) }
 {
     if b.len() - p < 4 {
         return Scan::Fault(2, p);
@@ -25,7 +25,7 @@ fn check_bucket(b: &[u8], at: usize, n: usize, k: usize, p: usize) -> Scan
 }
 
 // All buckets, the first at p: each one's start is kept.
-fn check_buckets(b: &[u8], at: usize, from: usize, buckets: &mut [u32]) -> Scan
+fn check_buckets(b: &[u8], at: usize, from: usize, buckets: &mut [u32]) -> Result<usize, Refusal>
     requires { (from ≡ bucket_at (table b.now at (length buckets.old)) 0) × (from ≤ length b.now) × (length b.now ≤ 1073741824) }
     ensures { BucketsScanned (table b.now at (length buckets.old)) result buckets.new }
 {
@@ -48,9 +48,9 @@ fn check_buckets(b: &[u8], at: usize, from: usize, buckets: &mut [u32]) -> Scan
 }
 
 // The address list at p.
-fn list(b: &[u8], at: usize, n: usize, p: usize, most: usize) -> Scan
+fn list(b: &[u8], at: usize, n: usize, p: usize, most: usize) -> Result<usize, Refusal>
     requires { (p ≡ list_at (table b.now at n)) × (p ≤ length b.now) }
-    ensures { result ≡ scanned (first_fault (list_checks (table b.now at n) most)) (table_end (table b.now at n)) }
+    ensures { scan_of result ≡ scanned (first_fault (list_checks (table b.now at n) most)) (table_end (table b.now at n)) }
 {
     if b.len() - p < 4 {
         return Scan::Fault(2, p);
@@ -70,15 +70,15 @@ fn list(b: &[u8], at: usize, n: usize, p: usize, most: usize) -> Scan
     Scan::End(e + bytes)
 }
 
-// What a table's scan answers; list is the place of its address count where nothing is refused.
+// Where a table's address count stands, and where the table ends.
 #[derive(Clone, Copy)]
-pub struct TableScan {
-    pub answer: Scan,
+pub struct TableEnds {
     pub list: usize,
+    pub end: usize,
 }
 
 // The table at an offset, of as many buckets as there are starts to fill.
-pub fn scan_table(b: &[u8], at: usize, buckets: &mut [u32], most: usize) -> TableScan
+pub fn scan_table(b: &[u8], at: usize, buckets: &mut [u32], most: usize) -> Result<TableEnds, Refusal>
     requires { (at ≤ length b.now) × (length b.now ≤ 1073741824) }
     ensures { TableScanned (table b.now at (length buckets.old)) most result buckets.new }
 {

@@ -1,22 +1,22 @@
 // The whole file: refusals 1 to 6 in order, and the view.
 ghost use Rattle.std.specs.Prelude.{◌≡◌, ◌≤◌, length};
+ghost use Rattle.verdict.specs.Verdict.{answer_of};
 ghost use Rattle.verdict.specs.Checks.{first_fault};
 ghost use Rattle.layout.specs.Layout.{footer_at, footer_checks, value_bucket_count, name_bucket_count};
-ghost use Rattle.layout.specs.inner.View.{Walked, Fits, Viewed};
+ghost use Rattle.layout.specs.inner.View.{WalkFits, Walked, Fits, Viewed};
 ghost use Rattle.layout.specs.declared.Edition.TheVariants.{Bits64};
 
 use crate::{
-    ATTRIBUTE_SIZE, CHARACTER_SIZE, CheckedLayout, Header, KEYS_AT, MOST_NAMES, MOST_VALUES,
+    ATTRIBUTE_SIZE, CHARACTER_SIZE, KEYS_AT, MOST_NAMES, MOST_VALUES,
     NAME_BUCKETS, NODE_SIZE, Places, VALUE_BUCKETS, View, front, tables,
 };
 use le::Float64;
 use region::{Region, SAMPLES};
-use verdict::{Scan, Verdict};
+use verdict::{Refusal, Rule};
 
-// Where the parts of the file start, and the address counts of the two tables; they mean something only where nothing is refused.
+// Where the parts of the file start, and the address counts of the two tables.
 #[derive(Clone, Copy)]
 pub struct Walk {
-    pub answer: Verdict,
     pub attributes: usize,
     pub nodes: usize,
     pub values: usize,
@@ -25,24 +25,10 @@ pub struct Walk {
     pub name_list: usize,
 }
 
-fn walk_refused(num: u32, place: usize) -> Walk
-    ensures { result.answer ≡ Verdict.Refused num place }
-{
-    Walk {
-        answer: Verdict::Refused(num, place),
-        attributes: 0,
-        nodes: 0,
-        values: 0,
-        value_list: 0,
-        names: 0,
-        name_list: 0,
-    }
-}
-
 // The footer at p.
-fn footer(b: &[u8], p: usize) -> Verdict
+fn footer(b: &[u8], p: usize) -> Result<(), Refusal>
     requires { (p ≡ footer_at Bits64 b.now) × (p ≤ length b.now) }
-    ensures { result ≡ first_fault (footer_checks Bits64 b.now) }
+    ensures { answer_of result ≡ first_fault (footer_checks Bits64 b.now) }
 {
     if b.len() - p < 4 {
         return Verdict::Refused(2, p);
@@ -57,7 +43,7 @@ fn footer(b: &[u8], p: usize) -> Verdict
 }
 
 // Refusals 1 to 6 along the file.
-fn along(b: &[u8], value_buckets: &mut [u32], name_buckets: &mut [u32]) -> Walk
+fn along(b: &[u8], value_buckets: &mut [u32], name_buckets: &mut [u32]) -> Result<Walk, Refusal>
     requires { (length value_buckets.old ≡ value_bucket_count) × (length name_buckets.old ≡ name_bucket_count) }
     ensures { Walked Bits64 b.now result value_buckets.new name_buckets.new }
 {
@@ -97,7 +83,7 @@ fn view_of(
     value_buckets: [u32; VALUE_BUCKETS],
     name_buckets: [u32; NAME_BUCKETS],
 ) -> View
-    requires { Walked Bits64 b.now w value_buckets name_buckets × (w.answer ≡ Verdict.Accepted) }
+    requires { WalkFits Bits64 b.now value_buckets name_buckets w }
     ensures { Fits Bits64 b.now result }
 {
     let attributes = region::mapped(b, w.attributes, ATTRIBUTE_SIZE);
@@ -136,46 +122,9 @@ fn view_of(
     }
 }
 
-// A view that means nothing, for a refused file.
-fn no_view() -> View {
-    let none = Region {
-        at: 0,
-        count: 0,
-        shift: 0,
-        mask: 0,
-    };
-    View {
-        header: Header {
-            version: 0,
-            timestamp: Float64 {
-                value: 0.0,
-                bits: 0,
-            },
-            revision: 0,
-        },
-        places: Places {
-            keys: 0,
-            attributes: none,
-            nodes: none,
-            used_nodes: 0,
-            value_chars: none,
-            value_list: 0,
-            name_chars: none,
-            name_list: 0,
-        },
-        attribute_segments: [0u32; SAMPLES],
-        node_segments: [0u32; SAMPLES],
-        node_counts: [0u32; SAMPLES],
-        value_segments: [0u32; SAMPLES],
-        name_segments: [0u32; SAMPLES],
-        value_buckets: [0u32; VALUE_BUCKETS],
-        name_buckets: [0u32; NAME_BUCKETS],
-    }
-}
-
 // Refusals 1 to 6, and the view of a file that passes them. Not inlined: its arrays are off the stack before the rest of the file is checked.
 #[inline(never)]
-pub fn check_layout(b: &[u8]) -> CheckedLayout
+pub fn check_layout(b: &[u8]) -> Result<View, Refusal>
     ensures { Viewed Bits64 b.now result }
 {
     let mut value_buckets = [0u32; VALUE_BUCKETS];

@@ -21,7 +21,7 @@ use Rattle.strings.specs.Rules.{Resolved}
 use Rattle.strings.specs.inner.Held.{Here}
 use Rattle.strings.specs.Order.{all_entry_checks, string_checks}
 use Rattle.search.specs.inner.LowerBound.{LowerBound}
-use Rattle.strings.specs.declared.spot.Spot.TheVariants.{At}
+use Rattle.strings.specs.Texts.{At}
 use Rattle.strings.proofs.Accepted.{strings_parts, all_good}
 use Rattle.strings.proofs.Spots.{Spotted, spot_yes, spot-text}
 use Rattle.strings.proofs.Only.{bucket-of, none_after}

@@ -2,7 +2,7 @@
 // texts read ahead.
 ghost use Rattle.std.specs.Prelude.{◌≡◌, ◌+◌, ◌*◌, ◌≤◌, length};
 ghost use Rattle.verdict.specs.Checks.{first_fault};
-ghost use Rattle.verdict.specs.declared.Verdict.TheVariants.{Accepted};
+ghost use Rattle.verdict.specs.Verdict.{Accepted};
 ghost use Rattle.hash.specs.Hash.{hash_text, bucket_of};
 ghost use Rattle.region.specs.Region.{place_of, Resolves};
 ghost use Rattle.region.specs.inner.Samples.{Mapped, Starts};

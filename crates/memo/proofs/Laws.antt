@@ -4,13 +4,19 @@ use native.Mathlib.Decide.{ℕ_discrete}
 use native.Mathlib.Omega.{arith}
 use mathlib.Core.Path.{◌≡◌, ap, sym, ◌∙◌}
 use mathlib.Core.List.{List}
+use Rattle.std.specs.Prelude.{Some, None}
 use lib.ListN.{length, get_or, set, replicate, length-set, length-replicate}
 use lib.Seq.{get_or-set_same, get_or-set_other}
 use Rattle.laws.proofs.Zeros.{zeros}
 use Rattle.memo.specs.inner.Memo.{Remembers, Recalled, TakenOver}
 
-pub recalled : (memo : List ℕ) (s x n r : ℕ) → s < 1024 → get_or memo s 0 ≡ x → get_or memo (1024 + s) 0 ≡ n → r ≡ get_or memo (2048 + s) 0 → Recalled memo x n r
-recalled memo s x n r l p q e = record { right = λ F m h. e ∙ m.slot s l ∙ ap (λ (a : ℕ). F a (get_or memo (1024 + s) 0)) p ∙ ap (F x) q }
+pub recalled : (memo : List ℕ) (s x n r : ℕ) → s < 1024 → get_or memo s 0 ≡ x → get_or memo (1024 + s) 0 ≡ n → r ≡ get_or memo (2048 + s) 0 → Recalled memo x n (Some r)
+recalled memo s x n r l p q e = record {
+  right = λ v w F m. let i : v ≡ r = cc in i ∙ e ∙ m.slot s l ∙ ap (λ (a : ℕ). F a (get_or memo (1024 + s) 0)) p ∙ ap (F x) q;
+}
+
+pub recalled-none : (memo : List ℕ) (x n : ℕ) → Recalled memo x n None
+recalled-none memo x n = record { right = λ v w. absurd (cc) }
 
 -- a slot taken over
 module _ (F : ℕ → ℕ → ℕ) (memo : List ℕ) (s x n v : ℕ) (l : s < 1024) (m : Remembers F memo) (e : v ≡ F x n) where

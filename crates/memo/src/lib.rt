@@ -14,8 +14,8 @@ fn slot(x: usize, n: usize) -> usize
     (x + n) % 4294967296 * 2654435769 / 4194304 % 1024
 }
 
-// The value at x and n, if it is remembered; otherwise 2^32.
-pub fn recall(memo: &[u32; 3072], x: usize, n: usize) -> usize
+// The value at x and n, if it is remembered.
+pub fn recall(memo: &[u32; 3072], x: usize, n: usize) -> Option<usize>
     requires { (x < 2 ^ 32) × (n < 2 ^ 32) }
     ensures { Recalled memo.now x n result }
 {

@@ -23,7 +23,7 @@ use Rattle.layout.specs.declared.Edition.{Edition}
 use Rattle.strings.specs.Texts.{text_to, spot_at}
 use Rattle.strings.specs.Order.{all_entry_checks, string_checks}
 use Rattle.strings.specs.declared.spot.Spot.{Spot}
-use Rattle.strings.specs.declared.spot.Spot.TheVariants.{At, Nowhere}
+use Rattle.strings.specs.Texts.{At, Nowhere}
 use Rattle.strings.proofs.Accepted.{all_good, strings_parts}
 use Rattle.strings.proofs.Only.{text-of-address, hash-of, bucket-of}
 use Rattle.strings.proofs.Spots.{spot_in, spot_out}
@@ -31,6 +31,7 @@ use Rattle.nodes.specs.Attribute.{type_word, value_word, text_segment, text_elem
 use Rattle.strings.specs.Rules.{EntryAddress}
 use Rattle.nodes.specs.Rules.{TextRule, TextRight}
 use Rattle.nodes.proofs.Types.{kind_is, extended_is}
+use Rattle.std.specs.Prelude.{Option}
 
 -- ---- an entry's address, as one number: that of the attribute at q
 
@@ -91,12 +92,12 @@ module _ (t : Table) (ok : Clean (all_entry_checks t)) (seg el : ℕ) where
 -- ---- the attribute
 
 -- where the text of the attribute at q is looked for, as the code reads it
-pub text_sought : (b : List ℕ) (p q : ℕ) {seg el : ℕ} {r : Spot} → seg ≡ text_segment b q → el ≡ text_element b q → r ≡ spot_at b p seg el
+pub text_sought : (b : List ℕ) (p q : ℕ) {seg el : ℕ} {r : Option Spot} → seg ≡ text_segment b q → el ≡ text_element b q → r ≡ spot_at b p seg el
     → r ≡ spot_at b p (text_segment b q) (text_element b q)
 text_sought b p q s e f = cc
 
 -- what is left at a spot lies in the file
-pub spot-fits : (b : List ℕ) (p seg el : ℕ) → Laid 2 b p → {r : Spot} {x n : ℕ} → r ≡ spot_at b p seg el → r ≡ At x n → x + 2 * n ≤ length b
+pub spot-fits : (b : List ℕ) (p seg el : ℕ) → Laid 2 b p → {r : Option Spot} {x n : ℕ} → r ≡ spot_at b p seg el → r ≡ At x n → x + 2 * n ≤ length b
 spot-fits b p seg el l g z =
     let s = spot_in _ _ _ _ (sym g ∙ z) in
     omega (arith, room_fits b p seg el l s.0, s.1, s.2)
@@ -130,7 +131,7 @@ module _ (ed : Edition) (b : List ℕ) (q w y : ℕ) (e : w ≡ type_word b q) (
     entry_of : TextRight ed b q → EntryAddress t seg el
     entry_of r = back EntryAddress (rule-of r).entry
 
-    module _ {r : Spot} (g : r ≡ spot_at t.bytes t.at seg el) where
+    module _ {r : Option Spot} (g : r ≡ spot_at t.bytes t.at seg el) where
       -- an address that does not resolve is no entry's
       pub text-nowhere : r ≡ Nowhere → Tells (TextRight ed b q) false
       text-nowhere z = tells_no (λ u. spot_out _ _ _ _ (sym g ∙ z) (address_resolves t passed seg el (entry_of u)))

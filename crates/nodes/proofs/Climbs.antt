@@ -11,8 +11,8 @@ use borrow.Author.Count.{below_none, below_more}
 use Rattle.verdict.specs.Checks.{SomeBelow}
 use Rattle.verdict.specs.inner.Tells.{Tells}
 use Rattle.verdict.proofs.Laws.{tells_yes, tells_no}
-use Rattle.region.specs.declared.Place.{Place}
-use Rattle.region.specs.declared.Place.TheVariants.{At, Nowhere}
+use Rattle.std.specs.Prelude.{Option}
+use Rattle.std.specs.Prelude.{Some, None}
 use Rattle.region.specs.declared.Region.{Region}
 use Rattle.region.specs.Region.{Laid, range_at}
 use Rattle.region.specs.inner.Samples.{Mapped}
@@ -74,7 +74,7 @@ same_climb b f g n e h j l i m u v =
 
 -- where the children of the node at p are looked for, as the code reads it
 pub children_sought : (ed : Edition) (b : List ℕ) (p n : ℕ) (g : Region) → Mapped (node_size ed) b (nodes_at ed b) g
-    → (seg el : ℕ) → seg ≡ child_segment ed b p → el ≡ child_element ed b p → (r : Place) → r ≡ range_at (node_size ed) b g.at seg el n
+    → (seg el : ℕ) → seg ≡ child_segment ed b p → el ≡ child_element ed b p → (r : Option ℕ) → r ≡ range_at (node_size ed) b g.at seg el n
     → r ≡ range_at (node_size ed) b (nodes_at ed b) (child_segment ed b p) (child_element ed b p) n
 children_sought ed b p n g w seg el s t r f = let a = w.at_is in cc
 
@@ -83,11 +83,11 @@ module _ (ed : Edition) (b : List ℕ) (p n : ℕ) (c : n ≡ child_count b p) w
   pub children-none : n ≡ 0 → Tells (ChildRule ed b p) true
   children-none z = tells_yes (record { reach = inl (sym c ∙ z); rising = λ j l. absurd (not-suc-le-zero {n = j} (omega arith)) })
 
-  module _ (r : Place) (f : r ≡ range_at (node_size ed) b (nodes_at ed b) (child_segment ed b p) (child_element ed b p) n) where
-    pub children-nowhere : (n ≡ 0 → ⊥) → r ≡ Nowhere → Tells (ChildRule ed b p) false
+  module _ (r : Option ℕ) (f : r ≡ range_at (node_size ed) b (nodes_at ed b) (child_segment ed b p) (child_element ed b p) n) where
+    pub children-nowhere : (n ≡ 0 → ⊥) → r ≡ None → Tells (ChildRule ed b p) false
     children-nowhere d e = tells_no (λ h. sought_out _ _ _ _ _ _ _ c r f d e h.reach)
 
-    module _ (q : ℕ) (e : r ≡ At q) where
+    module _ (q : ℕ) (e : r ≡ Some q) where
       pub children_fit : Laid (node_size ed) b (nodes_at ed b) → q + n * node_size ed ≤ length b
       children_fit g = sought_fits _ _ _ _ _ _ _ c r f q e g
 

@@ -5,8 +5,8 @@ use mathlib.Core.Path.{◌≡◌, sym, subst, ◌∙◌}
 use mathlib.Core.Logic.{inr, ⊎_elim}
 use mathlib.Core.List.{List}
 use lib.ListN.{length}
-use Rattle.region.specs.declared.Place.{Place}
-use Rattle.region.specs.declared.Place.TheVariants.{At, Nowhere}
+use Rattle.std.specs.Prelude.{Option}
+use Rattle.std.specs.Prelude.{Some, None}
 use Rattle.region.specs.declared.Region.{Region}
 use Rattle.region.specs.Region.{Laid, Ranges, Reaches, range_at, place_of}
 use Rattle.region.specs.inner.Samples.{Mapped, Starts}
@@ -18,11 +18,11 @@ pub lent : {size : ℕ} {b : List ℕ} {at : ℕ} {r : Region} {xs : List ℕ} �
     → Mapped size b r.at r × Starts size b r.at r.shift xs
 lent {size} {b} {at} {r} {xs} m s = (own_mapped m, subst (λ (a : ℕ). Starts size b a r.shift xs) (sym m.at_is) s)
 
-module _ (size : ℕ) (b : List ℕ) (r seg el n m : ℕ) (c : n ≡ m) (p : Place) (f : p ≡ range_at size b r seg el n) where
-  pub sought_out : (n ≡ 0 → ⊥) → p ≡ Nowhere → Reaches size b r seg el m → ⊥
+module _ (size : ℕ) (b : List ℕ) (r seg el n m : ℕ) (c : n ≡ m) (p : Option ℕ) (f : p ≡ range_at size b r seg el n) where
+  pub sought_out : (n ≡ 0 → ⊥) → p ≡ None → Reaches size b r seg el m → ⊥
   sought_out d e w = ⊎_elim (λ z. d (c ∙ z)) (λ h. range-at-out size b r seg el n (sym f ∙ e) (subst (Ranges size b r seg el) (sym c) h)) w
 
-  module _ (q : ℕ) (e : p ≡ At q) where
+  module _ (q : ℕ) (e : p ≡ Some q) where
     found : Ranges size b r seg el n × (q ≡ place_of size b r seg el)
     found = range_at_in size b r seg el n (sym f ∙ e)
 

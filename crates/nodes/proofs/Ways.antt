@@ -8,12 +8,12 @@ use mathlib.Core.List.{List, [], ◌∷◌, ◌++◌}
 use lib.ListN.{length}
 use borrow.Author.Tests.{eq-eqb, ne_eqb}
 use Rattle.verdict.specs.Checks.{Check, check, first_fault}
-use Rattle.verdict.specs.declared.Verdict.{Verdict}
-use Rattle.verdict.specs.declared.Verdict.TheVariants.{Accepted, Refused}
+use Rattle.verdict.specs.Verdict.{Verdict}
+use Rattle.verdict.specs.Verdict.{Accepted, Refused}
 use Rattle.verdict.proofs.Laws.{Clean, pass, stop, fault_none, fault_append, fault_keep}
 use Rattle.verdict.proofs.Scans.{each_end}
-use Rattle.region.specs.declared.Place.{Place}
-use Rattle.region.specs.declared.Place.TheVariants.{At, Nowhere}
+use Rattle.std.specs.Prelude.{Option}
+use Rattle.std.specs.Prelude.{Some, None}
 use Rattle.region.specs.declared.Region.{Region}
 use Rattle.region.specs.Region.{Laid, Resolves, range_at, place_of}
 use Rattle.region.specs.inner.Samples.{Mapped}
@@ -57,7 +57,7 @@ live-node b x n e d z = d (e ∙ z)
 
 -- where the attributes of the node at p are looked for, as the code reads it
 pub attributes_sought : (ed : Edition) (b : List ℕ) (p n : ℕ) (g : Region) → Mapped (attribute_size ed) b (attributes_at b) g
-    → (seg el : ℕ) → seg ≡ attribute_segment b p → el ≡ attribute_element b p → (r : Place) → r ≡ range_at (attribute_size ed) b g.at seg el n
+    → (seg el : ℕ) → seg ≡ attribute_segment b p → el ≡ attribute_element b p → (r : Option ℕ) → r ≡ range_at (attribute_size ed) b g.at seg el n
     → r ≡ range_at (attribute_size ed) b (attributes_at b) (attribute_segment b p) (attribute_element b p) n
 attributes_sought ed b p n g w seg el s t r f = let a = w.at_is in cc
 
@@ -66,15 +66,15 @@ module _ (ed : Edition) (b : List ℕ) (p n : ℕ) (c : n ≡ attribute_count b 
   unfolding attribute_range_checks node_attribute_checks
   range_none z = sym (pass _ _ _ _ _ (inl (sym c ∙ z)) ∙ each_end _ _ _ (sym c ∙ z))
 
-  module _ (r : Place) (f : r ≡ range_at (attribute_size ed) b (attributes_at b) (attribute_segment b p) (attribute_element b p) n) where
-    pub attributes-nowhere : 0 < n → r ≡ Nowhere → AttributesReach ed b p → ⊥
+  module _ (r : Option ℕ) (f : r ≡ range_at (attribute_size ed) b (attributes_at b) (attribute_segment b p) (attribute_element b p) n) where
+    pub attributes-nowhere : 0 < n → r ≡ None → AttributesReach ed b p → ⊥
     attributes-nowhere l e h = sought_out _ _ _ _ _ _ _ c r f (λ z. omega arith) e h
 
-    pub range-nowhere : (n ≡ 0 → ⊥) → r ≡ Nowhere → Refused 17 p ≡ first_fault (attribute_range_checks ed b p)
+    pub range-nowhere : (n ≡ 0 → ⊥) → r ≡ None → Refused 17 p ≡ first_fault (attribute_range_checks ed b p)
     unfolding attribute_range_checks
     range-nowhere d e = sym (stop _ _ _ _ _ (attributes-nowhere (omega arith) e))
 
-    module _ (a : ℕ) (e : r ≡ At a) where
+    module _ (a : ℕ) (e : r ≡ Some a) where
       pub range-told : (v : Verdict) → v ≡ first_fault (node_attribute_checks ed b p) → v ≡ first_fault (attribute_range_checks ed b p)
       unfolding attribute_range_checks
       range-told v g = g ∙ sym (pass _ _ _ _ _ (sought_in _ _ _ _ _ _ _ c r f a e))

@@ -1,6 +1,7 @@
 // All used nodes, in the order of the file.
 ghost use Rattle.std.specs.Prelude.{◌≡◌};
 ghost use Rattle.verdict.specs.Checks.{first_fault};
+ghost use Rattle.verdict.specs.Verdict.{answer_of};
 ghost use Rattle.hash.specs.inner.Tables.{Tables};
 ghost use Rattle.memo.specs.inner.Memo.{Remembers};
 ghost use Rattle.nodes.specs.inner.Doubts.{AllTrusted, NoDoubt};
@@ -14,7 +15,7 @@ use crate::node;
 use keys::Names;
 use layout::{NODE_SIZE, Places};
 use region::{SAMPLES, SEGMENT_HEADER};
-use verdict::Verdict;
+use verdict::{Refusal, Rule};
 
 // Refusals 16 to 19 and 23 of every used node, up to the first fault; 19 is due only to attributes that are doubted.
 pub fn check_nodes(
@@ -29,10 +30,10 @@ pub fn check_nodes(
     known: bool,
     doubts: &[u32; 4096],
     memo: &mut [u32; 3072],
-) -> Verdict
+) -> Result<(), Refusal>
     requires { Tables t.now × Ready Bits64 b.now p names attribute_segments.now node_segments.now value_segments.now value_buckets.now
         × Sure (NoDoubt doubts.now) known × AllTrusted Bits64 b.now doubts.now × Remembers (noted b.now) memo.old }
-    ensures answer { result ≡ first_fault (all_node_checks Bits64 b.now) }
+    ensures answer { answer_of result ≡ first_fault (all_node_checks Bits64 b.now) }
     ensures memo { Remembers (noted b.now) memo.new }
 {
     let nodes = p.nodes;

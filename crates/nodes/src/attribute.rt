@@ -2,7 +2,7 @@
 ghost use Rattle.std.specs.Prelude.{◌≡◌, ℕ, ◌+◌, ◌*◌, ◌≤◌, ◌<◌, length};
 ghost use Rattle.verdict.specs.Checks.{first_fault};
 ghost use Rattle.verdict.specs.inner.Tells.{Tells, Sure};
-ghost use Rattle.verdict.specs.declared.Verdict.TheVariants.{Accepted};
+ghost use Rattle.verdict.specs.Verdict.{Accepted, answer_of};
 ghost use Rattle.hash.specs.inner.Tables.{Tables};
 ghost use Rattle.memo.specs.inner.Memo.{Remembers};
 ghost use Rattle.layout.specs.Edition.{attribute_size};
@@ -25,7 +25,7 @@ use region::SAMPLES;
 use search::run;
 use strings::spot::Spot;
 use strings::{Strings, entry, spot};
-use verdict::Verdict;
+use verdict::{Refusal, Rule};
 
 // Whether type, extended code and truth word of the attribute at q are right.
 fn typed(b: &[u8], q: usize) -> bool
@@ -154,12 +154,12 @@ pub fn check_attributes(
     known: bool,
     doubts: &[u32; 4096],
     memo: &mut [u32; 3072],
-) -> Verdict
+) -> Result<(), Refusal>
     requires tables { Tables t.now × Known Bits64 b.now names × Held b.now s segments.now buckets.now
         × (held_table b.now s buckets.now ≡ values Bits64 b.now) × (first_fault (string_checks (values Bits64 b.now)) ≡ Accepted) }
     requires n_value { (n ≡ attribute_count b.now p) × (a ≡ attribute_at Bits64 b.now p 0) × (a + n * attribute_size Bits64 ≤ length b.now) × Sure (NoDoubt doubts.now) known
         × ((i : ℕ) → i < n → Trusted Bits64 b.now doubts.now (attribute_at Bits64 b.now p i)) × Remembers (noted b.now) memo.old }
-    ensures answer { result ≡ first_fault (node_attribute_checks Bits64 b.now p) }
+    ensures answer { answer_of result ≡ first_fault (node_attribute_checks Bits64 b.now p) }
     ensures memo { Remembers (noted b.now) memo.new }
 {
     let mut i = 0;

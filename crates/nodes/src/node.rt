@@ -2,7 +2,7 @@
 ghost use Rattle.std.specs.Prelude.{◌≡◌, ◌+◌, ◌*◌, ◌≤◌, ◌<◌, length};
 ghost use Rattle.verdict.specs.Checks.{first_fault};
 ghost use Rattle.verdict.specs.inner.Tells.{Tells, Sure};
-ghost use Rattle.verdict.specs.declared.Verdict.TheVariants.{Accepted};
+ghost use Rattle.verdict.specs.Verdict.{Accepted, answer_of};
 ghost use Rattle.hash.specs.inner.Tables.{Tables};
 ghost use Rattle.memo.specs.inner.Memo.{Remembers};
 ghost use Rattle.region.specs.Region.{Resolves};
@@ -25,9 +25,9 @@ ghost use Rattle.nodes.specs.inner.Noted.{noted};
 use crate::{attribute, fields};
 use keys::Names;
 use layout::{ATTRIBUTE_SIZE, NODE_SIZE, Places};
-use region::{Place, Region, SAMPLES};
+use region::{Region, SAMPLES};
 use strings::Strings;
-use verdict::Verdict;
+use verdict::{Refusal, Rule};
 
 // Whether refusal 16 is not due to node seg:el, which stands at p.
 fn node_right(b: &[u8], names: Names, keys: usize, seg: usize, el: usize, p: usize) -> bool
@@ -115,13 +115,13 @@ fn check_attribute_range(
     known: bool,
     doubts: &[u32; 4096],
     memo: &mut [u32; 3072],
-) -> Verdict
+) -> Result<(), Refusal>
     requires tables { Tables t.now × Known Bits64 b.now names × Held b.now s segments.now buckets.now
         × (held_table b.now s buckets.now ≡ values Bits64 b.now) × (first_fault (string_checks (values Bits64 b.now)) ≡ Accepted) }
     requires mapped { Mapped (attribute_size Bits64) b.now (attributes_at b.now) attributes
         × Starts (attribute_size Bits64) b.now (attributes_at b.now) attributes.shift attribute_segments.now × (x + node_size Bits64 ≤ length b.now) × Live b.now x
         × Sure (NoDoubt doubts.now) known × AllTrusted Bits64 b.now doubts.now × Remembers (noted b.now) memo.old }
-    ensures answer { result ≡ first_fault (attribute_range_checks Bits64 b.now x) }
+    ensures answer { answer_of result ≡ first_fault (attribute_range_checks Bits64 b.now x) }
     ensures memo { Remembers (noted b.now) memo.new }
 {
     let n = fields::attribute_field(b, x);
@@ -161,11 +161,11 @@ pub fn check_node(
     known: bool,
     doubts: &[u32; 4096],
     memo: &mut [u32; 3072],
-) -> Verdict
+) -> Result<(), Refusal>
     requires { Tables t.now × Ready Bits64 b.now p names attribute_segments.now node_segments.now value_segments.now value_buckets.now
         × Resolves (node_size Bits64) b.now (nodes_at Bits64 b.now) seg el × (x ≡ node_at Bits64 b.now seg el) × Sure (NoDoubt doubts.now) known
         × AllTrusted Bits64 b.now doubts.now × Remembers (noted b.now) memo.old }
-    ensures answer { result ≡ first_fault (node_checks Bits64 b.now seg el) }
+    ensures answer { answer_of result ≡ first_fault (node_checks Bits64 b.now seg el) }
     ensures memo { Remembers (noted b.now) memo.new }
 {
     if !node_right(b, names, p.keys, seg, el, x) {

@@ -8,8 +8,8 @@ use mathlib.Core.List.{List, [], ◌++◌}
 use borrow.Author.Tests.{eq-eqb, ne_eqb}
 use Rattle.region.specs.Region.{range_at}
 use Rattle.region.specs.inner.Samples.{Mapped, Starts}
-use Rattle.region.specs.declared.Place.{Place}
-use Rattle.region.specs.declared.Place.TheVariants.{At, Nowhere}
+use Rattle.std.specs.Prelude.{Option}
+use Rattle.std.specs.Prelude.{Some, None}
 use Rattle.layout.specs.Edition.{attribute_size}
 use Rattle.layout.specs.Layout.{attributes_at}
 use Rattle.layout.specs.declared.Places.{Places}
@@ -46,14 +46,14 @@ module _ {ed : Edition} {b : List ℕ} {p : Places} {xs vs ns : List ℕ} (g : L
   pub attributes-count : {n : ℕ} → n ≡ attribute_field b x → n ≡ attribute_count b x
   attributes-count {n} e = attribute-count b x k.live n e
 
-  module _ {n seg el : ℕ} (c : n ≡ attribute_field b x) (s : seg ≡ attribute_segment b x) (l : el ≡ attribute_element b x) {r : Place} (f : r ≡ range_at (attribute_size ed) b p.attributes.at seg el n) where
+  module _ {n seg el : ℕ} (c : n ≡ attribute_field b x) (s : seg ≡ attribute_segment b x) (l : el ≡ attribute_element b x) {r : Option ℕ} (f : r ≡ range_at (attribute_size ed) b p.attributes.at seg el n) where
     sought : r ≡ range_at (attribute_size ed) b (attributes_at b) (attribute_segment b x) (attribute_element b x) n
     sought = attributes_sought ed b x n p.attributes g.placed.attributes seg el s l r f
 
-    pub attributes_lost : (n ≡ 0 → ⊥) → r ≡ Nowhere → ⊥
+    pub attributes_lost : (n ≡ 0 → ⊥) → r ≡ None → ⊥
     attributes_lost z e = attributes-nowhere ed b x n (attributes-count c) r sought (omega arith) e k.attributes
 
-    pub attributes-at : {q : ℕ} → r ≡ At q → Attributes ed b x n q
+    pub attributes-at : {q : ℕ} → r ≡ Some q → Attributes ed b x n q
     attributes-at {q} e = record {
       count = attributes-count c;
       place = λ i. attribute_is ed b x i q (attributes_start ed b x n (attributes-count c) r sought q e);

@@ -5,7 +5,7 @@ use mathlib.Core.Path.{◌≡◌}
 use mathlib.Core.Logic.{⊎_elim}
 use mathlib.Core.List.{List}
 use lib.ListN.{length}
-use Rattle.verdict.specs.declared.Verdict.TheVariants.{Accepted}
+use Rattle.verdict.specs.Verdict.{Accepted}
 use Rattle.region.proofs.Laws.{range-each, place-fits}
 use Rattle.layout.specs.Edition.{attribute_size, node_size}
 use Rattle.layout.specs.Layout.{attributes_at}

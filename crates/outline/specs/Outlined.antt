@@ -1,8 +1,8 @@
 -- The outline question: refusal 26, and what is left in the buffer (FORMAT, "Questions", "Refusals").
 use Rattle.std.specs.Prelude.{ℕ, List, [], ◌∷◌, ◌++◌, length, drop}
 use Rattle.verdict.specs.Checks.{Check, at_most}
-use Rattle.verdict.specs.declared.Verdict.{Verdict}
-use Rattle.verdict.specs.declared.Verdict.TheVariants.{Accepted, Refused}
+use Rattle.verdict.specs.Verdict.{Verdict}
+use Rattle.verdict.specs.Verdict.{Accepted, Refused}
 use Rattle.layout.specs.declared.Edition.{Edition}
 use Rattle.outline.specs.Outline.{outline_of}
 

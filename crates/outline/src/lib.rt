@@ -2,6 +2,7 @@
 #![tactic(auto)]
 
 ghost use Rattle.std.specs.Prelude.{◌≡◌, length};
+ghost use Rattle.verdict.specs.Verdict.{answer_of};
 ghost use Rattle.layout.specs.declared.Edition.TheVariants.{Bits64};
 ghost use Rattle.outline.specs.inner.Ready.{OutlineReady};
 ghost use Rattle.outline.specs.Outlined.{outline_after};
@@ -14,16 +15,9 @@ mod values;
 use layout::Places;
 use region::SAMPLES;
 use tree::{DEEPEST_LEVEL, ranges};
-use verdict::Verdict;
+use verdict::{Refusal, Rule};
 
-// Refusal 26, or the outline's length in bytes.
-#[derive(Clone, Copy)]
-pub struct Outlined {
-    pub answer: Verdict,
-    pub length: usize,
-}
-
-// Writes the root's block; the first pass, with an empty buffer, tells its length, so nothing is written unless all of it fits.
+// Writes the root's block: refusal 26, or the outline's length in bytes; the first pass, with an empty buffer, tells its length, so nothing is written unless all of it fits.
 pub fn write_outline(
     b: &[u8],
     p: Places,
@@ -32,10 +26,10 @@ pub fn write_outline(
     value_segments: &[u32; SAMPLES],
     name_segments: &[u32; SAMPLES],
     out: &mut [u8],
-) -> Outlined
+) -> Result<usize, Refusal>
     requires { OutlineReady Bits64 b.now p attribute_segments.now node_segments.now value_segments.now name_segments.now }
     ensures answer { OutlineWritten Bits64 b.now (length out.old) result }
-    ensures buffer { out.new ≡ outline_after Bits64 b.now out.old result.answer }
+    ensures buffer { out.new ≡ outline_after Bits64 b.now out.old (answer_of result) }
 {
     let root = ranges::root_at(p.nodes);
     let mut none = [0u8; 0];

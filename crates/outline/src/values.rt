@@ -13,7 +13,7 @@ use crate::texts;
 use layout::{ATTRIBUTE_SIZE, Places};
 use nodes::value::Value;
 use nodes::{fields, value};
-use region::{Place, SAMPLES};
+use region::SAMPLES;
 
 // A truth.
 fn put_truth(t: bool, out: &mut [u8], at: usize) -> usize

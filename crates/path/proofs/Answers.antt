@@ -10,7 +10,7 @@ use lib.ListN.{length, drop}
 use lib.Seq.{length-take-le, get_or-take}
 use Rattle.laws.specs.inner.Lists.{splice}
 use Rattle.verdict.specs.Checks.{first_fault}
-use Rattle.verdict.specs.declared.Verdict.TheVariants.{Accepted, Refused}
+use Rattle.verdict.specs.Verdict.{Accepted, Refused}
 use Rattle.verdict.proofs.Laws.{Clean, never, fault_keep}
 use Rattle.layout.specs.Layout.{names}
 use Rattle.layout.specs.declared.Edition.{Edition}

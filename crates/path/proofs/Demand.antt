@@ -9,7 +9,7 @@ use lib.ListN.{length, get_or}
 use Rattle.le.specs.Le.{u32_at, le4}
 use Rattle.le.proofs.Four.{le4_front, shifted}
 use Rattle.verdict.specs.Checks.{first_fault}
-use Rattle.verdict.specs.declared.Verdict.TheVariants.{Accepted, Refused}
+use Rattle.verdict.specs.Verdict.{Accepted, Refused}
 use Rattle.verdict.proofs.Laws.{Clean, pass, stop, fault_none, fault_append}
 use Rattle.layout.specs.declared.Edition.{Edition}
 use Rattle.accept.specs.Rules.{FileRules}

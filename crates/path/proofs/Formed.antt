@@ -7,7 +7,7 @@ use native.Mathlib.Omega.{arith}
 use native.Mathlib.Decide.{ℕ_discrete}
 use lib.ListN.{length}
 use Rattle.verdict.specs.Checks.{first_fault}
-use Rattle.verdict.specs.declared.Verdict.TheVariants.{Refused}
+use Rattle.verdict.specs.Verdict.{Refused}
 use Rattle.verdict.proofs.Laws.{Clean, pass, stop, clean_inv, fault_none}
 use Rattle.le.specs.Le.{u16_at}
 use Rattle.path.specs.Names.{Closed, path_checks}

@@ -3,8 +3,8 @@ use Rattle.std.specs.Prelude.{ℕ, ◌+◌, ◌/◌, Bool, true, false, cond, no
 use Rattle.le.specs.Le.{le4}
 use Rattle.verdict.specs.Checks.{Check, at_most}
 use Rattle.verdict.specs.Decide.{texts?}
-use Rattle.verdict.specs.declared.Verdict.{Verdict}
-use Rattle.verdict.specs.declared.Verdict.TheVariants.{Accepted, Refused}
+use Rattle.verdict.specs.Verdict.{Verdict}
+use Rattle.verdict.specs.Verdict.{Accepted, Refused}
 use Rattle.layout.specs.declared.Edition.{Edition}
 use Rattle.keys.specs.Names.{name_text}
 use Rattle.tree.specs.Chain.{Tree, ranged}

@@ -1,5 +1,6 @@
 // The listing of a path's matches.
 ghost use Rattle.std.specs.Prelude.{◌≡◌, length};
+ghost use Rattle.verdict.specs.Verdict.{answer_of};
 ghost use Rattle.hash.specs.inner.Tables.{Tables};
 ghost use Rattle.layout.specs.Layout.{names};
 ghost use Rattle.layout.specs.declared.Edition.TheVariants.{Bits64};
@@ -13,16 +14,9 @@ use crate::{below, names};
 use region::{Region, SAMPLES};
 use strings::Strings;
 use tree::ranges;
-use verdict::Verdict;
+use verdict::{Refusal, Rule};
 
-// Refusal 24 or 25, or the number of matches.
-#[derive(Clone, Copy)]
-pub struct Listing {
-    pub answer: Verdict,
-    pub matches: usize,
-}
-
-// Lists the matches of a path in a file that is accepted; the first pass, with an empty listing, counts them, so nothing is written
+// Lists the matches of a path in a file that is accepted: refusal 24 or 25, or how many there are; the first pass, with an empty listing, counts them, so nothing is written
 // unless all fit.
 pub fn list_path(
     b: &[u8],
@@ -34,11 +28,11 @@ pub fn list_path(
     node_segments: &[u32; SAMPLES],
     path: &[u8],
     list: &mut [u8],
-) -> Listing
+) -> Result<usize, Refusal>
     requires { Tables t.now × Held b.now s name_segments.now name_buckets.now × (held_table b.now s name_buckets.now ≡ names Bits64 b.now)
         × TreeReady Bits64 b.now nodes node_segments.now × FileRules Bits64 b.now }
     ensures answer { PathListed Bits64 b.now path.now (length list.old) result }
-    ensures listing { list.new ≡ listing_after Bits64 b.now path.now list.old result.answer }
+    ensures listing { list.new ≡ listing_after Bits64 b.now path.now list.old (answer_of result) }
 {
     let c = names::check_path(path);
     if let Verdict::Refused(num, place) = c {

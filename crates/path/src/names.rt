@@ -1,7 +1,7 @@
 // The names of a path, looked up once.
 ghost use Rattle.std.specs.Prelude.{◌≡◌, ◌%◌, ◌<◌, length};
 ghost use Rattle.verdict.specs.Checks.{first_fault};
-ghost use Rattle.verdict.specs.declared.Verdict.TheVariants.{Accepted};
+ghost use Rattle.verdict.specs.Verdict.{Accepted, answer_of};
 ghost use Rattle.hash.specs.inner.Tables.{Tables};
 ghost use Rattle.layout.specs.Layout.{names};
 ghost use Rattle.layout.specs.declared.Edition.TheVariants.{Bits64};
@@ -14,7 +14,7 @@ use lookup::{Kind, Lookup};
 use region::SAMPLES;
 use strings::Strings;
 use tree::{DEEPEST_LEVEL, MOST_LEVELS};
-use verdict::Verdict;
+use verdict::{Refusal, Rule};
 
 // The indices of the first `count` names; known is false where no node can bear the names.
 #[derive(Clone, Copy)]
@@ -25,8 +25,8 @@ pub struct Wanted {
 }
 
 // Refusal 24 of a path.
-pub fn check_path(path: &[u8]) -> Verdict
-    ensures { result ≡ first_fault (path_checks path.now) }
+pub fn check_path(path: &[u8]) -> Result<(), Refusal>
+    ensures { answer_of result ≡ first_fault (path_checks path.now) }
 {
     let n = path.len();
     if n % 2 != 0 {

@@ -9,7 +9,7 @@ use Rattle.laws.specs.Counting.{how_many, sum_below}
 use Rattle.laws.proofs.Order.{le_or_lt}
 use Rattle.laws.proofs.Counting.{count_none, count-met, count_missed, count_span, count-all, count-some, count-split, sum-none, sum_one, sum-some, sum_more, sum-fewer, sum_same, sum_added}
 use Rattle.verdict.specs.Checks.{first_fault}
-use Rattle.verdict.specs.declared.Verdict.TheVariants.{Accepted, Refused}
+use Rattle.verdict.specs.Verdict.{Accepted, Refused}
 use Rattle.verdict.proofs.Laws.{Clean}
 use Rattle.layout.specs.Table.{Table, entries, index_of, count, position_at}
 use Rattle.strings.specs.Rules.{Carried}

@@ -4,8 +4,8 @@ use native.Mathlib.Omega.{arith}
 use mathlib.Core.Path.{◌≡◌, refl, ap, sym, subst, ◌∙◌}
 use mathlib.Core.List.{List}
 use Rattle.verdict.specs.Checks.{first_fault, each}
-use Rattle.verdict.specs.declared.Verdict.{Verdict}
-use Rattle.verdict.specs.declared.Verdict.TheVariants.{Accepted, Refused}
+use Rattle.verdict.specs.Verdict.{Verdict}
+use Rattle.verdict.specs.Verdict.{Accepted, Refused}
 use Rattle.verdict.proofs.Laws.{Clean, pass, stop, fault_none, fault_append, fault_keep}
 use Rattle.verdict.proofs.Scans.{each_more, each_stop, each_end}
 use Rattle.layout.specs.Table.{Table, entries, segment_of, element_of, count, position_at, listed_segment, listed_element}
@@ -16,12 +16,13 @@ use Rattle.strings.specs.Order.{all_entry_checks, position_checks, all_position_
 use Rattle.strings.specs.inner.Held.{Held, held_table}
 use Rattle.strings.specs.declared.Strings.{Strings}
 use Rattle.strings.specs.declared.spot.Spot.{Spot}
-use Rattle.strings.specs.declared.spot.Spot.TheVariants.{At}
+use Rattle.strings.specs.Texts.{At}
 use Rattle.strings.proofs.Accepted.{all_good}
 use Rattle.strings.proofs.Spots.{Spotted, spot-text}
+use Rattle.std.specs.Prelude.{Option}
 
 -- the spot of the address at list position i, as it is found
-pub spotted : {b : List ℕ} {s : Strings} {segments buckets : List ℕ} → Held b s segments buckets → (i : ℕ) {r : Spot}
+pub spotted : {b : List ℕ} {s : Strings} {segments buckets : List ℕ} → Held b s segments buckets → (i : ℕ) {r : Option Spot}
     → r ≡ spot_at b s.chars.at (listed_segment (held_table b s buckets) i) (listed_element (held_table b s buckets) i) → {p n : ℕ} → r ≡ At p n
     → Spotted (held_table b s buckets) (listed_segment (held_table b s buckets) i) (listed_element (held_table b s buckets) i) p n
 spotted {b} {s} {segments} {buckets} h i f g = spot-text (held_table b s buckets) _ _ h.laid.characters (sym f ∙ g)

@@ -3,8 +3,9 @@
 
 ghost use Rattle.std.specs.Prelude.{◌≡◌, ◌<◌, ◌^◌};
 ghost use Rattle.verdict.specs.Checks.{first_fault};
+ghost use Rattle.verdict.specs.inner.Gives.{Gives};
 ghost use Rattle.verdict.specs.inner.Tells.{Sure};
-ghost use Rattle.verdict.specs.declared.Verdict.TheVariants.{Accepted};
+ghost use Rattle.verdict.specs.Verdict.{Accepted, answer_of};
 ghost use Rattle.hash.specs.inner.Tables.{Tables};
 ghost use Rattle.strings.specs.Order.{all_entry_checks, all_position_checks, string_checks};
 ghost use Rattle.strings.specs.inner.Held.{Held, held_table};
@@ -17,7 +18,7 @@ mod uncarried;
 use layout::{BUCKET_COUNT_SIZE, ENTRY_SIZE};
 use region::SAMPLES;
 use strings::{Strings, entry, table};
-use verdict::Verdict;
+use verdict::{Refusal, Rule};
 
 // The number of entries of all buckets, by the bytes that they take: from the first bucket's start up to the address
 // count there are only the buckets' counts and their entries.
@@ -29,10 +30,10 @@ fn entry_total(b: &[u8], s: Strings, segments: &[u32; SAMPLES], buckets: &[u32])
 }
 
 // Refusal 13 of every list position, where the entries passed 7 to 12.
-fn check_positions(b: &[u8], s: Strings, segments: &[u32; SAMPLES], buckets: &[u32]) -> Verdict
+fn check_positions(b: &[u8], s: Strings, segments: &[u32; SAMPLES], buckets: &[u32]) -> Result<(), Refusal>
     requires { Held b.now s segments.now buckets.now
         × (first_fault (all_entry_checks (held_table b.now s buckets.now)) ≡ Accepted) }
-    ensures { result ≡ first_fault (all_position_checks (held_table b.now s buckets.now)) }
+    ensures { answer_of result ≡ first_fault (all_position_checks (held_table b.now s buckets.now)) }
 {
     let n = le::u32_at(b, s.list);
     // No two entries carry one index: they would bear one text, and 12 refuses that. So where there are as many entries
@@ -44,24 +45,16 @@ fn check_positions(b: &[u8], s: Strings, segments: &[u32; SAMPLES], buckets: &[u
     Verdict::Refused(13, entry::position_at(b, s, segments, buckets, i))
 }
 
-// What is found of a table: the first fault, and whether its texts are known to fill its characters.
-#[derive(Clone, Copy)]
-pub struct CheckedTable {
-    pub answer: Verdict,
-    pub packed: bool,
-}
-
-// Refusals 7 to 13 of a table, up to the first fault.
+// Refusals 7 to 13 of a table, up to the first fault; where there is none, whether its texts are known to fill its characters.
 pub fn check_table(
     b: &[u8],
     t: &[u32; 2048],
     s: Strings,
     segments: &[u32; SAMPLES],
     buckets: &[u32],
-) -> CheckedTable
+) -> Result<bool, Refusal>
     requires { Tables t.now × Held b.now s segments.now buckets.now }
-    ensures answer { result.answer ≡ first_fault (string_checks (held_table b.now s buckets.now)) }
-    ensures packed { Sure (Packed (held_table b.now s buckets.now)) result.packed }
+    ensures { Gives (first_fault (string_checks (held_table b.now s buckets.now))) (Sure (Packed (held_table b.now s buckets.now))) result }
 {
     let c = table::check_entries(b, t, s, segments, buckets);
     let found = c.answer;

@@ -1,7 +1,7 @@
 // The first list position that no entry carries, in a table that has fewer entries than list positions.
 ghost use Rattle.std.specs.Prelude.{◌≡◌, ◌+◌, ◌≤◌, ◌<◌, length};
 ghost use Rattle.verdict.specs.Checks.{first_fault};
-ghost use Rattle.verdict.specs.declared.Verdict.TheVariants.{Accepted};
+ghost use Rattle.verdict.specs.Verdict.{Accepted};
 ghost use Rattle.layout.specs.Table.{entries, count};
 ghost use Rattle.strings.specs.Order.{all_entry_checks};
 ghost use Rattle.strings.specs.inner.Held.{Held, held_table};

@@ -23,7 +23,7 @@ use Rattle.layout.specs.Layout.{attributes_at, values}
 use Rattle.layout.specs.declared.Edition.{Edition}
 use Rattle.strings.specs.Texts.{spot_at, text_to}
 use Rattle.strings.specs.declared.spot.Spot.{Spot}
-use Rattle.strings.specs.declared.spot.Spot.TheVariants.{At}
+use Rattle.strings.specs.Texts.{At}
 use Rattle.strings.proofs.Spots.{spot_in, spot-text}
 use Rattle.strings.proofs.Begun.{begins-first, begins_behind}
 use Rattle.positions.specs.inner.Packed.{Packed}
@@ -39,6 +39,7 @@ use Rattle.le.proofs.Numbers.{Bytes}
 use Rattle.search.specs.inner.Run.{word_of}
 use Rattle.nodes.proofs.Types.{extended_is}
 use Rattle.prefetch.specs.inner.Batch.{TextSpot, SpotFits, Behind, AllSpots, AllBehind, AllHashed, AllFound, AllRight}
+use Rattle.std.specs.Prelude.{Option}
 
 -- an entry in one bucket has the address of the attribute's text
 pub entry_in : (b : List ℕ) → Bytes b → (q : ℕ) (t : Table) → t.bytes ≡ b → (k w : ℕ) → k < t.buckets → w ≡ value_word b q
@@ -49,11 +50,11 @@ pub found_at : (b : List ℕ) (t : Table) {q p : ℕ} → q ≡ p → EntryAddre
 found_at b t e w = subst (λ (i : ℕ). EntryAddress t (text_segment b i) (text_element b i)) e w
 
 -- a spot found for an attribute's text
-pub spot_of : {b : List ℕ} {r q seg el x n : ℕ} {a : Spot} → seg ≡ text_segment b q → el ≡ text_element b q → a ≡ spot_at b r seg el → a ≡ At x n → TextSpot b r q x n
+pub spot_of : {b : List ℕ} {r q seg el x n : ℕ} {a : Option Spot} → seg ≡ text_segment b q → el ≡ text_element b q → a ≡ spot_at b r seg el → a ≡ At x n → TextSpot b r q x n
 spot_of {b} {r} {q} s t e f = record { spot = sym (text_sought b r q s t e) ∙ f }
 
 -- and what is left there lies in the file
-pub fits-of : {b : List ℕ} {r x n : ℕ} {a : Spot} (seg el : ℕ) → Laid 2 b r → a ≡ spot_at b r seg el → a ≡ At x n → SpotFits b x n
+pub fits-of : {b : List ℕ} {r x n : ℕ} {a : Option Spot} (seg el : ℕ) → Laid 2 b r → a ≡ spot_at b r seg el → a ≡ At x n → SpotFits b x n
 unfolding place_of
 fits-of {b} {r} seg el laid e f =
     let w = spot_in _ _ _ _ (sym e ∙ f) in

@@ -2,7 +2,7 @@
 ghost use Rattle.std.specs.Prelude.{◌≡◌, ◌+◌, ◌≤◌, length};
 ghost use Rattle.verdict.specs.Checks.{first_fault};
 ghost use Rattle.verdict.specs.inner.Tells.{Sure};
-ghost use Rattle.verdict.specs.declared.Verdict.TheVariants.{Accepted};
+ghost use Rattle.verdict.specs.Verdict.{Accepted, answer_of};
 ghost use Rattle.hash.specs.inner.Tables.{Tables};
 ghost use Rattle.region.specs.inner.Samples.{Mapped};
 ghost use Rattle.memo.specs.inner.Memo.{Remembers};
@@ -25,7 +25,7 @@ use layout::{ATTRIBUTE_SIZE, Places};
 use nodes::attribute;
 use region::{Region, SAMPLES, SEGMENT_HEADER};
 use strings::Strings;
-use verdict::Verdict;
+use verdict::{Refusal, Rule};
 
 // Doubts the attribute at q, unless 19 holds of it.
 fn doubt(
@@ -167,10 +167,10 @@ pub fn check_nodes_in_batches(
     value_segments: &[u32; SAMPLES],
     value_buckets: &[u32],
     packed: bool,
-) -> Verdict
+) -> Result<(), Refusal>
     requires { Tables t.now × Ready Bits64 b.now p names attribute_segments.now node_segments.now value_segments.now value_buckets.now
         × Sure (Packed (values Bits64 b.now)) packed }
-    ensures { result ≡ first_fault (all_node_checks Bits64 b.now) }
+    ensures { answer_of result ≡ first_fault (all_node_checks Bits64 b.now) }
 {
     let chars = p.value_chars;
     let s = Strings {

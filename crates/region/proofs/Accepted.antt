@@ -8,8 +8,8 @@ use lib.ListN.{length}
 use Rattle.le.specs.Le.{u32_at}
 use Rattle.verdict.specs.Checks.{Check, at_most, first_fault, each}
 use Rattle.verdict.specs.inner.Scans.{scanned}
-use Rattle.verdict.specs.declared.Verdict.{Verdict}
-use Rattle.verdict.specs.declared.Verdict.TheVariants.{Accepted}
+use Rattle.verdict.specs.Verdict.{Verdict}
+use Rattle.verdict.specs.Verdict.{Accepted}
 use Rattle.verdict.proofs.Laws.{Clean, pass, clean_inv, fault_none, each_inv, each_clean}
 use Rattle.region.specs.Region.{count_of, start_of, full_of, used_of, end_of, Laid}
 use Rattle.region.specs.Checks.{field, segment_checks, region_checks}

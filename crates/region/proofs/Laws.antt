@@ -11,8 +11,8 @@ use lib.Seq.{get_or-append-add}
 use borrow.Author.Tests.{lt-ltb, le-ltb, le-leb, lt-leb}
 use Rattle.laws.proofs.Order.{le_or_lt}
 use Rattle.region.specs.Decisions.{ranges?}
-use Rattle.region.specs.declared.Place.{Place}
-use Rattle.region.specs.declared.Place.TheVariants.{At, Nowhere}
+use Rattle.std.specs.Prelude.{Option}
+use Rattle.std.specs.Prelude.{Some, None}
 use Rattle.region.specs.Region.{count_of, start_of, full_of, used_of, end_of, before_of, total_of, place_of, number_of, Resolves, Ranges, Laid, in_segment, used_from, all_used, range_at}
 
 module _ (size : ℕ) (b : List ℕ) (r : ℕ) where
@@ -177,15 +177,15 @@ module _ (size : ℕ) (b : List ℕ) (r : ℕ) where
   before-low g s h = omega (arith, before_small g s h, g.few)
 
 -- what a place tells, and when it is answered
-no_place : {p : ℕ} → ◌≡◌ {A = Place} (At p) Nowhere → ⊥
+no_place : {p : ℕ} → ◌≡◌ {A = Option ℕ} (Some p) None → ⊥
 no_place z = let e : ◌≡◌ {A = ℕ} 0 1 = cc in omega arith
 
 module _ (size : ℕ) (b : List ℕ) (r seg el n : ℕ) where
-  pub range_at_yes : Ranges size b r seg el n → range_at size b r seg el n ≡ At (place_of size b r seg el)
+  pub range_at_yes : Ranges size b r seg el n → range_at size b r seg el n ≡ Some (place_of size b r seg el)
   unfolding range_at
   range_at_yes h = rw (lt-ltb seg (count_of b r) h.seg_in, le-leb (el + n) (used_of size b r seg) h.els_in)
 
-  pub range_at_no : (Ranges size b r seg el n → ⊥) → range_at size b r seg el n ≡ Nowhere
+  pub range_at_no : (Ranges size b r seg el n → ⊥) → range_at size b r seg el n ≡ None
   unfolding range_at
   range_at_no f =
       ⊎_elim
@@ -196,12 +196,12 @@ module _ (size : ℕ) (b : List ℕ) (r seg el n : ℕ) where
       (le_or_lt (el + n) (used_of size b r seg)))
       (le_or_lt (count_of b r) seg)
 
-  pub range_at_in : {p : ℕ} → range_at size b r seg el n ≡ At p → Ranges size b r seg el n × (p ≡ place_of size b r seg el)
+  pub range_at_in : {p : ℕ} → range_at size b r seg el n ≡ Some p → Ranges size b r seg el n × (p ≡ place_of size b r seg el)
   range_at_in {p} q = go (ranges? size b r seg el n)
     where
       go : Dec (Ranges size b r seg el n) → Ranges size b r seg el n × (p ≡ place_of size b r seg el)
       go (yes h) = (h, (let e = range_at_yes h in cc))
       go (no f) = absurd (no_place (sym q ∙ range_at_no f))
 
-  pub range-at-out : range_at size b r seg el n ≡ Nowhere → Ranges size b r seg el n → ⊥
+  pub range-at-out : range_at size b r seg el n ≡ None → Ranges size b r seg el n → ⊥
   range-at-out q h = no_place (sym (range_at_yes h) ∙ q)

@@ -2,8 +2,8 @@
 -- segment its full count, its used count and full count elements. Addresses and ranges in it.
 use Rattle.std.specs.Prelude.{ℕ, zero, suc, ◌+◌, ◌*◌, ◌≤◌, ◌<◌, List, [], ◌∷◌, ◌++◌, cond, ◌⊎◌, ◌≡◌, length, ltb, leb}
 use Rattle.le.specs.Le.{u32_at}
-use Rattle.region.specs.declared.Place.{Place}
-use Rattle.region.specs.declared.Place.TheVariants.{At, Nowhere}
+use Rattle.std.specs.Prelude.{Option}
+use Rattle.std.specs.Prelude.{Some, None}
 
 -- The segment count.
 unfoldable pub count_of : List ℕ → ℕ → ℕ
@@ -79,7 +79,7 @@ used_from size b r s (suc k) = in_segment s 0 (used_of size b r s) ++ used_from 
 unfoldable pub all_used : ℕ → List ℕ → ℕ → List ℕ
 all_used size b r = used_from size b r 0 (count_of b r)
 
--- The offset of n elements from seg:el on where that range resolves; Nowhere where it does not.
-unfoldable pub range_at : ℕ → List ℕ → ℕ → ℕ → ℕ → ℕ → Place
+-- The offset of n elements from seg:el on where that range resolves; None where it does not.
+unfoldable pub range_at : ℕ → List ℕ → ℕ → ℕ → ℕ → ℕ → Option ℕ
 range_at size b r seg el n =
-    cond (ltb seg (count_of b r)) (cond (leb (el + n) (used_of size b r seg)) (At (place_of size b r seg el)) Nowhere) Nowhere
+    cond (ltb seg (count_of b r)) (cond (leb (el + n) (used_of size b r seg)) (Some (place_of size b r seg el)) None) None

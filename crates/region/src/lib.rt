@@ -4,12 +4,12 @@
 ghost use Rattle.std.specs.Prelude.{◌≡◌, ◌+◌, ◌*◌, ◌≤◌, ◌<◌, ◌^◌, length};
 ghost use Rattle.le.specs.Le.{u32_at};
 ghost use Rattle.verdict.specs.Checks.{first_fault};
-ghost use Rattle.verdict.specs.inner.Scans.{scanned};
+ghost use Rattle.verdict.specs.inner.Scans.{scanned, scan_of};
 ghost use Rattle.region.specs.Region.{Laid, start_of, end_of, total_of, range_at, number_of};
 ghost use Rattle.region.specs.Checks.{segment_checks, region_checks};
 ghost use Rattle.region.specs.inner.Samples.{Mapped, Starts, Counts};
 
-use verdict::Scan;
+use verdict::{Refusal, Rule};
 
 // The bytes of a count. A region starts with its segment count, a segment with its full count and its used count.
 pub const COUNT_SIZE: usize = 4;
@@ -27,13 +27,6 @@ pub struct Region {
     pub count: usize,
     pub shift: u32,
     pub mask: usize,
-}
-
-// Where a range stands.
-#[derive(Clone, Copy)]
-pub enum Place {
-    At(usize),
-    Nowhere,
 }
 
 // Where the first segment starts.
@@ -61,9 +54,9 @@ pub fn next_start(b: &[u8], p: usize, size: usize) -> usize
 }
 
 // Refusals 2 and 5 of segment s, which starts at p.
-fn check_segment(b: &[u8], at: usize, size: usize, s: usize, p: usize) -> Scan
+fn check_segment(b: &[u8], at: usize, size: usize, s: usize, p: usize) -> Result<usize, Refusal>
     requires { (size ≤ 24) × (p ≡ start_of size b.now at s) × (p ≤ length b.now) }
-    ensures { result ≡ scanned (first_fault (segment_checks size b.now at s)) (start_of size b.now at (s + 1)) }
+    ensures { scan_of result ≡ scanned (first_fault (segment_checks size b.now at s)) (start_of size b.now at (s + 1)) }
 {
     if b.len() - p < COUNT_SIZE {
         return Scan::Fault(2, p);
@@ -89,9 +82,9 @@ fn check_segment(b: &[u8], at: usize, size: usize, s: usize, p: usize) -> Scan
 }
 
 // Refusals 2 and 5 of the region at an offset, or where it ends.
-pub fn lay(b: &[u8], at: usize, size: usize) -> Scan
+pub fn lay(b: &[u8], at: usize, size: usize) -> Result<usize, Refusal>
     requires { (at ≤ length b.now) × (size ≤ 24) }
-    ensures { result ≡ scanned (first_fault (region_checks size b.now at)) (end_of size b.now at) }
+    ensures { scan_of result ≡ scanned (first_fault (region_checks size b.now at)) (end_of size b.now at) }
 {
     if b.len() - at < COUNT_SIZE {
         return Scan::Fault(2, at);
@@ -196,7 +189,7 @@ pub fn range_at(
     seg: usize,
     el: usize,
     n: usize,
-) -> Place
+) -> Option<usize>
     requires mapped { Mapped size b.now r.at r × Starts size b.now r.at r.shift segments.now }
     requires el_bound { (el < 65536) × (n < 65536) }
     ensures { result ≡ range_at size b.now r.at seg el n }

@@ -6,7 +6,7 @@ use mathlib.Core.Path.{◌≡◌}
 use Rattle.laws.specs.Halving.{Ascending}
 use Rattle.laws.proofs.Halving.{halving_laws}
 use Rattle.verdict.specs.Checks.{first_fault}
-use Rattle.verdict.specs.declared.Verdict.TheVariants.{Accepted}
+use Rattle.verdict.specs.Verdict.{Accepted}
 use Rattle.verdict.proofs.Laws.{Clean}
 use Rattle.layout.specs.Table.{Table, entries, hash_of}
 use Rattle.strings.specs.Order.{all_entry_checks, string_checks}

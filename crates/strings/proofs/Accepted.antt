@@ -5,7 +5,7 @@ use native.Mathlib.Omega.{arith}
 use mathlib.Core.Path.{◌≡◌, subst, ◌∙◌}
 use mathlib.Core.Logic.{◌↔◌}
 use Rattle.verdict.specs.Checks.{first_fault}
-use Rattle.verdict.specs.declared.Verdict.TheVariants.{Accepted}
+use Rattle.verdict.specs.Verdict.{Accepted}
 use Rattle.verdict.proofs.Laws.{Clean, pass, clean_inv, fault_none, fault_append, append_inv, each_inv, each_clean}
 use Rattle.layout.specs.Table.{Table, entries, hash_of, count}
 use Rattle.strings.specs.Rules.{Resolved, Sized, Hashed, Placed, Indexed, Duplicate, Carried, TableRules}

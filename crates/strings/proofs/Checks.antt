@@ -8,8 +8,8 @@ use lib.ListN.{length}
 use lib.Dec.{eqb, leb}
 use Rattle.verdict.specs.Checks.{first_fault}
 use Rattle.verdict.specs.inner.Tells.{Tells}
-use Rattle.verdict.specs.declared.Verdict.{Verdict}
-use Rattle.verdict.specs.declared.Verdict.TheVariants.{Accepted, Refused}
+use Rattle.verdict.specs.Verdict.{Verdict}
+use Rattle.verdict.specs.Verdict.{Accepted, Refused}
 use Rattle.verdict.proofs.Laws.{pass, stop, tells_yes, tells_no, tells_eqb, tells_leb}
 use Rattle.hash.specs.Hash.{hash_text, bucket_of}
 use Rattle.text.specs.inner.Measure.{Measured}

@@ -4,8 +4,8 @@ use native.Mathlib.Omega.{arith}
 use mathlib.Core.Path.{◌≡◌, refl, ap, ◌∙◌}
 use mathlib.Core.List.{◌++◌}
 use Rattle.verdict.specs.Checks.{first_fault, each}
-use Rattle.verdict.specs.declared.Verdict.{Verdict}
-use Rattle.verdict.specs.declared.Verdict.TheVariants.{Accepted, Refused}
+use Rattle.verdict.specs.Verdict.{Verdict}
+use Rattle.verdict.specs.Verdict.{Accepted, Refused}
 use Rattle.verdict.proofs.Laws.{Clean, fault_none, each_none, each_step, row-none, row_more, row_stop}
 use Rattle.layout.specs.Table.{Table, entries}
 use Rattle.strings.specs.Order.{entry_checks, bucket_entry_checks, all_entry_checks}

@@ -10,7 +10,7 @@ use Rattle.layout.specs.Table.{Table, entries, segment_of, element_of}
 use Rattle.strings.specs.Texts.{spot_at}
 use Rattle.strings.specs.Rules.{Resolved}
 use Rattle.strings.specs.inner.Ahead.{Standing, Seen, Prefetched, Stood, SeenBefore, Room, ReadAhead, Ahead}
-use Rattle.strings.specs.declared.spot.Spot.TheVariants.{At}
+use Rattle.strings.specs.Texts.{At}
 use Rattle.strings.proofs.Filling.{fill, fill_both}
 use Rattle.strings.proofs.Spots.{Spotted, spot-text}
 

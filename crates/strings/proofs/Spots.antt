@@ -21,10 +21,14 @@ use Rattle.strings.specs.Texts.{spot_at, text_to}
 use Rattle.strings.specs.Rules.{Resolved}
 use Rattle.strings.proofs.Places.{segment-at, element-at}
 use Rattle.strings.specs.declared.spot.Spot.{Spot}
-use Rattle.strings.specs.declared.spot.Spot.TheVariants.{At, Nowhere}
+use Rattle.strings.specs.Texts.{At, Nowhere}
+use Rattle.std.specs.Prelude.{Option, Some}
 
-no_spot : {p n : ℕ} → ◌≡◌ {A = Spot} (At p n) Nowhere → ⊥
+no_spot : {p n : ℕ} → ◌≡◌ {A = Option Spot} (At p n) Nowhere → ⊥
 no_spot z = let e : ◌≡◌ {A = ℕ} 0 1 = cc in omega arith
+
+spot_one : {x y : Spot} → ◌≡◌ {A = Option Spot} (Some x) (Some y) → x ≡ y
+spot_one e = cc
 
 module _ (b : List ℕ) (r seg el : ℕ) where
   pub spot_yes : seg < count_of b r → el < used_of 2 b r seg → spot_at b r seg el ≡ At (place_of 2 b r seg el) (room_at b r seg el)
@@ -53,7 +57,7 @@ module _ (b : List ℕ) (r seg el : ℕ) where
           (le_or_lt (count_of b r) seg)
 
       go : Dec (Resolves 2 b r seg el) → Resolves 2 b r seg el × (p ≡ place_of 2 b r seg el) × (n ≡ room_at b r seg el)
-      go (yes h) = let e = spot_yes h.seg_in h.el_in in (h, (cc), (cc))
+      go (yes h) = let e = spot_one (sym q ∙ spot_yes h.seg_in h.el_in) in (h, ap (λ (x : Spot). x.at) e, ap (λ (x : Spot). x.left) e)
       go (no f) = absurd (no_spot (sym q ∙ nowhere f))
 
 -- a segment that the code has located, and its used count
@@ -112,7 +116,7 @@ same-texts t s e p m u f q n v w g = record {
 }
 
 -- the spot of an entry, found by the address that stands in it
-module _ (t : Table) (k j e : ℕ) {r : Spot} (q : e ≡ entry_at t k j)
+module _ (t : Table) (k j e : ℕ) {r : Option Spot} (q : e ≡ entry_at t k j)
     (f : r ≡ spot_at t.bytes t.at (entry_segment t.bytes e) (entry_element t.bytes e)) where
   pub found : spot_at t.bytes t.at (segment_of t k j) (element_of t k j) ≡ r
   found =

@@ -1,8 +1,8 @@
 // One entry: its fields, and refusals 7 to 12.
 ghost use Rattle.std.specs.Prelude.{◌≡◌, ℕ, ◌+◌, ◌*◌, ◌≤◌, ◌<◌, length};
 ghost use Rattle.verdict.specs.Checks.{first_fault};
+ghost use Rattle.verdict.specs.Verdict.{Accepted, answer_of};
 ghost use Rattle.verdict.specs.inner.Tells.{Tells, Sure};
-ghost use Rattle.verdict.specs.declared.Verdict.TheVariants.{Accepted};
 ghost use Rattle.hash.specs.inner.Tables.{Tables};
 ghost use Rattle.layout.specs.Table.{entry_at, entries, count, position_at, listed_segment, listed_element};
 ghost use Rattle.strings.specs.Texts.{spot_at};
@@ -17,7 +17,7 @@ use crate::spot::Spot;
 use crate::{Strings, fields, spot};
 use layout::{BUCKET_COUNT_SIZE, ENTRY_SIZE, POSITION_SIZE};
 use region::SAMPLES;
-use verdict::Verdict;
+use verdict::{Refusal, Rule};
 
 // Where entry j of bucket k stands.
 pub fn entry_at(
@@ -74,7 +74,7 @@ pub fn listed_spot(
     segments: &[u32; SAMPLES],
     buckets: &[u32],
     i: usize,
-) -> Spot
+) -> Option<Spot>
     requires { Held b.now s segments.now buckets.now × (i < count (held_table b.now s buckets.now)) }
     ensures { result ≡ spot_at b.now s.chars.at (listed_segment (held_table b.now s buckets.now) i)
         (listed_element (held_table b.now s buckets.now) i) }
@@ -209,12 +209,12 @@ fn check_order(
     j: usize,
     listed: bool,
     from: usize,
-) -> Verdict
+) -> Result<(), Refusal>
     requires { Held b.now s segments.now buckets.now × Here (held_table b.now s buckets.now) k j
         × ((i : ℕ) → i < j → first_fault (entry_checks (held_table b.now s buckets.now) k i) ≡ Accepted)
         × TextPasses (held_table b.now s buckets.now) k j × Tells (Indexed (held_table b.now s buckets.now) k j) listed
         × Away (held_table b.now s buckets.now) k from j }
-    ensures { result ≡ first_fault (entry_checks (held_table b.now s buckets.now) k j) }
+    ensures { answer_of result ≡ first_fault (entry_checks (held_table b.now s buckets.now) k j) }
 {
     let e = entry_at(b, s, segments, buckets, k, j);
     if !placed(b, s, segments, buckets, k, j) {
@@ -260,12 +260,12 @@ pub(crate) fn check_entry(
     j: usize,
     g: PrefetchedText,
     listed: bool,
-) -> Verdict
+) -> Result<(), Refusal>
     requires { Tables t.now × Held b.now s segments.now buckets.now × Here (held_table b.now s buckets.now) k j
         × ((i : ℕ) → i < j → first_fault (entry_checks (held_table b.now s buckets.now) k i) ≡ Accepted)
         × Prefetched (held_table b.now s buckets.now) k j g.at g.left g.seen × Away (held_table b.now s buckets.now) k g.from j
         × Sure (Indexed (held_table b.now s buckets.now) k j) listed }
-    ensures { result ≡ first_fault (entry_checks (held_table b.now s buckets.now) k j) }
+    ensures { answer_of result ≡ first_fault (entry_checks (held_table b.now s buckets.now) k j) }
 {
     let e = entry_at(b, s, segments, buckets, k, j);
     if g.left == 0 {

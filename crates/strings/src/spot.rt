@@ -14,13 +14,13 @@ pub const ELEMENT_AT: usize = 2;
 
 // Where an address stands and how many characters of its segment's used part are left there.
 #[derive(Clone, Copy)]
-pub enum Spot {
-    At(usize, usize),
-    Nowhere,
+pub struct Spot {
+    pub at: usize,
+    pub left: usize,
 }
 
 // The spot of an address, or nowhere where it does not resolve.
-pub fn spot_at(b: &[u8], chars: Region, segments: &[u32; SAMPLES], seg: usize, el: usize) -> Spot
+pub fn spot_at(b: &[u8], chars: Region, segments: &[u32; SAMPLES], seg: usize, el: usize) -> Option<Spot>
     requires { Mapped 2 b.now chars.at chars × Starts 2 b.now chars.at chars.shift segments.now × (el < 65536) }
     ensures { result ≡ spot_at b.now chars.at seg el }
 {
@@ -36,7 +36,7 @@ pub fn spot_at(b: &[u8], chars: Region, segments: &[u32; SAMPLES], seg: usize, e
 }
 
 // The same for the address that stands at an offset of the file: a list position's, or an attribute's.
-pub fn spot_to(b: &[u8], chars: Region, segments: &[u32; SAMPLES], at: usize) -> Spot
+pub fn spot_to(b: &[u8], chars: Region, segments: &[u32; SAMPLES], at: usize) -> Option<Spot>
     requires { Mapped 2 b.now chars.at chars × Starts 2 b.now chars.at chars.shift segments.now × (at + 4 ≤ length b.now) }
     ensures { result ≡ spot_at b.now chars.at (u16_at b.now at) (u16_at b.now (at + 2)) }
 {
@@ -50,7 +50,7 @@ pub fn spot_to(b: &[u8], chars: Region, segments: &[u32; SAMPLES], at: usize) ->
 }
 
 // The same for the address of the entry at e.
-pub fn entry_spot(b: &[u8], chars: Region, segments: &[u32; SAMPLES], e: usize) -> Spot
+pub fn entry_spot(b: &[u8], chars: Region, segments: &[u32; SAMPLES], e: usize) -> Option<Spot>
     requires { Mapped 2 b.now chars.at chars × Starts 2 b.now chars.at chars.shift segments.now × (e + 16 ≤ length b.now) }
     ensures { result ≡ spot_at b.now chars.at (entry_segment b.now e) (entry_element b.now e) }
 {

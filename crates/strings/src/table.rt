@@ -1,8 +1,9 @@
 // All entries of a table.
 ghost use Rattle.std.specs.Prelude.{◌≡◌, true};
 ghost use Rattle.verdict.specs.Checks.{first_fault};
+ghost use Rattle.verdict.specs.inner.Gives.{Gives};
 ghost use Rattle.verdict.specs.inner.Tells.{Sure};
-ghost use Rattle.verdict.specs.declared.Verdict.TheVariants.{Accepted};
+ghost use Rattle.verdict.specs.Verdict.{Accepted};
 ghost use Rattle.hash.specs.inner.Tables.{Tables};
 ghost use Rattle.strings.specs.Order.{entry_checks, all_entry_checks};
 ghost use Rattle.strings.specs.inner.Begins.{Begun, AllBegun};
@@ -13,14 +14,7 @@ use crate::ahead::PrefetchedText;
 use crate::apart::Span;
 use crate::{Strings, ahead, apart, entry, fields, listed};
 use region::SAMPLES;
-use verdict::Verdict;
-
-// What is found of the entries: the first fault, and whether their texts are known to stand where texts can begin.
-#[derive(Clone, Copy)]
-pub struct CheckedEntries {
-    pub answer: Verdict,
-    pub begun: bool,
-}
+use verdict::Refusal;
 
 // Whether the text of entry j of bucket k, which passed, stands where one can begin; and so do those before it.
 fn still_begun(
@@ -48,17 +42,16 @@ fn still_begun(
     g.seen % 65536 == 0
 }
 
-// Refusals 7 to 12 of every entry, up to the first fault.
+// Refusals 7 to 12 of every entry, up to the first fault; where there is none, whether their texts are known to stand where texts can begin.
 pub fn check_entries(
     b: &[u8],
     t: &[u32; 2048],
     s: Strings,
     segments: &[u32; SAMPLES],
     buckets: &[u32],
-) -> CheckedEntries
+) -> Result<bool, Refusal>
     requires { Tables t.now × Held b.now s segments.now buckets.now }
-    ensures answer { result.answer ≡ first_fault (all_entry_checks (held_table b.now s buckets.now)) }
-    ensures begun { Sure (AllBegun (held_table b.now s buckets.now)) result.begun }
+    ensures { Gives (first_fault (all_entry_checks (held_table b.now s buckets.now))) (Sure (AllBegun (held_table b.now s buckets.now))) result }
 {
     let right = listed::all_listed(b, s, segments, buckets);
     let mut at = [0usize; 64];

@@ -6,7 +6,7 @@ use mathlib.Core.Logic.{◌↔◌}
 use mathlib.Core.List.{List}
 use lib.ListN.{length}
 use Rattle.verdict.specs.Checks.{FirstBroken}
-use Rattle.verdict.specs.declared.Verdict.TheVariants.{Accepted, Refused}
+use Rattle.verdict.specs.Verdict.{Accepted, Refused}
 use Rattle.verdict.proofs.Broken.{broken_iff}
 use Rattle.le.specs.Floats.{double_at}
 use Rattle.hash.specs.Hash.{hash_text}

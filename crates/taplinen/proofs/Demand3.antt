@@ -8,7 +8,7 @@ use mathlib.Core.List.{List, [], ◌++◌}
 use lib.ListN.{length, drop, take}
 use lib.Seq.{take_at}
 use Rattle.verdict.specs.Checks.{Check, first_fault}
-use Rattle.verdict.specs.declared.Verdict.TheVariants.{Accepted, Refused}
+use Rattle.verdict.specs.Verdict.{Accepted, Refused}
 use Rattle.verdict.proofs.Laws.{Clean, pass, stop, fault_none, fault_append, fault_keep}
 use Rattle.layout.specs.declared.Edition.{Edition}
 use Rattle.lookup.specs.declared.Lookup.{Lookup}

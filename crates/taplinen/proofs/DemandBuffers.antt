@@ -8,7 +8,7 @@ use mathlib.Core.List.{List, [], ◌∷◌, ◌++◌}
 use borrow.Author.Tests.{ne_eqb}
 use lib.ListN.{length, get_or, drop}
 use Rattle.verdict.specs.Checks.{Check, check, first_fault}
-use Rattle.verdict.specs.declared.Verdict.TheVariants.{Accepted, Refused}
+use Rattle.verdict.specs.Verdict.{Accepted, Refused}
 use Rattle.verdict.proofs.Laws.{append_inv, clean_inv}
 use Rattle.region.specs.Region.{Resolves, number_of}
 use Rattle.layout.specs.Edition.{node_size}

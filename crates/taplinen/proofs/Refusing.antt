@@ -8,8 +8,8 @@ use lib.ListN.{length, drop, length-append, length-drop}
 use lib.Seq.{drop_at}
 use Rattle.laws.proofs.Order.{le_or_lt}
 use Rattle.verdict.specs.Checks.{Check, first_fault, at_most}
-use Rattle.verdict.specs.declared.Verdict.{Verdict}
-use Rattle.verdict.specs.declared.Verdict.TheVariants.{Accepted, Refused}
+use Rattle.verdict.specs.Verdict.{Verdict}
+use Rattle.verdict.specs.Verdict.{Accepted, Refused}
 use Rattle.verdict.proofs.Laws.{Clean, never, pass, stop, fault_none, fault_append, fault_keep}
 use Rattle.verdict.proofs.Broken.{AllOf, all-broken, append-refused}
 use Rattle.layout.specs.declared.Edition.{Edition}

@@ -1,7 +1,7 @@
 -- Many lookups in one acceptance: the exported questions with many texts.
 use Rattle.std.specs.Prelude.{ℕ, ◌+◌, ◌*◌, ◌≡◌, List, ◌++◌, length}
 use Rattle.verdict.specs.Checks.{first_fault}
-use Rattle.verdict.specs.declared.Verdict.{Verdict}
+use Rattle.verdict.specs.Verdict.{Verdict}
 use Rattle.le.specs.Le.{u32_at}
 use Rattle.layout.specs.Layout.{values, names}
 use Rattle.layout.specs.declared.Edition.{Edition}

@@ -1,7 +1,7 @@
 -- The exported questions (FORMAT, "Questions"): each takes the file and a workspace and accepts first.
 use Rattle.std.specs.Prelude.{ℕ, List, ◌++◌, length}
 use Rattle.verdict.specs.Checks.{first_fault}
-use Rattle.verdict.specs.declared.Verdict.{Verdict}
+use Rattle.verdict.specs.Verdict.{Verdict}
 use Rattle.layout.specs.Header.{header_of}
 use Rattle.layout.specs.Layout.{values, names}
 use Rattle.layout.specs.declared.Edition.{Edition}

@@ -1,6 +1,6 @@
 // The answer that crosses to C.
 ghost use Rattle.std.specs.Prelude.{◌≡◌};
-ghost use Rattle.verdict.specs.declared.Verdict.TheVariants.{Accepted};
+ghost use Rattle.verdict.specs.Verdict.{Accepted};
 ghost use Rattle.lookup.specs.Kinds.{kind_of, told_number};
 ghost use Rattle.taplinen.specs.Answers.{answered};
 

@@ -1,5 +1,6 @@
 // Lookups in a file that is accepted and whose view is held: nothing is checked a second time. The view is lent, and so are its arrays.
 ghost use Rattle.std.specs.Prelude.{◌≡◌, ◌%◌, length};
+ghost use Rattle.verdict.specs.Verdict.{answer_of};
 ghost use Rattle.layout.specs.inner.View.{Fits};
 ghost use Rattle.layout.specs.declared.Edition.TheVariants.{Bits64};
 ghost use Rattle.lookup.specs.Lookup.{text_from};
@@ -9,11 +10,11 @@ ghost use Rattle.batch.specs.inner.Answer.{Answered};
 ghost use Rattle.accept.specs.Rules.{FileRules};
 ghost use Rattle.taplinen.specs.inner.Asked.{IsAsked};
 
-use batch::Batch;
 use layout::View;
 use lookup::{Kind, Lookup};
 use region::SAMPLES;
 use strings::Strings;
+use verdict::Refusal;
 
 // A string table of a view, lent: its parts' places, samples of its segments, and where its buckets start.
 #[derive(Clone, Copy)]
@@ -59,11 +60,11 @@ pub fn find(file: &[u8], v: &View, kind: Kind, text: &[u8]) -> Lookup
 }
 
 // What each of many texts is told.
-pub fn find_texts(file: &[u8], v: &View, kind: Kind, texts: &[u8], answers: &mut [u8]) -> Batch
+pub fn find_texts(file: &[u8], v: &View, kind: Kind, texts: &[u8], answers: &mut [u8]) -> Result<usize, Refusal>
     requires { Fits Bits64 file.now v.now × FileRules Bits64 file.now }
     ensures answer { Answered texts.now (length answers.old) result }
     ensures answers { answers.new
-        ≡ answers_after (told_in kind (table_of Bits64 kind file.now)) texts.now answers.old result.answer }
+        ≡ answers_after (told_in kind (table_of Bits64 kind file.now)) texts.now answers.old (answer_of result) }
 {
     let t = hash::tables();
     let s = asked_table(v, kind);

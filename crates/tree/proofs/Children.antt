@@ -8,7 +8,7 @@ use lib.ListN.{length}
 use Rattle.region.specs.Region.{range_at}
 use Rattle.region.specs.inner.Samples.{Mapped, Starts}
 use Rattle.region.specs.declared.Region.{Region}
-use Rattle.region.specs.declared.Place.TheVariants.{At, Nowhere}
+use Rattle.std.specs.Prelude.{Some, None}
 use Rattle.region.proofs.Laws.{place-fits, range_at_in, range-at-out}
 use Rattle.layout.specs.Edition.{node_size}
 use Rattle.layout.specs.Layout.{nodes_at}
@@ -52,12 +52,12 @@ module _ {ed : Edition} {b : List ℕ} {r : Region} {segments : List ℕ} (g : T
     no_children z = row 0 (record { low = omega (arith, s.1, e.1); few = omega arith; node = λ j l. absurd (omega arith) })
 
     -- the code finds the range, for it resolves
-    pub found-range : Reached ed b p → (n ≡ 0 → ⊥) → range_at (node_size ed) b r.at seg el n ≡ Nowhere → ⊥
+    pub found-range : Reached ed b p → (n ≡ 0 → ⊥) → range_at (node_size ed) b r.at seg el n ≡ None → ⊥
     found-range h z w =
         range-at-out (node_size ed) b r.at seg el n w
         (rw (g.nodes.at_is, s.0, e.0, c) (⊎_elim (λ y. absurd (z (c ∙ y))) (λ y. y) h))
 
-    pub children-at : n < 65536 → {x : ℕ} → range_at (node_size ed) b r.at seg el n ≡ At x
+    pub children-at : n < 65536 → {x : ℕ} → range_at (node_size ed) b r.at seg el n ≡ Some x
         → ChildrenOf ed b p (record { first = seg * 65536 + el; place = x; count = n })
     unfolding node_at
     children-at f {x} h =

@@ -6,11 +6,11 @@ use native.Mathlib.Nat.{add-zero, sub-zero}
 use native.Mathlib.Numerals.{sub-one}
 use native.Mathlib.Omega.{arith}
 use Rattle.verdict.specs.Checks.{first_fault}
-use Rattle.verdict.specs.declared.Verdict.TheVariants.{Accepted, Refused}
+use Rattle.verdict.specs.Verdict.{Accepted, Refused}
 use Rattle.verdict.proofs.Laws.{pass, stop, fault_none, never}
 use Rattle.layout.specs.declared.Edition.{Edition}
-use Rattle.tree.specs.declared.depth.Found.{Found}
-use Rattle.tree.specs.declared.depth.Found.TheVariants.{At, Nothing}
+use Rattle.std.specs.Prelude.{Option}
+use Rattle.std.specs.Prelude.{Some, None}
 use Rattle.tree.specs.Chain.{LiveIn, ranged, ends, first_or, most_levels}
 use Rattle.tree.specs.File.{node_of, tree_of}
 use Rattle.tree.specs.Rules.{FirstDeep}
@@ -19,26 +19,26 @@ use Rattle.tree.specs.inner.Marking.{first_place}
 use Rattle.tree.proofs.Ranged.{not_cons, ranged-none, ranged_open}
 use Rattle.tree.proofs.Chains.{ends_below, below-live, below_nameless, ends-none, ends-first}
 
-nowhere : {p : ℕ} → At p ≡ Nothing → ⊥
+nowhere : {p : ℕ} → Some p ≡ None → ⊥
 nowhere q = let z : ◌≡◌ {A = ℕ} 0 1 = cc in omega arith
 
 module _ (ed : Edition) (b : List ℕ) where
   -- the first place of two lists one behind the other
-  place_none : (x y : List ℕ) → first_place ed b x ≡ Nothing → first_place ed b (x ++ y) ≡ first_place ed b y
+  place_none : (x y : List ℕ) → first_place ed b x ≡ None → first_place ed b (x ++ y) ≡ first_place ed b y
   unfolding first_place
   place_none [] y q = refl
   place_none (e ∷ l) y q = absurd (nowhere q)
 
-  place-some : (x y : List ℕ) {p : ℕ} → first_place ed b x ≡ At p → first_place ed b (x ++ y) ≡ At p
+  place-some : (x y : List ℕ) {p : ℕ} → first_place ed b x ≡ Some p → first_place ed b (x ++ y) ≡ Some p
   unfolding first_place
   place-some [] y q = absurd (nowhere (sym q))
   place-some (e ∷ l) y q = q
 
   -- the first place below the n nodes from node c on
-  unfoldable pub deep_from : ℕ → ℕ → ℕ → Found
+  unfoldable pub deep_from : ℕ → ℕ → ℕ → Option ℕ
   deep_from left c n = first_place ed b (ranged (ends_below (tree_of ed b) left) c n)
 
-  pub deep_here : (left a : ℕ) → left ≡ 0 → first_place ed b (ends (tree_of ed b) left a) ≡ At (node_of ed b a)
+  pub deep_here : (left a : ℕ) → left ≡ 0 → first_place ed b (ends (tree_of ed b) left a) ≡ Some (node_of ed b a)
   unfolding first_place ends
   deep_here left a q = rw q
 
@@ -48,7 +48,7 @@ module _ (ed : Edition) (b : List ℕ) where
   deep_open zero a first n h q e = absurd (h refl)
   deep_open (suc left) a first n h q e = rw (q, e, sub-one, add-zero, sub-zero)
 
-  pub deep_end : (left c n : ℕ) → n ≡ 0 → deep_from left c n ≡ Nothing
+  pub deep_end : (left c n : ℕ) → n ≡ 0 → deep_from left c n ≡ None
   unfolding deep_from first_place
   deep_end left c n h = rw (ranged-none (ends_below (tree_of ed b) left) c n h)
 
@@ -59,16 +59,16 @@ module _ (ed : Edition) (b : List ℕ) where
         let e : first + j + 1 ≡ first + (j + 1) = omega arith in
         rw (sym e) (ranged_open (ends_below (tree_of ed b) left) (first + j) (n - j) (n - (j + 1)) (omega arith))
 
-    pub deep_hit : (x : ℕ) → LiveIn (tree_of ed b) (first + j) → first_place ed b (ends (tree_of ed b) left (first + j)) ≡ At x → deep_from left (first + j) (n - j) ≡ At x
+    pub deep_hit : (x : ℕ) → LiveIn (tree_of ed b) (first + j) → first_place ed b (ends (tree_of ed b) left (first + j)) ≡ Some x → deep_from left (first + j) (n - j) ≡ Some x
     unfolding deep_from
     deep_hit x l q =
         ap (first_place ed b) next ∙ place-some _ _ (ap (first_place ed b) (below-live (tree_of ed b) left (first + j) l) ∙ q)
 
-    deep_past : first_place ed b (ends_below (tree_of ed b) left (first + j)) ≡ Nothing → deep_from left (first + j) (n - j) ≡ deep_from left (first + (j + 1)) (n - (j + 1))
+    deep_past : first_place ed b (ends_below (tree_of ed b) left (first + j)) ≡ None → deep_from left (first + j) (n - j) ≡ deep_from left (first + (j + 1)) (n - (j + 1))
     unfolding deep_from
     deep_past q = ap (first_place ed b) next ∙ place_none _ _ q
 
-    pub deep_miss : LiveIn (tree_of ed b) (first + j) → first_place ed b (ends (tree_of ed b) left (first + j)) ≡ Nothing
+    pub deep_miss : LiveIn (tree_of ed b) (first + j) → first_place ed b (ends (tree_of ed b) left (first + j)) ≡ None
         → deep_from left (first + j) (n - j) ≡ deep_from left (first + (j + 1)) (n - (j + 1))
     deep_miss l q = deep_past (ap (first_place ed b) (below-live (tree_of ed b) left (first + j) l) ∙ q)
 
@@ -79,23 +79,23 @@ module _ (ed : Edition) (b : List ℕ) where
 -- ---- 22
 
 module _ (ed : Edition) (b : List ℕ) where
-  place_empty : (l : List ℕ) → first_place ed b l ≡ Nothing → l ≡ []
+  place_empty : (l : List ℕ) → first_place ed b l ≡ None → l ≡ []
   unfolding first_place
   place_empty [] q = refl
   place_empty (e ∷ l) q = absurd (nowhere q)
 
-  place-first : (l : List ℕ) {p : ℕ} → first_place ed b l ≡ At p → (e : ℕ) × (r : List ℕ) × (l ≡ e ∷ r) × (node_of ed b e ≡ p)
+  place-first : (l : List ℕ) {p : ℕ} → first_place ed b l ≡ Some p → (e : ℕ) × (r : List ℕ) × (l ≡ e ∷ r) × (node_of ed b e ≡ p)
   unfolding first_place
   place-first [] q = absurd (nowhere (sym q))
   place-first (e ∷ l) q = (e, l, refl, (cc))
 
   -- nothing is found where no chain is too long
-  pub depth_clean : first_place ed b (ends (tree_of ed b) most_levels 0) ≡ Nothing → first_fault (depth_checks ed b) ≡ Accepted
+  pub depth_clean : first_place ed b (ends (tree_of ed b) most_levels 0) ≡ None → first_fault (depth_checks ed b) ≡ Accepted
   unfolding depth_checks
   depth_clean q = pass _ _ _ _ _ ((ends-none (tree_of ed b) most_levels 0).0 (place_empty _ q)) ∙ fault_none
 
   -- what is found is the place that 22 names
-  pub depth_fault : {p : ℕ} → first_place ed b (ends (tree_of ed b) most_levels 0) ≡ At p → first_fault (depth_checks ed b) ≡ Refused 22 p
+  pub depth_fault : {p : ℕ} → first_place ed b (ends (tree_of ed b) most_levels 0) ≡ Some p → first_fault (depth_checks ed b) ≡ Refused 22 p
   unfolding depth_checks first_or
   depth_fault q =
       let f = place-first _ q in
@@ -106,9 +106,9 @@ module _ (ed : Edition) (b : List ℕ) where
   pub depth-first : {n p : ℕ} → first_fault (depth_checks ed b) ≡ Refused n p → (n ≡ 22) × ((e : ℕ) × (p ≡ node_of ed b e) × FirstDeep (tree_of ed b) most_levels 0 e)
   depth-first {n} {p} q = go (first_place ed b (ends (tree_of ed b) most_levels 0)) refl
     where
-      go : (f : Found) → first_place ed b (ends (tree_of ed b) most_levels 0) ≡ f → (n ≡ 22) × ((e : ℕ) × (p ≡ node_of ed b e) × FirstDeep (tree_of ed b) most_levels 0 e)
-      go Nothing h = absurd (never q (depth_clean h))
-      go (At x) h =
+      go : (f : Option ℕ) → first_place ed b (ends (tree_of ed b) most_levels 0) ≡ f → (n ≡ 22) × ((e : ℕ) × (p ≡ node_of ed b e) × FirstDeep (tree_of ed b) most_levels 0 e)
+      go None h = absurd (never q (depth_clean h))
+      go (Some x) h =
           let w = place-first _ h in
           let d = depth_fault h in
           ((cc), (w.0, (let z = w.3 in cc), ends-first (tree_of ed b) most_levels 0 w.0 w.1 w.2))

@@ -5,8 +5,8 @@ use native.Mathlib.Omega.{arith}
 use mathlib.Core.Path.{◌≡◌, ap, ◌∙◌}
 use mathlib.Core.List.{List, ◌++◌}
 use Rattle.verdict.specs.Checks.{first_fault, each}
-use Rattle.verdict.specs.declared.Verdict.{Verdict}
-use Rattle.verdict.specs.declared.Verdict.TheVariants.{Accepted, Refused}
+use Rattle.verdict.specs.Verdict.{Verdict}
+use Rattle.verdict.specs.Verdict.{Accepted, Refused}
 use Rattle.verdict.proofs.Laws.{pass, stop, fault_none, each_none, each_step, row-none, row_more, row_stop}
 use Rattle.region.specs.Region.{count_of, used_of}
 use Rattle.layout.specs.Edition.{node_size}

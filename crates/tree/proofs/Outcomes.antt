@@ -6,16 +6,16 @@ use mathlib.Core.List.{List}
 use lib.ListN.{length, drop, replicate}
 use Rattle.laws.specs.inner.Lists.{splice}
 use Rattle.verdict.specs.Checks.{first_fault}
-use Rattle.verdict.specs.declared.Verdict.{Verdict}
-use Rattle.verdict.specs.declared.Verdict.TheVariants.{Accepted, Refused}
+use Rattle.verdict.specs.Verdict.{Verdict}
+use Rattle.verdict.specs.Verdict.{Accepted, Refused}
 use Rattle.verdict.proofs.Laws.{pass, stop, fault_append, fault_keep}
 use Rattle.region.specs.Region.{Laid, start_of, place_of}
 use Rattle.layout.specs.Edition.{node_size}
 use Rattle.layout.specs.Layout.{nodes_at}
 use Rattle.layout.specs.declared.Edition.{Edition}
 use Rattle.nodes.specs.Node.{node_at}
-use Rattle.tree.specs.declared.depth.Found.{Found}
-use Rattle.tree.specs.declared.depth.Found.TheVariants.{At, Nothing}
+use Rattle.std.specs.Prelude.{Option}
+use Rattle.std.specs.Prelude.{Some, None}
 use Rattle.tree.specs.Chain.{ends, most_levels}
 use Rattle.tree.specs.File.{node_of, tree_of, used_node_count}
 use Rattle.tree.specs.Order.{room_checks, all_range_checks, depth_checks}
@@ -53,16 +53,16 @@ module _ (ed : Edition) (b ws : List ℕ) where
     told-range q = told _ w (pass _ _ _ _ _ h ∙ fault_keep (all_range_checks ed b) (depth_checks ed b) (sym a ∙ q)) (left_is _ q)
 
     -- 22; f is the first place found
-    module _ (q : m ≡ Accepted) (f : Found) (d : f ≡ first_place ed b (ends (tree_of ed b) most_levels 0)) where
+    module _ (q : m ≡ Accepted) (f : Option ℕ) (d : f ≡ first_place ed b (ends (tree_of ed b) most_levels 0)) where
       depth_left : first_fault (tree_checks ed b (length ws)) ≡ first_fault (depth_checks ed b)
       unfolding tree_checks room_checks
       depth_left = pass _ _ _ _ _ h ∙ fault_append (all_range_checks ed b) (depth_checks ed b) (sym a ∙ q)
 
-      pub told_deep : {p : ℕ} → Laid (node_size ed) b (nodes_at ed b) → (v : List ℕ) → f ≡ At p → v ≡ splice w 0 (replicate (used_node_count ed b) 0) → Told (Refused 22 p) v
+      pub told_deep : {p : ℕ} → Laid (node_size ed) b (nodes_at ed b) → (v : List ℕ) → f ≡ Some p → v ≡ splice w 0 (replicate (used_node_count ed b) 0) → Told (Refused 22 p) v
       unfolding workspace_after
       told_deep g v e s =
           told _ v (depth_left ∙ depth_fault ed b (sym d ∙ e))
           (s ∙ clear_same ed b w ws (ap (drop (used_node_count ed b)) (left_is Accepted q) ∙ marked-rest ed b g ws))
 
-      pub told_flat : f ≡ Nothing → Told Accepted w
+      pub told_flat : f ≡ None → Told Accepted w
       told_flat e = told _ w (depth_left ∙ depth_clean ed b (sym d ∙ e)) (left_is Accepted q)

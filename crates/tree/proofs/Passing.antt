@@ -9,8 +9,8 @@ use lib.ListN.{length, drop, replicate}
 use Rattle.laws.specs.inner.Lists.{splice}
 use Rattle.le.specs.Le.{u32_at}
 use Rattle.verdict.specs.Checks.{first_fault}
-use Rattle.verdict.specs.declared.Verdict.{Verdict}
-use Rattle.verdict.specs.declared.Verdict.TheVariants.{Accepted, Refused}
+use Rattle.verdict.specs.Verdict.{Verdict}
+use Rattle.verdict.specs.Verdict.{Accepted, Refused}
 use Rattle.verdict.proofs.Laws.{never}
 use Rattle.region.specs.Region.{Resolves, Laid, count_of, used_of, start_of}
 use Rattle.region.specs.inner.Samples.{Mapped}

@@ -10,12 +10,6 @@ use layout::NODE_SIZE;
 use nodes::fields;
 use region::{Region, SAMPLES};
 
-#[derive(Clone, Copy)]
-pub enum Found {
-    At(usize),
-    Nothing,
-}
-
 // The place of the first node that `left` further places lead to from node a, which stands at p.
 pub fn find_deep(
     b: &[u8],
@@ -24,7 +18,7 @@ pub fn find_deep(
     a: usize,
     p: usize,
     left: usize,
-) -> Found
+) -> Option<usize>
     requires { TreeReady Bits64 b.now nodes segments.now × Used Bits64 b.now a × (p ≡ node_of Bits64 b.now a) × (left ≤ 64) }
     ensures { result ≡ first_place Bits64 b.now (ends (tree_of Bits64 b.now) left a) }
 {

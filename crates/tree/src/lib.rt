@@ -3,6 +3,7 @@
 
 ghost use Rattle.std.specs.Prelude.{◌≡◌, length};
 ghost use Rattle.verdict.specs.Checks.{first_fault};
+ghost use Rattle.verdict.specs.Verdict.{answer_of};
 ghost use Rattle.region.specs.inner.Samples.{Counts};
 ghost use Rattle.layout.specs.Edition.{node_size};
 ghost use Rattle.layout.specs.Layout.{nodes_at};
@@ -15,9 +16,8 @@ mod depth;
 mod marks;
 pub mod ranges;
 
-use depth::Found;
 use region::{Region, SAMPLES};
-use verdict::Verdict;
+use verdict::{Refusal, Rule};
 
 // A chain has at most so many nodes.
 pub const MOST_LEVELS: usize = 64;
@@ -33,10 +33,10 @@ pub fn check_tree(
     counts: &[u32; SAMPLES],
     used: usize,
     ws: &mut [u8],
-) -> Verdict
+) -> Result<(), Refusal>
     requires { TreeReady Bits64 b.now nodes segments.now × Counts (node_size Bits64) b.now (nodes_at Bits64 b.now) nodes.shift counts.now
         × (used ≡ used_node_count Bits64 b.now) }
-    ensures answer { result ≡ first_fault (tree_checks Bits64 b.now (length ws.old)) }
+    ensures answer { answer_of result ≡ first_fault (tree_checks Bits64 b.now (length ws.old)) }
     ensures workspace { ws.new ≡ workspace_after Bits64 b.now ws.old (first_fault (tree_checks Bits64 b.now (length ws.old))) }
 {
     if ws.len() < used {

@@ -2,6 +2,7 @@
 ghost use Rattle.std.specs.Prelude.{◌≡◌, ◌+◌, ◌≤◌, ◌<◌, length, replicate};
 ghost use Rattle.laws.specs.inner.Lists.{splice};
 ghost use Rattle.verdict.specs.Checks.{first_fault};
+ghost use Rattle.verdict.specs.Verdict.{answer_of};
 ghost use Rattle.verdict.specs.inner.Tells.{Tells};
 ghost use Rattle.region.specs.inner.Samples.{Counts};
 ghost use Rattle.layout.specs.Edition.{node_size};
@@ -15,7 +16,7 @@ ghost use Rattle.tree.specs.inner.Marking.{TreeReady, Free, Reached, MarkedOne};
 use layout::NODE_SIZE;
 use nodes::fields;
 use region::{Region, SAMPLES, SEGMENT_HEADER};
-use verdict::Verdict;
+use verdict::{Refusal, Rule};
 
 // Whether none of the n nodes from number i on is the root or is marked.
 fn range_free(ws: &[u8], i: usize, n: usize) -> bool
@@ -95,10 +96,10 @@ pub fn mark_nodes(
     counts: &[u32; SAMPLES],
     used: usize,
     ws: &mut [u8],
-) -> Verdict
+) -> Result<(), Refusal>
     requires { TreeReady Bits64 b.now nodes segments.now × Counts (node_size Bits64) b.now (nodes_at Bits64 b.now) nodes.shift counts.now
         × (used ≡ used_node_count Bits64 b.now) × (used_node_count Bits64 b.now ≤ length ws.old) }
-    ensures answer { result ≡ first_fault (all_range_checks Bits64 b.now) }
+    ensures answer { answer_of result ≡ first_fault (all_range_checks Bits64 b.now) }
     ensures workspace { ws.new ≡ workspace_after Bits64 b.now ws.old (first_fault (all_range_checks Bits64 b.now)) }
 {
     set_range(ws, 0, used, 0);

@@ -7,7 +7,7 @@ ghost use Rattle.tree.specs.inner.Children.{ChildrenOf};
 
 use layout::NODE_SIZE;
 use nodes::fields;
-use region::{Place, Region, SAMPLES, SEGMENT_HEADER};
+use region::{Region, SAMPLES, SEGMENT_HEADER};
 
 // The number of the first, where it stands, and how many they are.
 #[derive(Clone, Copy)]

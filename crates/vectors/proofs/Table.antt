@@ -3,7 +3,7 @@ use Prim.Native.Nat.{ℕ}
 use mathlib.Core.Path.{◌≡◌, refl}
 use mathlib.Core.List.{[], ◌∷◌}
 use Rattle.verdict.specs.Checks.{first_fault}
-use Rattle.verdict.specs.declared.Verdict.TheVariants.{Refused}
+use Rattle.verdict.specs.Verdict.{Refused}
 use native.Mathlib.Decide.{dec_le, ℕ_discrete}
 use Rattle.le.specs.Le.{u32_at}
 use Rattle.words.specs.Words.{flags_of, key_index_of, type_of, extended_of}

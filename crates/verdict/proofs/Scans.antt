@@ -5,10 +5,10 @@ use mathlib.Core.Path.{◌≡◌, refl, ap, sym, ◌∙◌}
 use mathlib.Core.List.{List}
 use Rattle.verdict.specs.Checks.{Check, first_fault, each}
 use Rattle.verdict.specs.inner.Scans.{scanned}
-use Rattle.verdict.specs.declared.Verdict.{Verdict}
-use Rattle.verdict.specs.declared.Verdict.TheVariants.{Accepted, Refused}
-use Rattle.verdict.specs.declared.Scan.{Scan}
-use Rattle.verdict.specs.declared.Scan.TheVariants.{End, Fault}
+use Rattle.verdict.specs.Verdict.{Verdict}
+use Rattle.verdict.specs.Verdict.{Accepted, Refused}
+use Rattle.verdict.specs.inner.Scans.{Scan}
+use Rattle.verdict.specs.inner.Scans.{End, Fault}
 use Rattle.verdict.proofs.Laws.{Clean, fault_append, fault_keep, fault_none, each_step, each_none}
 
 -- a scan that has a fault has no end

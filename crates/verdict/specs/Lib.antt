@@ -1,3 +1,4 @@
+pub mod Verdict
 pub mod Checks
 pub mod Decide
 pub mod inner

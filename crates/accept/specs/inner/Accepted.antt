@@ -1,11 +1,11 @@
--- What acceptance answers: the verdict, and a view that fits where the file is accepted.
-use Rattle.std.specs.Prelude.{◌≡◌, List, ℕ, length}
-use Rattle.verdict.specs.declared.Verdict.TheVariants.{Accepted}
+-- What acceptance answers: the verdict, or a view that fits.
+use Rattle.std.specs.Prelude.{List, ℕ, length, Result}
+use Rattle.verdict.specs.inner.Gives.{Gives}
+use Rattle.verdict.specs.declared.Refusal.{Refusal}
 use Rattle.layout.specs.inner.View.{Fits}
 use Rattle.layout.specs.declared.Edition.{Edition}
+use Rattle.layout.specs.declared.View.{View}
 use Rattle.accept.specs.Verdict.{verdict_of}
-use Rattle.accept.specs.declared.Acceptance.{Acceptance}
 
-pub record Judged (ed : Edition) (b ws : List ℕ) (r : Acceptance) : Type 0 where
-  pub answer : r.answer ≡ verdict_of ed b (length ws)
-  pub view : r.answer ≡ Accepted → Fits ed b r.view
+abbrev pub Judged : Edition → List ℕ → List ℕ → Result View Refusal → Type 0
+Judged ed b ws = Gives (verdict_of ed b (length ws)) (Fits ed b)

@@ -1,13 +1,11 @@
 -- What many lookups at once answer in an accepted file.
-use Rattle.std.specs.Prelude.{ℕ, ◌≡◌, List, ◌++◌, length}
+use Rattle.std.specs.Prelude.{ℕ, ◌≡◌, List, ◌++◌, length, Result}
 use Rattle.verdict.specs.Checks.{first_fault}
-use Rattle.verdict.specs.declared.Verdict.TheVariants.{Accepted, Refused}
+use Rattle.verdict.specs.inner.Gives.{Gives}
+use Rattle.verdict.specs.declared.Refusal.{Refusal}
 use Rattle.path.specs.Names.{names_of, path_checks}
 use Rattle.batch.specs.Places.{place_checks}
-use Rattle.batch.specs.declared.Batch.{Batch}
 
--- 24 before 25; otherwise the number of texts. A refusal comes with 0 for it.
-pub record Answered (texts : List ℕ) (room : ℕ) (r : Batch) : Type 0 where
-  pub answer : r.answer ≡ first_fault (path_checks texts ++ place_checks texts room)
-  pub many : r.answer ≡ Accepted → r.texts ≡ length (names_of texts)
-  pub none : (n p : ℕ) → r.answer ≡ Refused n p → r.texts ≡ 0
+-- 24 before 25; otherwise the number of texts.
+abbrev pub Answered : List ℕ → ℕ → Result ℕ Refusal → Type 0
+Answered texts room = Gives (first_fault (path_checks texts ++ place_checks texts room)) (λ n. n ≡ length (names_of texts))

@@ -1,31 +1,39 @@
 -- What the scans of the front and of a table leave. Where a table is refused, nothing says what the starts hold: only
 -- their number stays.
-use Rattle.std.specs.Prelude.{ℕ, ◌≡◌, List, length}
+use Rattle.std.specs.Prelude.{ℕ, ◌≡◌, List, length, Result, Ok}
 use Rattle.verdict.specs.Checks.{first_fault, each}
-use Rattle.verdict.specs.inner.Scans.{scanned}
-use Rattle.verdict.specs.declared.Scan.{Scan}
-use Rattle.verdict.specs.declared.Scan.TheVariants.{End}
+use Rattle.verdict.specs.inner.Scans.{scanned, scan_of}
+use Rattle.verdict.specs.inner.Gives.{Gives}
+use Rattle.verdict.specs.declared.Refusal.{Refusal}
 use Rattle.layout.specs.Table.{Table, bucket_checks, list_at, table_end, table_checks, BucketStarts}
 use Rattle.layout.specs.Layout.{attributes_at, nodes_at, values_at, front_checks}
-use Rattle.layout.specs.declared.front.FrontScan.{FrontScan}
-use Rattle.layout.specs.declared.tables.TableScan.{TableScan}
+use Rattle.layout.specs.declared.front.Front.{Front}
+use Rattle.layout.specs.declared.tables.TableEnds.{TableEnds}
 use Rattle.layout.specs.declared.Edition.{Edition}
 
--- The front: the first of refusals 1 to 5, or where the nodes end with the offsets of the attributes and the nodes kept.
-pub record FrontScanned (ed : Edition) (b : List ℕ) (r : FrontScan) : Type 0 where
-  pub answer : r.answer ≡ scanned (first_fault (front_checks ed b)) (values_at ed b)
-  pub attributes-at : (e : ℕ) → r.answer ≡ End e → r.attributes ≡ attributes_at b
-  pub nodes-at : (e : ℕ) → r.answer ≡ End e → r.nodes ≡ nodes_at ed b
+-- The offsets of the front's regions, and where the nodes end.
+pub record FrontFits (ed : Edition) (b : List ℕ) (f : Front) : Type 0 where
+  pub attributes-at : f.attributes ≡ attributes_at b
+  pub nodes-at : f.nodes ≡ nodes_at ed b
+  pub end : f.end ≡ values_at ed b
+
+-- The front: the first of refusals 1 to 5, or its offsets.
+abbrev pub FrontScanned : Edition → List ℕ → Result Front Refusal → Type 0
+FrontScanned ed b = Gives (first_fault (front_checks ed b)) (FrontFits ed b)
 
 -- The buckets: refusal 2, or where they end with each one's start kept.
-pub record BucketsScanned (t : Table) (r : Scan) (xs : List ℕ) : Type 0 where
-  pub answer : r ≡ scanned (first_fault (each (bucket_checks t) t.buckets 0)) (list_at t)
+pub record BucketsScanned (t : Table) (r : Result ℕ Refusal) (xs : List ℕ) : Type 0 where
+  pub answer : scan_of r ≡ scanned (first_fault (each (bucket_checks t) t.buckets 0)) (list_at t)
   pub long : length xs ≡ t.buckets
-  pub buckets : (e : ℕ) → r ≡ End e → BucketStarts t xs
+  pub buckets : (e : ℕ) → r ≡ Ok e → BucketStarts t xs
 
--- The table: refusals 2 and 5, or where it ends with each bucket's start and the list's place kept.
-pub record TableScanned (t : Table) (most : ℕ) (r : TableScan) (xs : List ℕ) : Type 0 where
-  pub answer : r.answer ≡ scanned (first_fault (table_checks t most)) (table_end t)
+-- Where a table's address count stands, where the table ends, and where its buckets start.
+pub record TableFits (t : Table) (xs : List ℕ) (e : TableEnds) : Type 0 where
+  pub list : e.list ≡ list_at t
+  pub end : e.end ≡ table_end t
+  pub buckets : BucketStarts t xs
+
+-- The table: refusals 2 and 5, or its offsets.
+pub record TableScanned (t : Table) (most : ℕ) (r : Result TableEnds Refusal) (xs : List ℕ) : Type 0 where
+  pub gives : Gives (first_fault (table_checks t most)) (TableFits t xs) r
   pub long : length xs ≡ t.buckets
-  pub list : (e : ℕ) → r.answer ≡ End e → r.list ≡ list_at t
-  pub buckets : (e : ℕ) → r.answer ≡ End e → BucketStarts t xs

@@ -1,7 +1,8 @@
 -- The checked view (FORMAT, "File layout"): the header report, the region places, and where each bucket starts; and its fit to the bytes.
-use Rattle.std.specs.Prelude.{ℕ, ◌≡◌, List}
+use Rattle.std.specs.Prelude.{ℕ, ◌≡◌, List, Result}
 use Rattle.verdict.specs.Checks.{first_fault}
-use Rattle.verdict.specs.declared.Verdict.TheVariants.{Accepted}
+use Rattle.verdict.specs.inner.Gives.{Gives}
+use Rattle.verdict.specs.declared.Refusal.{Refusal}
 use Rattle.region.specs.Region.{total_of}
 use Rattle.region.specs.inner.Samples.{Mapped, Starts, Counts}
 use Rattle.layout.specs.Header.{header_of, key_count}
@@ -11,7 +12,6 @@ use Rattle.layout.specs.Layout.{attributes_at, nodes_at, values_at, names_at, va
 use Rattle.layout.specs.declared.whole.Walk.{Walk}
 use Rattle.layout.specs.declared.Places.{Places}
 use Rattle.layout.specs.declared.View.{View}
-use Rattle.layout.specs.declared.CheckedLayout.{CheckedLayout}
 use Rattle.layout.specs.declared.Edition.{Edition}
 
 -- The places are those of the file.
@@ -38,19 +38,22 @@ pub record Fits (ed : Edition) (b : List ℕ) (v : View) : Type 0 where
   pub value_buckets : BucketStarts (values ed b) v.value_buckets
   pub name_buckets : BucketStarts (names ed b) v.name_buckets
 
--- A walk along the file: the first of refusals 1 to 6, and where there is none the parts' offsets and the buckets' starts.
-pub record Walked (ed : Edition) (b : List ℕ) (w : Walk) (vs ns : List ℕ) : Type 0 where
-  pub answer : w.answer ≡ first_fault (layout_checks ed b)
-  pub attributes-at : w.answer ≡ Accepted → w.attributes ≡ attributes_at b
-  pub nodes-at : w.answer ≡ Accepted → w.nodes ≡ nodes_at ed b
-  pub values-at : w.answer ≡ Accepted → w.values ≡ values_at ed b
-  pub value_list : w.answer ≡ Accepted → w.value_list ≡ list_at (values ed b)
-  pub names-at : w.answer ≡ Accepted → w.names ≡ names_at ed b
-  pub name_list : w.answer ≡ Accepted → w.name_list ≡ list_at (names ed b)
-  pub value_buckets : w.answer ≡ Accepted → BucketStarts (values ed b) vs
-  pub name_buckets : w.answer ≡ Accepted → BucketStarts (names ed b) ns
+-- The parts' offsets and the buckets' starts.
+pub record WalkFits (ed : Edition) (b : List ℕ) (vs ns : List ℕ) (w : Walk) : Type 0 where
+  pub laid : LaidOut ed b
+  pub attributes-at : w.attributes ≡ attributes_at b
+  pub nodes-at : w.nodes ≡ nodes_at ed b
+  pub values-at : w.values ≡ values_at ed b
+  pub value_list : w.value_list ≡ list_at (values ed b)
+  pub names-at : w.names ≡ names_at ed b
+  pub name_list : w.name_list ≡ list_at (names ed b)
+  pub value_buckets : BucketStarts (values ed b) vs
+  pub name_buckets : BucketStarts (names ed b) ns
 
--- What layout answers: the first of refusals 1 to 6, and where there is none a view that fits.
-pub record Viewed (ed : Edition) (b : List ℕ) (r : CheckedLayout) : Type 0 where
-  pub answer : r.answer ≡ first_fault (layout_checks ed b)
-  pub view : r.answer ≡ Accepted → Fits ed b r.view
+-- A walk along the file: the first of refusals 1 to 6, or the offsets of its parts.
+abbrev pub Walked : Edition → List ℕ → Result Walk Refusal → List ℕ → List ℕ → Type 0
+Walked ed b r vs ns = Gives (first_fault (layout_checks ed b)) (WalkFits ed b vs ns) r
+
+-- What layout answers: the first of refusals 1 to 6, or a view that fits.
+abbrev pub Viewed : Edition → List ℕ → Result View Refusal → Type 0
+Viewed ed b = Gives (first_fault (layout_checks ed b)) (Fits ed b)

@@ -1,7 +1,7 @@
 -- What the code holds when it comes to the nodes: the places, the names, and the lent samples and starts.
 use Rattle.std.specs.Prelude.{ℕ, ◌≡◌, List}
 use Rattle.verdict.specs.Checks.{first_fault}
-use Rattle.verdict.specs.declared.Verdict.TheVariants.{Accepted}
+use Rattle.verdict.specs.Verdict.{Accepted}
 use Rattle.region.specs.inner.Samples.{Starts}
 use Rattle.layout.specs.Edition.{attribute_size, node_size}
 use Rattle.layout.specs.Layout.{LaidOut, attributes_at, nodes_at, values}

@@ -1,14 +1,12 @@
 -- What writing the outline of an accepted file answers.
-use Rattle.std.specs.Prelude.{ℕ, ◌≡◌, List, length}
+use Rattle.std.specs.Prelude.{ℕ, ◌≡◌, List, length, Result}
 use Rattle.verdict.specs.Checks.{first_fault}
-use Rattle.verdict.specs.declared.Verdict.TheVariants.{Accepted, Refused}
+use Rattle.verdict.specs.inner.Gives.{Gives}
+use Rattle.verdict.specs.declared.Refusal.{Refusal}
 use Rattle.layout.specs.declared.Edition.{Edition}
 use Rattle.outline.specs.Outline.{outline_of}
 use Rattle.outline.specs.Outlined.{outline_checks}
-use Rattle.outline.specs.declared.Outlined.{Outlined}
 
--- 26, or the outline's length. A refusal comes with 0 for it.
-pub record OutlineWritten (ed : Edition) (b : List ℕ) (room : ℕ) (r : Outlined) : Type 0 where
-  pub answer : r.answer ≡ first_fault (outline_checks ed b room)
-  pub long : r.answer ≡ Accepted → r.length ≡ length (outline_of ed b)
-  pub none : (n p : ℕ) → r.answer ≡ Refused n p → r.length ≡ 0
+-- 26, or the outline's length.
+abbrev pub OutlineWritten : Edition → List ℕ → ℕ → Result ℕ Refusal → Type 0
+OutlineWritten ed b room = Gives (first_fault (outline_checks ed b room)) (λ n. n ≡ length (outline_of ed b))

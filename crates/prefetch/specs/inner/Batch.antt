@@ -8,7 +8,7 @@ use Rattle.layout.specs.Table.{Table}
 use Rattle.layout.specs.declared.Edition.{Edition}
 use Rattle.strings.specs.Texts.{spot_at}
 use Rattle.strings.specs.Rules.{EntryAddress}
-use Rattle.strings.specs.declared.spot.Spot.TheVariants.{At}
+use Rattle.strings.specs.Texts.{At}
 use Rattle.nodes.specs.Attribute.{type_word, text_segment, text_element}
 use Rattle.nodes.specs.Rules.{TextRight}
 use Rattle.prefetch.specs.inner.Slots.{Each}

@@ -4,7 +4,7 @@ use Rattle.le.specs.Le.{u16_at}
 use Rattle.layout.specs.Table.{Table, entries, segment_of, element_of}
 use Rattle.strings.specs.Texts.{spot_at}
 use Rattle.strings.specs.Rules.{Resolved, Indexed}
-use Rattle.strings.specs.declared.spot.Spot.TheVariants.{At}
+use Rattle.strings.specs.Texts.{At}
 
 -- The index of each entry of bucket k is right.
 abbrev pub BucketIndexed : Table → ℕ → Type 0

@@ -3,7 +3,7 @@ use Rattle.std.specs.Prelude.{ℕ, ◌+◌, ◌<◌, ◌≡◌, Bool, true, fals
 use Rattle.laws.specs.inner.Lists.{splice}
 use Rattle.verdict.specs.Checks.{first_fault}
 use Rattle.verdict.specs.inner.Tells.{Tells}
-use Rattle.verdict.specs.declared.Verdict.TheVariants.{Accepted}
+use Rattle.verdict.specs.Verdict.{Accepted}
 use Rattle.region.specs.Region.{Reaches, number_of}
 use Rattle.region.specs.inner.Samples.{Mapped, Starts}
 use Rattle.region.specs.declared.Region.{Region}
@@ -13,8 +13,8 @@ use Rattle.layout.specs.declared.Edition.{Edition}
 use Rattle.nodes.specs.Node.{child_segment, child_element, child_count}
 use Rattle.nodes.specs.Order.{all_node_checks}
 use Rattle.tree.specs.File.{node_of}
-use Rattle.tree.specs.declared.depth.Found.{Found}
-use Rattle.tree.specs.declared.depth.Found.TheVariants.{At, Nothing}
+use Rattle.std.specs.Prelude.{Option}
+use Rattle.std.specs.Prelude.{Some, None}
 
 -- None of the n nodes from number i on is the root or is marked.
 pub record Free (ws : List ℕ) (i n : ℕ) : Type 0 where
@@ -36,9 +36,9 @@ pub record MarkedOne (ed : Edition) (b : List ℕ) (p : ℕ) (ws : List ℕ) (r 
   pub kept : r ≡ false → ws' ≡ ws
 
 -- The place of the first of some nodes.
-unfoldable pub first_place : Edition → List ℕ → List ℕ → Found
-first_place ed b [] = Nothing
-first_place ed b (a ∷ l) = At (node_of ed b a)
+unfoldable pub first_place : Edition → List ℕ → List ℕ → Option ℕ
+first_place ed b [] = None
+first_place ed b (a ∷ l) = Some (node_of ed b a)
 
 -- A file that is laid out and passed 16 to 19 and 23, and the region of its nodes.
 pub record TreeReady (ed : Edition) (b : List ℕ) (r : Region) (segments : List ℕ) : Type 0 where
