@@ -4,14 +4,13 @@ use mathlib.Core.Path.{◌≡◌, subst, ◌∙◌}
 use mathlib.Core.List.{List, ◌++◌}
 use lib.ListN.{length}
 use Rattle.verdict.specs.Checks.{first_fault, each}
-use Rattle.verdict.specs.inner.Scans.{scanned}
+use Rattle.verdict.specs.inner.Gives.{Ends}
 use Rattle.verdict.specs.Verdict.{Refused}
-use Rattle.verdict.specs.inner.Scans.{Scan}
 use Rattle.verdict.proofs.Laws.{Clean, pass, stop, fault_append, fault_keep}
 use Rattle.region.specs.Region.{end_of}
 use Rattle.region.specs.Checks.{region_checks}
 use Rattle.layout.specs.Header.{header_checks, key_checks}
-use Rattle.layout.specs.Table.{Table, table, bucket_checks, list_checks, table_end, table_checks}
+use Rattle.layout.specs.Table.{Table, table, bucket_checks, list_checks, table_checks}
 use Rattle.layout.specs.Edition.{attribute_size, node_size}
 use Rattle.layout.specs.Layout.{attributes_at, nodes_at, values_at, values, values_most, names_at, names, names_most, size_checks, front_checks, footer_checks, layout_checks, value_bucket_count, name_bucket_count}
 use Rattle.layout.specs.inner.Scanned.{TableScanned}
@@ -44,13 +43,13 @@ module _ (ed : Edition) (b : List ℕ) where
   size_stop h = stop _ _ _ _ _ h
 
   -- a region is scanned from where the code found the part before to end
-  pub attributes-scanned : {x : Scan} {e : ℕ} → e ≡ attributes_at b → x ≡ scanned (first_fault (region_checks (attribute_size ed) b e)) (end_of (attribute_size ed) b e)
-      → x ≡ scanned (first_fault (region_checks (attribute_size ed) b (attributes_at b))) (nodes_at ed b)
+  pub attributes-scanned : {x : Result ℕ Refusal} {e : ℕ} → e ≡ attributes_at b → Ends (first_fault (region_checks (attribute_size ed) b e)) (end_of (attribute_size ed) b e) x
+      → Ends (first_fault (region_checks (attribute_size ed) b (attributes_at b))) (nodes_at ed b) x
   unfolding nodes_at
   attributes-scanned q h = rw q at h
 
-  pub nodes-scanned : {x : Scan} {e : ℕ} → e ≡ nodes_at ed b → x ≡ scanned (first_fault (region_checks (node_size ed) b e)) (end_of (node_size ed) b e)
-      → x ≡ scanned (first_fault (region_checks (node_size ed) b (nodes_at ed b))) (values_at ed b)
+  pub nodes-scanned : {x : Result ℕ Refusal} {e : ℕ} → e ≡ nodes_at ed b → Ends (first_fault (region_checks (node_size ed) b e)) (end_of (node_size ed) b e) x
+      → Ends (first_fault (region_checks (node_size ed) b (nodes_at ed b))) (values_at ed b) x
   unfolding values_at
   nodes-scanned q h = rw q at h
 

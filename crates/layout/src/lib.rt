@@ -24,7 +24,7 @@ pub const KEY_SIZE: usize = 8;
 pub const MOST_KEYS: usize = 4096;
 
 // The edition of a file, which decides the sizes of its attributes and nodes.
-#[derive(Clone, Copy)]
+#[derive(Clone, Copy, Debug, PartialEq, Eq)]
 pub enum Edition {
     Bits64,
 }

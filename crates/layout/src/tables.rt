@@ -1,7 +1,7 @@
 // Refusals 2 and 5 along a string table, and where its buckets start.
 ghost use Rattle.std.specs.Prelude.{◌≡◌, ◌+◌, ◌≤◌, length};
 ghost use Rattle.verdict.specs.Checks.{first_fault};
-ghost use Rattle.verdict.specs.inner.Scans.{scanned, scan_of};
+ghost use Rattle.verdict.specs.inner.Gives.{Ends};
 ghost use Rattle.layout.specs.Table.{table, bucket_at, list_at, table_end, bucket_checks, list_checks};
 ghost use Rattle.layout.specs.inner.Scanned.{BucketsScanned, TableScanned};
 
@@ -11,17 +11,17 @@ use verdict::{Refusal, Rule};
 // Bucket k of n, which starts at p.
 fn check_bucket(b: &[u8], at: usize, n: usize, k: usize, p: usize) -> Result<usize, Refusal>
     requires { (p ≡ bucket_at (table b.now at n) k) × (p ≤ length b.now) }
-    ensures { scan_of result ≡ scanned (first_fault (bucket_checks (table b.now at n) k)) (bucket_at (table b.now at n) (k + 1)) }
+    ensures { Ends (first_fault (bucket_checks (table b.now at n) k)) (bucket_at (table b.now at n) (k + 1)) result }
 {
     if b.len() - p < 4 {
-        return Scan::Fault(2, p);
+        return Err(Refusal(Rule::CutShort, p));
     }
     let count = le::u32_at(b, p);
     let e = p + 4;
     if b.len() - e < 16 * count {
-        return Scan::Fault(2, e);
+        return Err(Refusal(Rule::CutShort, e));
     }
-    Scan::End(e + 16 * count)
+    Ok(e + 16 * count)
 }
 
 // All buckets, the first at p: each one's start is kept.
@@ -31,43 +31,34 @@ fn check_buckets(b: &[u8], at: usize, from: usize, buckets: &mut [u32]) -> Resul
 {
     let n = buckets.len();
     let mut p = from;
-    let mut k = 0;
-    while k < n {
-        match check_bucket(b, at, n, k, p) {
-            Scan::End(q) => {
-                buckets[k] = p as u32;
-                p = q;
-            }
-            Scan::Fault(num, place) => {
-                return Scan::Fault(num, place);
-            }
-        }
-        k += 1;
+    for (k, start) in buckets.iter_mut().enumerate() {
+        *start = p as u32;
+        p = check_bucket(b, at, n, k, p)?;
     }
-    Scan::End(p)
+    Ok(p)
 }
 
 // The address list at p.
-fn list(b: &[u8], at: usize, n: usize, p: usize, most: usize) -> Result<usize, Refusal>
+fn check_list(b: &[u8], at: usize, n: usize, p: usize, most: usize) -> Result<usize, Refusal>
     requires { (p ≡ list_at (table b.now at n)) × (p ≤ length b.now) }
-    ensures { scan_of result ≡ scanned (first_fault (list_checks (table b.now at n) most)) (table_end (table b.now at n)) }
+    ensures { Ends (first_fault (list_checks (table b.now at n) most)) (table_end (table b.now at n)) result }
 {
     if b.len() - p < 4 {
-        return Scan::Fault(2, p);
+        return Err(Refusal(Rule::CutShort, p));
     }
     let count = le::u32_at(b, p);
     if count < 1 {
-        return Scan::Fault(5, p);
+        return Err(Refusal(Rule::Count, p));
     }
     if count > most {
-        return Scan::Fault(5, p);
+        return Err(Refusal(Rule::Count, p));
     }
     let e = p + 4;
     let bytes = 4 * (count - 1);
     if b.len() - e < bytes {
-        return Scan::Fault(2, e);
+        return Err(Refusal(Rule::CutShort, e));
     }
-    Scan::End(e + bytes)
+    Ok(e + bytes)
 }
 
 // Where a table's address count stands, and where the table ends.
@@ -78,21 +69,18 @@ pub struct TableEnds {
 }
 
 // The table at an offset, of as many buckets as there are starts to fill.
-pub fn scan_table(b: &[u8], at: usize, buckets: &mut [u32], most: usize) -> Result<TableEnds, Refusal>
+pub fn scan_table(
+    b: &[u8],
+    at: usize,
+    buckets: &mut [u32],
+    most: usize,
+) -> Result<TableEnds, Refusal>
     requires { (at ≤ length b.now) × (length b.now ≤ 1073741824) }
     ensures { TableScanned (table b.now at (length buckets.old)) most result buckets.new }
 {
     let n = buckets.len();
-    let c = region::lay(b, at, CHARACTER_SIZE);
-    let Scan::End(from) = c else {
-        return TableScan { answer: c, list: 0 };
-    };
-    let k = check_buckets(b, at, from, buckets);
-    let Scan::End(p) = k else {
-        return TableScan { answer: k, list: 0 };
-    };
-    TableScan {
-        answer: list(b, at, n, p, most),
-        list: p,
-    }
+    let from = region::lay(b, at, CHARACTER_SIZE)?;
+    let list = check_buckets(b, at, from, buckets)?;
+    let end = check_list(b, at, n, list, most)?;
+    Ok(TableEnds { list, end })
 }

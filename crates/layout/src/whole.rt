@@ -7,11 +7,10 @@ ghost use Rattle.layout.specs.inner.View.{WalkFits, Walked, Fits, Viewed};
 ghost use Rattle.layout.specs.declared.Edition.TheVariants.{Bits64};
 
 use crate::{
-    ATTRIBUTE_SIZE, CHARACTER_SIZE, KEYS_AT, MOST_NAMES, MOST_VALUES,
-    NAME_BUCKETS, NODE_SIZE, Places, VALUE_BUCKETS, View, front, tables,
+    ATTRIBUTE_SIZE, CHARACTER_SIZE, KEYS_AT, MOST_NAMES, MOST_VALUES, NAME_BUCKETS, NODE_SIZE,
+    Places, VALUE_BUCKETS, View, front, tables,
 };
-use le::Float64;
-use region::{Region, SAMPLES};
+use region::SAMPLES;
 use verdict::{Refusal, Rule};
 
 // Where the parts of the file start, and the address counts of the two tables.
@@ -31,15 +30,15 @@ fn footer(b: &[u8], p: usize) -> Result<(), Refusal>
     ensures { answer_of result ≡ first_fault (footer_checks Bits64 b.now) }
 {
     if b.len() - p < 4 {
-        return Verdict::Refused(2, p);
+        return Err(Refusal(Rule::CutShort, p));
     }
     if le::u32_at(b, p) != 0 {
-        return Verdict::Refused(6, p);
+        return Err(Refusal(Rule::Footer, p));
     }
     if b.len() - p > 4 {
-        return Verdict::Refused(6, p + 4);
+        return Err(Refusal(Rule::Footer, p + 4));
     }
-    Verdict::Accepted
+    Ok(())
 }
 
 // Refusals 1 to 6 along the file.
@@ -47,33 +46,18 @@ fn along(b: &[u8], value_buckets: &mut [u32], name_buckets: &mut [u32]) -> Resul
     requires { (length value_buckets.old ≡ value_bucket_count) × (length name_buckets.old ≡ name_bucket_count) }
     ensures { Walked Bits64 b.now result value_buckets.new name_buckets.new }
 {
-    let f = front::scan_front(b);
-    let fa = f.answer;
-    let values = match fa {
-        Scan::End(e) => e,
-        Scan::Fault(n, p) => return walk_refused(n, p),
-    };
-    let v = tables::scan_table(b, values, value_buckets, MOST_VALUES);
-    let va = v.answer;
-    let names = match va {
-        Scan::End(e) => e,
-        Scan::Fault(n, p) => return walk_refused(n, p),
-    };
-    let m = tables::scan_table(b, names, name_buckets, MOST_NAMES);
-    let na = m.answer;
-    let end = match na {
-        Scan::End(e) => e,
-        Scan::Fault(n, p) => return walk_refused(n, p),
-    };
-    Walk {
-        answer: footer(b, end),
-        attributes: f.attributes,
-        nodes: f.nodes,
-        values,
-        value_list: v.list,
-        names,
-        name_list: m.list,
-    }
+    let front = front::scan_front(b)?;
+    let values = tables::scan_table(b, front.end, value_buckets, MOST_VALUES)?;
+    let names = tables::scan_table(b, values.end, name_buckets, MOST_NAMES)?;
+    footer(b, names.end)?;
+    Ok(Walk {
+        attributes: front.attributes,
+        nodes: front.nodes,
+        values: front.end,
+        value_list: values.list,
+        names: values.end,
+        name_list: names.list,
+    })
 }
 
 // The view of a file that passed.
@@ -129,16 +113,6 @@ pub fn check_layout(b: &[u8]) -> Result<View, Refusal>
 {
     let mut value_buckets = [0u32; VALUE_BUCKETS];
     let mut name_buckets = [0u32; NAME_BUCKETS];
-    let w = along(b, &mut value_buckets, &mut name_buckets);
-    let answer = w.answer;
-    if let Verdict::Refused(_, _) = answer {
-        return CheckedLayout {
-            answer,
-            view: no_view(),
-        };
-    }
-    CheckedLayout {
-        answer,
-        view: view_of(b, w, value_buckets, name_buckets),
-    }
+    let walk = along(b, &mut value_buckets, &mut name_buckets)?;
+    Ok(view_of(b, walk, value_buckets, name_buckets))
 }

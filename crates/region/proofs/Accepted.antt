@@ -1,15 +1,13 @@
 -- Refusals 2 and 5 find nothing exactly when the region is laid. Assumes nothing.
 use Prim.Native.Nat.{ℕ, ◌+◌, ◌*◌, ◌≤◌, ◌<◌}
 use native.Mathlib.Omega.{arith}
-use mathlib.Core.Path.{◌≡◌, ap, sym, ◌∙◌}
+use mathlib.Core.Path.{◌≡◌, ap, ◌∙◌}
 use mathlib.Core.Logic.{◌↔◌}
 use mathlib.Core.List.{List, [], ◌∷◌}
 use lib.ListN.{length}
 use Rattle.le.specs.Le.{u32_at}
 use Rattle.verdict.specs.Checks.{Check, at_most, first_fault, each}
-use Rattle.verdict.specs.inner.Scans.{scanned}
-use Rattle.verdict.specs.Verdict.{Verdict}
-use Rattle.verdict.specs.Verdict.{Accepted}
+use Rattle.verdict.specs.Verdict.{Verdict, Accepted}
 use Rattle.verdict.proofs.Laws.{Clean, pass, clean_inv, fault_none, each_inv, each_clean}
 use Rattle.region.specs.Region.{count_of, start_of, full_of, used_of, end_of, Laid}
 use Rattle.region.specs.Checks.{field, segment_checks, region_checks}
@@ -67,10 +65,9 @@ head_checks size b p =
     ∷ []
 
 module _ (size : ℕ) (b : List ℕ) (r : ℕ) where
-  pub segment-told : (s p : ℕ) → p ≡ start_of size b r s → (v : Verdict) → first_fault (head_checks size b p) ≡ v
-      → scanned v (p + 8 + u32_at b p * size) ≡ scanned (first_fault (segment_checks size b r s)) (start_of size b r (s + 1))
+  pub segment-told : (s p : ℕ) → p ≡ start_of size b r s → {v : Verdict} → first_fault (head_checks size b p) ≡ v → first_fault (segment_checks size b r s) ≡ v
   unfolding segment_checks full_of used_of
-  segment-told s p h v q = rw (sym q) (rw (h, start_next size b r s))
+  segment-told s p h q = rw h at q
 
   pub segment_in : (s : ℕ) → Clean (segment_checks size b r s) → start_of size b r (s + 1) ≤ length b
   segment_in s e = omega (arith, start_next size b r s, (segment_good size b r s e).fits)

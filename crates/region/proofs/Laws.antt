@@ -11,8 +11,7 @@ use lib.Seq.{get_or-append-add}
 use borrow.Author.Tests.{lt-ltb, le-ltb, le-leb, lt-leb}
 use Rattle.laws.proofs.Order.{le_or_lt}
 use Rattle.region.specs.Decisions.{ranges?}
-use Rattle.std.specs.Prelude.{Option}
-use Rattle.std.specs.Prelude.{Some, None}
+use Rattle.std.specs.Prelude.{Option, Some, None}
 use Rattle.region.specs.Region.{count_of, start_of, full_of, used_of, end_of, before_of, total_of, place_of, number_of, Resolves, Ranges, Laid, in_segment, used_from, all_used, range_at}
 
 module _ (size : ℕ) (b : List ℕ) (r : ℕ) where

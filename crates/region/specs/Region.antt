@@ -1,9 +1,7 @@
 -- A segmented region (FORMAT, "Segmented regions") of elements of size bytes, at offset r of the file b: a segment count, then for each
 -- segment its full count, its used count and full count elements. Addresses and ranges in it.
-use Rattle.std.specs.Prelude.{ℕ, zero, suc, ◌+◌, ◌*◌, ◌≤◌, ◌<◌, List, [], ◌∷◌, ◌++◌, cond, ◌⊎◌, ◌≡◌, length, ltb, leb}
+use Rattle.std.specs.Prelude.{ℕ, zero, suc, ◌+◌, ◌*◌, ◌≤◌, ◌<◌, List, [], ◌∷◌, ◌++◌, cond, ◌⊎◌, ◌≡◌, length, ltb, leb, Option, Some, None}
 use Rattle.le.specs.Le.{u32_at}
-use Rattle.std.specs.Prelude.{Option}
-use Rattle.std.specs.Prelude.{Some, None}
 
 -- The segment count.
 unfoldable pub count_of : List ℕ → ℕ → ℕ

@@ -4,7 +4,7 @@
 ghost use Rattle.std.specs.Prelude.{◌≡◌, ◌+◌, ◌*◌, ◌≤◌, ◌<◌, ◌^◌, length};
 ghost use Rattle.le.specs.Le.{u32_at};
 ghost use Rattle.verdict.specs.Checks.{first_fault};
-ghost use Rattle.verdict.specs.inner.Scans.{scanned, scan_of};
+ghost use Rattle.verdict.specs.inner.Gives.{Ends};
 ghost use Rattle.region.specs.Region.{Laid, start_of, end_of, total_of, range_at, number_of};
 ghost use Rattle.region.specs.Checks.{segment_checks, region_checks};
 ghost use Rattle.region.specs.inner.Samples.{Mapped, Starts, Counts};
@@ -21,7 +21,7 @@ pub const SEGMENT_HEADER: usize = 8;
 pub const SAMPLES: usize = 1024;
 
 // A region of the file: its offset, its segment count, and how its samples are spaced.
-#[derive(Clone, Copy)]
+#[derive(Clone, Copy, Debug, PartialEq, Eq)]
 pub struct Region {
     pub at: usize,
     pub count: usize,
@@ -56,57 +56,48 @@ pub fn next_start(b: &[u8], p: usize, size: usize) -> usize
 // Refusals 2 and 5 of segment s, which starts at p.
 fn check_segment(b: &[u8], at: usize, size: usize, s: usize, p: usize) -> Result<usize, Refusal>
     requires { (size ≤ 24) × (p ≡ start_of size b.now at s) × (p ≤ length b.now) }
-    ensures { scan_of result ≡ scanned (first_fault (segment_checks size b.now at s)) (start_of size b.now at (s + 1)) }
+    ensures { Ends (first_fault (segment_checks size b.now at s)) (start_of size b.now at (s + 1)) result }
 {
     if b.len() - p < COUNT_SIZE {
-        return Scan::Fault(2, p);
+        return Err(Refusal(Rule::CutShort, p));
     }
     let full = le::u32_at(b, p);
     if full > 65535 {
-        return Scan::Fault(5, p);
+        return Err(Refusal(Rule::Count, p));
     }
     let u = p + COUNT_SIZE;
     if b.len() - u < COUNT_SIZE {
-        return Scan::Fault(2, u);
+        return Err(Refusal(Rule::CutShort, u));
     }
     let used = le::u32_at(b, u);
     if used > full {
-        return Scan::Fault(5, u);
+        return Err(Refusal(Rule::Count, u));
     }
     let e = p + SEGMENT_HEADER;
     let bytes = full * size;
     if b.len() - e < bytes {
-        return Scan::Fault(2, e);
+        return Err(Refusal(Rule::CutShort, e));
     }
-    Scan::End(e + bytes)
+    Ok(e + bytes)
 }
 
 // Refusals 2 and 5 of the region at an offset, or where it ends.
 pub fn lay(b: &[u8], at: usize, size: usize) -> Result<usize, Refusal>
     requires { (at ≤ length b.now) × (size ≤ 24) }
-    ensures { scan_of result ≡ scanned (first_fault (region_checks size b.now at)) (end_of size b.now at) }
+    ensures { Ends (first_fault (region_checks size b.now at)) (end_of size b.now at) result }
 {
     if b.len() - at < COUNT_SIZE {
-        return Scan::Fault(2, at);
+        return Err(Refusal(Rule::CutShort, at));
     }
     let n = le::u32_at(b, at);
     if n > 65535 {
-        return Scan::Fault(5, at);
+        return Err(Refusal(Rule::Count, at));
     }
     let mut p = at + COUNT_SIZE;
-    let mut s = 0;
-    while s < n {
-        match check_segment(b, at, size, s, p) {
-            Scan::End(q) => {
-                p = q;
-            }
-            Scan::Fault(num, place) => {
-                return Scan::Fault(num, place);
-            }
-        }
-        s += 1;
+    for s in 0..n {
+        p = check_segment(b, at, size, s, p)?;
     }
-    Scan::End(p)
+    Ok(p)
 }
 
 // The region at an offset that is laid, with the widest spacing of samples that its segments need.
@@ -136,13 +127,11 @@ pub fn sample_starts(b: &[u8], r: Region, size: usize, segments: &mut [u32; SAMP
 {
     let mask = r.mask;
     let mut p = first_start(r);
-    let mut s = 0;
-    while s < r.count {
+    for s in 0..r.count {
         if s & mask == 0 {
             segments[s >> r.shift] = p as u32;
         }
         p = next_start(b, p, size);
-        s += 1;
     }
 }
 
@@ -154,14 +143,12 @@ pub fn sample_counts(b: &[u8], r: Region, size: usize, counts: &mut [u32; SAMPLE
     let mask = r.mask;
     let mut p = first_start(r);
     let mut n = 0;
-    let mut s = 0;
-    while s < r.count {
+    for s in 0..r.count {
         if s & mask == 0 {
             counts[s >> r.shift] = n as u32;
         }
         n += used_count(b, p);
         p = next_start(b, p, size);
-        s += 1;
     }
     n
 }
@@ -171,11 +158,9 @@ pub fn locate(b: &[u8], r: Region, size: usize, segments: &[u32; SAMPLES], seg: 
     requires { Mapped size b.now r.at r × Starts size b.now r.at r.shift segments.now × (seg < r.count) }
     ensures { result ≡ start_of size b.now r.at seg }
 {
-    let mut left = seg & r.mask;
-    let mut p = le::wide(segments[seg >> r.shift]);
-    while left > 0 {
+    let mut p = segments[seg >> r.shift] as usize;
+    for _ in 0..seg & r.mask {
         p = next_start(b, p, size);
-        left -= 1;
     }
     p
 }
@@ -195,13 +180,13 @@ pub fn range_at(
     ensures { result ≡ range_at size b.now r.at seg el n }
 {
     if seg >= r.count {
-        return Place::Nowhere;
+        return None;
     }
     let p = locate(b, r, size, segments, seg);
     if el + n > used_count(b, p) {
-        return Place::Nowhere;
+        return None;
     }
-    Place::At(p + SEGMENT_HEADER + el * size)
+    Some(p + SEGMENT_HEADER + el * size)
 }
 
 // The running number of seg:el among the used elements.
@@ -219,13 +204,11 @@ pub fn number(
     ensures { result ≡ number_of size b.now r.at seg el }
 {
     let k = seg >> r.shift;
-    let mut left = seg & r.mask;
-    let mut p = le::wide(segments[k]);
-    let mut n = le::wide(counts[k]);
-    while left > 0 {
+    let mut p = segments[k] as usize;
+    let mut n = counts[k] as usize;
+    for _ in 0..seg & r.mask {
         n += used_count(b, p);
         p = next_start(b, p, size);
-        left -= 1;
     }
     n + el
 }

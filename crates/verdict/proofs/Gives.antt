@@ -1,6 +1,8 @@
 -- Answers that come with a value where nothing is refused, and how a refusal goes on from one answer to the next. Assumes nothing.
-use mathlib.Core.Path.{◌≡◌, refl, ap, sym, subst, ◌∙◌}
+use mathlib.Core.Path.{◌≡◌, ap, sym, subst, ◌∙◌}
 use Rattle.std.specs.Prelude.{Result, Ok, Err}
+use Rattle.std.specs.Result.{IsErrAnd}
+use Rattle.std.proofs.lemmas.Result.{err_from_is_err_and}
 use Rattle.verdict.specs.Verdict.{Verdict, Accepted, refused, answer_of}
 use Rattle.verdict.specs.declared.Refusal.{Refusal}
 use Rattle.verdict.specs.inner.Gives.{Gives}
@@ -29,3 +31,10 @@ module _ {T : Type 0} {v : Verdict} {a : Result T Refusal} (g : answer_of a ≡ 
 
   pub refused_of : {r : Refusal} → a ≡ Err r → v ≡ refused r
   refused_of e = sym g ∙ ap answer_of e
+
+-- a `?` ends a function with the refusal that it met
+pub gives_exit : {T : Type 0} {v : Verdict} {P : T → Type 0} (a : Result T Refusal) (r : Refusal) → IsErrAnd a (λ q. q ≡ r) → v ≡ refused r → Gives v P a
+gives_exit a r h q = let e = err_from_is_err_and a h in rw (e.1, e.2) (gives_err q)
+
+pub says_exit : {T : Type 0} {v : Verdict} (a : Result T Refusal) (r : Refusal) → IsErrAnd a (λ q. q ≡ r) → v ≡ refused r → answer_of a ≡ v
+says_exit a r h q = let e = err_from_is_err_and a h in rw (e.1, e.2) (sym q)

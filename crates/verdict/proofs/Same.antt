@@ -5,8 +5,7 @@ use native.Mathlib.Omega.{arith}
 use mathlib.Core.Path.{◌≡◌, refl, sym, ◌∙◌}
 use mathlib.Core.Logic.{◌⊎◌, inl, inr, ⊎_elim}
 use mathlib.Core.List.{List, ◌++◌}
-use Rattle.verdict.specs.Verdict.{Verdict}
-use Rattle.verdict.specs.Verdict.{Accepted, Refused}
+use Rattle.verdict.specs.Verdict.{Verdict, Accepted, Refused}
 use Rattle.verdict.specs.Checks.{Check, first_fault, each}
 use Rattle.verdict.proofs.Laws.{fault_append, fault_keep}
 

@@ -1,8 +1,7 @@
 -- Refusals (FORMAT, "Refusals"): checks as data, in the order in which they are to run, and the first that does not hold.
 use Rattle.std.specs.Prelude.{◌≡◌, ℕ, zero, suc, ◌+◌, ◌≤◌, ◌<◌, List, [], ◌∷◌, ◌++◌}
 use Rattle.std.proofs.Math.Decide.{dec_le, ℕ_discrete}
-use Rattle.verdict.specs.Verdict.{Verdict}
-use Rattle.verdict.specs.Verdict.{Accepted, Refused}
+use Rattle.verdict.specs.Verdict.{Verdict, Accepted, Refused}
 
 -- A refusal's number, its place, what is to hold, and how that is decided.
 pub data Check : Type 1 where

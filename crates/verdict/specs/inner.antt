@@ -1,3 +1,2 @@
 pub mod Gives
-pub mod Scans
 pub mod Tells

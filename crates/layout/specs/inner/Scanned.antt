@@ -1,8 +1,6 @@
--- What the scans of the front and of a table leave. Where a table is refused, nothing says what the starts hold: only
--- their number stays.
-use Rattle.std.specs.Prelude.{ℕ, ◌≡◌, List, length, Result, Ok}
+-- What the scans of the front and of a table leave. Where a table is refused, nothing says what the starts hold.
+use Rattle.std.specs.Prelude.{ℕ, ◌≡◌, List, Result}
 use Rattle.verdict.specs.Checks.{first_fault, each}
-use Rattle.verdict.specs.inner.Scans.{scanned, scan_of}
 use Rattle.verdict.specs.inner.Gives.{Gives}
 use Rattle.verdict.specs.declared.Refusal.{Refusal}
 use Rattle.layout.specs.Table.{Table, bucket_checks, list_at, table_end, table_checks, BucketStarts}
@@ -21,11 +19,14 @@ pub record FrontFits (ed : Edition) (b : List ℕ) (f : Front) : Type 0 where
 abbrev pub FrontScanned : Edition → List ℕ → Result Front Refusal → Type 0
 FrontScanned ed b = Gives (first_fault (front_checks ed b)) (FrontFits ed b)
 
--- The buckets: refusal 2, or where they end with each one's start kept.
-pub record BucketsScanned (t : Table) (r : Result ℕ Refusal) (xs : List ℕ) : Type 0 where
-  pub answer : scan_of r ≡ scanned (first_fault (each (bucket_checks t) t.buckets 0)) (list_at t)
-  pub long : length xs ≡ t.buckets
-  pub buckets : (e : ℕ) → r ≡ Ok e → BucketStarts t xs
+-- Where the buckets end, and where each one starts.
+pub record BucketsFit (t : Table) (xs : List ℕ) (e : ℕ) : Type 0 where
+  pub end : e ≡ list_at t
+  pub buckets : BucketStarts t xs
+
+-- The buckets: refusal 2, or their offsets.
+abbrev pub BucketsScanned : Table → Result ℕ Refusal → List ℕ → Type 0
+BucketsScanned t r xs = Gives (first_fault (each (bucket_checks t) t.buckets 0)) (BucketsFit t xs) r
 
 -- Where a table's address count stands, where the table ends, and where its buckets start.
 pub record TableFits (t : Table) (xs : List ℕ) (e : TableEnds) : Type 0 where
@@ -34,6 +35,5 @@ pub record TableFits (t : Table) (xs : List ℕ) (e : TableEnds) : Type 0 where
   pub buckets : BucketStarts t xs
 
 -- The table: refusals 2 and 5, or its offsets.
-pub record TableScanned (t : Table) (most : ℕ) (r : Result TableEnds Refusal) (xs : List ℕ) : Type 0 where
-  pub gives : Gives (first_fault (table_checks t most)) (TableFits t xs) r
-  pub long : length xs ≡ t.buckets
+abbrev pub TableScanned : Table → ℕ → Result TableEnds Refusal → List ℕ → Type 0
+TableScanned t most r xs = Gives (first_fault (table_checks t most)) (TableFits t xs) r

@@ -8,8 +8,8 @@ use Rattle.region.specs.Checks.{segment_checks, region_checks}
 use Rattle.region.proofs.lay.Given as goal
 
 abbrev pub invariant-loop-s : goal.invariant-loop-s
-invariant-loop-s l = (l.p ≤ length l.b) × (l.p ≡ start_of l.size l.b l.at l.s) × (l.s ≤ l.n)
-    × (first_fault (region_checks l.size l.b l.at) ≡ first_fault (each (segment_checks l.size l.b l.at) (l.n - l.s) l.s))
-
-abbrev pub decreases-loop-s : goal.decreases-loop-s
-decreases-loop-s l = l.n - l.s
+invariant-loop-s l = record {
+  inside : l.p ≤ length l.b;
+  place : l.p ≡ start_of l.size l.b l.at l.s;
+  rest : first_fault (region_checks l.size l.b l.at) ≡ first_fault (each (segment_checks l.size l.b l.at) (l.n - l.s) l.s);
+}

@@ -1,81 +1,42 @@
-use Prim.Native.Nat.{ℕ, ◌+◌, ◌-◌, ◌*◌, ◌^◌, ◌≤◌, ◌<◌}
+use Prim.Native.Nat.{ℕ, ◌+◌, ◌-◌, ◌^◌, ◌<◌}
+use native.Mathlib.Nat.{add-zero}
 use native.Mathlib.Omega.{arith}
 use mathlib.Core.Path.{◌≡◌, ap, ◌∙◌}
-use lib.ListN.{length}
-use Rattle.le.specs.Le.{u32_at}
+use lib.Bits.{bit_and}
 use Rattle.region.specs.Region.{before_of, number_of}
-use Rattle.region.proofs.Samples.{segment-fits, sample_in, mask_le, sample_read, start_more, before_more, count_low}
-use Rattle.region.proofs.number.Invariants.{Stands}
+use Rattle.region.proofs.Samples.{segment-fits, mask_le, sample_read, start_more, before_more, count_low}
 use Rattle.region.proofs.number.Goals as goal
-use Rattle.region.proofs.number.Goals.{At-loop-left, In-loop-left}
+use Rattle.region.proofs.number.Goals.{At-loop}
 
-here : (c : At-loop-left)
-    → let a = c.args in
-    Stands a.size a.b.now a.r.at (a.seg - c.loop-left.left) c.loop-left.p c.loop-left.n
-here c =
-    let m = c.requires.mapped.0 in
-    c.loop-left.invariant.1 _ (
-      c.wide-p.ensures.0 ∙ sample_read m.stride _ c.args.seg _ c.requires.seg_lt_count.0 m.count_is c.requires.mapped.1.sampled,
-      c.wide-n.ensures.0 ∙ sample_read m.stride _ c.args.seg _ c.requires.seg_lt_count.0 m.count_is c.requires.mapped.2.sampled,
-    )
-
-fits : (c : In-loop-left)
-    → let a = c.args in let p = c.loop-left.p in
-    p + 8 + u32_at a.b.now p * a.size ≤ length a.b.now
-fits c =
-    segment-fits _ _ _ c.requires.mapped.0 (c.args.seg - c.loop-left.left) _ (omega arith) ((let it : let a = c.args in
-    Stands a.size a.b.now a.r.at (a.seg - c.loop-left.left) c.loop-left.p c.loop-left.n = let m = c.requires.mapped.0 in
-    c.loop-left.invariant.1 _ (
-      c.wide-p.ensures.0 ∙ sample_read m.stride _ c.args.seg _ c.requires.seg_lt_count.0 m.count_is c.requires.mapped.1.sampled,
-      c.wide-n.ensures.0 ∙ sample_read m.stride _ c.args.seg _ c.requires.seg_lt_count.0 m.count_is c.requires.mapped.2.sampled,
-    ) in it)).0
-
-low : (c : At-loop-left) → c.loop-left.n < 2 ^ 32
+low : (c : At-loop) → c.loop.n < 2 ^ 32
 low c =
-    count_low _ _ _ c.requires.mapped.0 (c.args.seg - c.loop-left.left) _ (omega arith) (here c).1
+    count_low _ _ _ c.requires.mapped.0 _ _ (omega (arith, mask_le c.requires.mapped.0.stride c.args.seg)) c.loop.invariant.before
 
-pub overflow_shr-k : goal.overflow_shr-k
-overflow_shr-k c = omega (arith, c.requires.mapped.0.stride.low)
-
-pub offset_bounds-segments-k : goal.offset_bounds-segments-k
-offset_bounds-segments-k c = record { fits = omega (arith, sample_in c.requires.mapped.0.stride _ c.requires.seg_lt_count.0) }
-
-pub bounds-segments-k : goal.bounds-segments-k
-bounds-segments-k c = sample_in c.requires.mapped.0.stride _ c.requires.seg_lt_count.0
-
-pub offset_bounds-counts-k : goal.offset_bounds-counts-k
-offset_bounds-counts-k c = (record { fits = omega (arith, sample_in c.requires.mapped.0.stride _ c.requires.seg_lt_count.0) })
-
-pub bounds-counts-k : goal.bounds-counts-k
-bounds-counts-k c = (sample_in c.requires.mapped.0.stride _ c.requires.seg_lt_count.0)
-
-pub loop-left-init : goal.loop-left-init
-loop-left-init c = (mask_le c.requires.mapped.0.stride _, λ at h. h)
-
-pub used_count-n-requires : goal.used_count-n-requires
-used_count-n-requires c = omega (arith, fits (goal.at.used_count-n-requires c).In-loop-left)
+pub loop-init : goal.loop-init
+loop-init c = let m = c.requires.mapped in
+    let s = c.args.seg in record {
+      place = rw add-zero (sample_read m.0.stride _ s _ c.requires.seg_lt_count.0 m.0.count_is m.1.sampled);
+      before = rw add-zero (sample_read m.0.stride _ s _ c.requires.seg_lt_count.0 m.0.count_is m.2.sampled);
+    }
 
 pub overflow_add-n : goal.overflow_add-n
-overflow_add-n c = record { fits = omega (arith, low (goal.at.overflow_add-n c).At-loop-left) }
+overflow_add-n c = record { fits = omega (arith, low (goal.at.overflow_add-n c).At-loop) }
 
 pub next_start-p-requires : goal.next_start-p-requires
-next_start-p-requires c = fits (goal.at.next_start-p-requires c).In-loop-left
+next_start-p-requires c =
+    segment-fits _ _ _ c.requires.mapped.0 _ _ (omega (arith, mask_le c.requires.mapped.0.stride c.args.seg)) c.loop.invariant.place
 
-pub loop-left-preserved : goal.loop-left-preserved
-loop-left-preserved c = (
-  omega arith,
-  λ at h.
-      let q = c.loop-left.invariant.1 at h in (
-        start_more _ _ at _ _ _ _ (omega arith) q.0 c.next_start-p.ensures,
-        before_more _ _ at _ _ _ _ _ (omega arith) q.0 q.1 c.used_count-n.ensures.0,
-      ),
-)
+pub loop-preserved : goal.loop-preserved
+loop-preserved c = let i = c.loop.invariant in record {
+  place = start_more _ _ _ _ _ _ _ (omega arith) i.place c.next_start-p.ensures;
+  before = before_more _ _ _ _ _ _ _ _ (omega arith) i.place i.before c.used_count-n.ensures.0;
+}
 
 pub overflow_add-result : goal.overflow_add-result
-overflow_add-result c = record { fits = omega (arith, low (goal.at.overflow_add-result c).At-loop-left) }
+overflow_add-result c = record { fits = omega (arith, low (goal.at.overflow_add-result c).At-loop) }
 
 pub returns : goal.returns
 unfolding number_of
 returns c = let a = c.args in
-    let e : a.seg - c.loop-left.left ≡ a.seg = omega arith in
-    ap (λ (x : ℕ). x + a.el) ((here (goal.at.returns c).At-loop-left).1 ∙ ap (before_of a.size a.b.now a.r.at) e)
+    let e : a.seg - bit_and a.seg a.r.mask + c.loop.counter ≡ a.seg = omega (arith, mask_le c.requires.mapped.0.stride c.args.seg) in
+    ap (λ (x : ℕ). x + a.el) (c.loop.invariant.before ∙ ap (before_of a.size a.b.now a.r.at) e)

@@ -4,7 +4,7 @@ use native.Mathlib.Nat.{mul-le-mul}
 use mathlib.Core.Path.{ap, sym, ◌∙◌}
 use lib.ListN.{length}
 use Rattle.le.specs.Le.{u32_at}
-use Rattle.region.specs.declared.Place.TheVariants.{At}
+use Rattle.std.specs.Prelude.{Some}
 use Rattle.region.proofs.Laws.{range_at_yes, range_at_no}
 use Rattle.region.proofs.Samples.{segment-fits, product_small, used-at, place_at}
 use Rattle.region.proofs.range_at.Goals as goal
@@ -36,5 +36,5 @@ overflow_add-result-2 c = let m = mul-le-mul {n₁ = c.args.el} {m₁ = c.args.s
 
 pub returns : goal.returns
 returns c = let u = used-at _ _ _ _ _ _ c.locate-p.ensures c.used_count.ensures.0 in
-    ap At (place_at _ _ _ _ _ c.args.el c.locate-p.ensures)
+    ap Some (place_at _ _ _ _ _ c.args.el c.locate-p.ensures)
     ∙ sym (range_at_yes _ _ _ _ _ _ (record { seg_in = omega (arith, c.requires.mapped.0.count_is); els_in = omega arith }))

@@ -1,42 +1,34 @@
 use native.Mathlib.Omega.{arith}
-use mathlib.Core.Path.{◌≡◌, refl, sym, ◌∙◌}
-use Rattle.verdict.proofs.Laws.{Clean}
-use Rattle.region.specs.Region.{end_of}
-use Rattle.region.specs.Checks.{region_checks}
-use Rattle.verdict.proofs.Scans.{scanned_end, scanned_fault, told}
+use mathlib.Core.Path.{sym, ◌∙◌}
+use Rattle.verdict.proofs.Gives.{gives_ok, gives_exit, given, refuses}
 use Rattle.layout.proofs.Laws.{bucket-first}
 use Rattle.layout.proofs.Accepted.{region_end, list_in}
-use Rattle.layout.proofs.Ways.{table_stop, characters_stop, rows_stop, list_left}
+use Rattle.layout.proofs.Ways.{characters_stop, rows_stop, list_left}
 use Rattle.layout.proofs.tables.scan_table.Goals as goal
-use Rattle.layout.proofs.tables.scan_table.Goals.{In-End}
 
--- what is known once the characters have ended
-characters_done : (c : In-End) → Clean (region_checks 2 c.args.b.now c.args.at) × (c.in-End.from ≡ end_of 2 c.args.b.now c.args.at)
-characters_done c = scanned_end _ _ c.lay-c.ensures c.in-End.is
+pub returns-in_err-from : goal.returns-in_err-from
+returns-in_err-from c = gives_exit _ _ c.from_residual.ensures.1 (characters_stop _ _ (refuses c.lay.ensures c.in_err-from.was))
 
-pub returns-in_default : goal.returns-in_default
-returns-in_default c = table_stop _ _ _ _ (characters_stop _ _ (scanned_fault _ _ c.lay-c.ensures c.in_default.is)) c.in_default.is refl
+pub check_buckets-requires : goal.check_buckets-requires
+check_buckets-requires c = let r = given c.lay.ensures c.in_ok-from.was in
+    (r.1 ∙ sym (bucket-first _), omega (arith, r.1, region_end _ _ _ r.0), c.requires.1)
 
-pub check_buckets-k-requires : goal.check_buckets-k-requires
-check_buckets-k-requires c = let q = characters_done (goal.at.check_buckets-k-requires c).In-End in
-    (q.1 ∙ sym (bucket-first _), omega (arith, q.1, region_end _ _ _ q.0), c.requires.1)
+pub returns-in_err-list : goal.returns-in_err-list
+returns-in_err-list c = let r = given c.lay.ensures c.in_ok-from.was in
+    gives_exit _ _ c.from_residual-in_err-list.ensures.1 (rows_stop _ _ r.0 (refuses c.check_buckets.ensures c.in_err-list.was))
 
-pub returns-in_default-k : goal.returns-in_default-k
-returns-in_default-k c = let t = c.in_default-k.is in
-    let k = c.check_buckets-k.ensures in
-    table_stop _ _ _ _ (rows_stop _ _ (characters_done (goal.at.returns-in_default-k c).In-End).0 (scanned_fault _ _ k.answer t)) t k.long
+pub check_list-requires : goal.check_list-requires
+check_list-requires c = let r = given c.lay.ensures c.in_ok-from.was in
+    let k = given c.check_buckets.ensures c.in_ok-list.was in
+    (k.1.end, omega (arith, k.1.end, list_in _ r.0 k.0))
 
-pub list-requires : goal.list-requires
-list-requires c = let s = scanned_end _ _ c.check_buckets-k.ensures.answer c.in-End-k.is in
-    (s.1, omega (arith, s.1, list_in _ (characters_done (goal.at.list-requires c).In-End).0 s.0))
+pub returns-in_err-end : goal.returns-in_err-end
+returns-in_err-end c = let r = given c.lay.ensures c.in_ok-from.was in
+    let k = given c.check_buckets.ensures c.in_ok-list.was in
+    gives_exit _ _ c.from_residual-in_err-end.ensures.1 (list_left _ _ r.0 k.0 ∙ refuses c.check_list.ensures c.in_err-end.was)
 
 pub returns : goal.returns
-returns c = let k = c.check_buckets-k.ensures in
-    let t = c.in-End-k.is in
-    let s = scanned_end _ _ k.answer t in
-    record {
-      answer = c.list.ensures ∙ told _ _ (list_left _ _ (characters_done (goal.at.returns c).In-End).0 s.0);
-      long = k.long;
-      list = λ e w. s.1;
-      buckets = λ e w. k.buckets _ t;
-    }
+returns c = let r = given c.lay.ensures c.in_ok-from.was in
+    let k = given c.check_buckets.ensures c.in_ok-list.was in
+    let l = given c.check_list.ensures c.in_ok-end.was in
+    gives_ok (list_left _ _ r.0 k.0 ∙ l.0) (record { list = k.1.end; end = l.1; buckets = k.1.buckets })
