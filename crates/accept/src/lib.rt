@@ -44,7 +44,14 @@ fn check_contents(b: &[u8], v: &View, ws: &mut [u8]) -> Result<(), Refusal>
         &v.value_buckets,
         packed,
     )?;
-    tree::check_tree(b, p.nodes, &v.node_segments, &v.node_counts, p.used_nodes, ws)
+    tree::check_tree(
+        b,
+        p.nodes,
+        &v.node_segments,
+        &v.node_counts,
+        p.used_nodes,
+        ws,
+    )
 }
 
 // Accepts a file, with its view, or refuses it.

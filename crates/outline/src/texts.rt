@@ -12,7 +12,6 @@ ghost use Rattle.outline.specs.inner.Ready.{NameStarts, TextHeld};
 use layout::Places;
 use region::{Region, SAMPLES};
 use strings::spot;
-use strings::spot::Spot;
 
 // The text at offset q, of at most n characters.
 fn put_chars(b: &[u8], q: usize, n: usize, out: &mut [u8], at: usize) -> usize
@@ -43,10 +42,8 @@ pub fn put_text(
     requires { TextHeld b.now chars segments.now seg el }
     ensures { Put out.old at (escaped (text_at b.now chars.at seg el)) result out.new }
 {
-    let Spot::At(q, n) = spot::spot_at(b, chars, segments, seg, el) else {
-        return at;
-    };
-    put_chars(b, q, n, out, at)
+    let spot = spot::spot_at(b, chars, segments, seg, el).unwrap();
+    put_chars(b, spot.at, spot.left, out, at)
 }
 
 // The text of a name index.

@@ -95,7 +95,7 @@ pub fn put_attributes(
     }
     let seg = fields::attribute_segment(b, x);
     let el = fields::attribute_element(b, x);
-    let Place::At(q) = region::range_at(
+    let q = region::range_at(
         b,
         p.attributes,
         ATTRIBUTE_SIZE,
@@ -103,9 +103,8 @@ pub fn put_attributes(
         seg,
         el,
         n,
-    ) else {
-        return at;
-    };
+    )
+    .unwrap();
     let mut e = at;
     for i in 0..n {
         e = put_attribute(
