@@ -9,9 +9,9 @@ use lib.Dec.{eqb, eqb-suc-suc, eqb-zero-suc}
 use lib.ListN.{length, drop, length-append}
 use Rattle.frames.specs.Lines.{lines_of}
 use Rattle.frames.specs.inner.Reading.{first_line}
-use Rattle.frames.specs.Frames.{data_of, is_frame, frames_from, file_of, frames_of}
-use Rattle.frames.specs.declared.Frames.{Frames}
-use Rattle.frames.specs.declared.Frames.TheVariants.{Bytes, Bad}
+use Rattle.std.specs.Prelude.{Result}
+use Rattle.frames.specs.Frames.{data_of, is_frame, frames_from, file_of, frames_of, Bytes, Bad}
+use Rattle.frames.specs.declared.BadLine.{BadLine}
 use Rattle.frames.proofs.Lines.{lines_open}
 
 -- the bytes of the frames from here on, after n bytes
@@ -19,7 +19,7 @@ unfoldable pub file_from : ℕ → List ℕ → List ℕ
 file_from n s = flatten (frames_from n (lines_of s))
 
 -- the answer from the line of that number on, after n bytes
-unfoldable pub answer_from : ℕ → ℕ → List ℕ → Frames
+unfoldable pub answer_from : ℕ → ℕ → List ℕ → Result ℕ BadLine
 answer_from n number s =
     cond (eqb (length (frames_from n (lines_of s))) (length (lines_of s)))
     (Bytes (n + length (file_from n s)))

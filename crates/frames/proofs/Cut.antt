@@ -17,7 +17,7 @@ use Rattle.frames.specs.Frames.{most, starts_at, data_of, is_frame, frames_from,
 use Rattle.frames.specs.inner.Reading.{first_line}
 use Rattle.frames.proofs.Tests.{by_test, and_left, and_right}
 use Rattle.frames.proofs.Lines.{line-some}
-use Rattle.frames.proofs.Framed.{frame_inv, framed_length, framed_count, framed_data}
+use Rattle.frames.proofs.Framed.{frame_inv, framed_length, framed_data}
 use Rattle.frames.proofs.Answers.{file_from, answer_from, file_start, answer_start, file_other, file_frame, answer_other, answer_frame}
 
 -- ---- the first line of a part
@@ -123,7 +123,7 @@ module _ (n number m : ℕ) (s : List ℕ) (h : n ≤ 32768) (k : 12 * (32768 - 
         let y = frame_inv n s e in
         let g = ap length (framed_data y) in
         record {
-          long = omega (arith, framed_length y, framed_count y);
+          long = let e = ap length (framed_data y) in omega (arith, framed_length y);
           some = omega (arith, y.some);
           room = omega (arith, y.room);
         }

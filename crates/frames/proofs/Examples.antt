@@ -4,8 +4,7 @@ use mathlib.Core.List.{List, [], ◌∷◌, ◌++◌, flatten}
 use Prim.Native.Nat.{ℕ}
 use lib.ListN.{replicate}
 use Rattle.frames.specs.Lines.{add_byte, lines_of, digit_of, is_digit, digits, number_from, are_bytes, bytes_of}
-use Rattle.frames.specs.Frames.{most, starts_at, data_of, is_frame, frames_from, file_of, frames_of}
-use Rattle.frames.specs.declared.Frames.TheVariants.{Bytes, Bad}
+use Rattle.frames.specs.Frames.{most, starts_at, data_of, is_frame, frames_from, file_of, frames_of, Bytes, Bad}
 
 -- seven zeros, the last digit of the offset, a space, and the rest of the line
 abbrev line : ℕ → List ℕ → List ℕ

@@ -2,12 +2,13 @@
 use mathlib.Core.Path.{◌≡◌, sym, ap, ◌∙◌}
 use mathlib.Core.Bool.{true, false, ◌&&◌}
 use mathlib.Core.List.{List, [], ◌∷◌}
-use Prim.Native.Nat.{ℕ, ◌+◌, ◌-◌, ◌*◌, ◌^◌, ◌≤◌, ◌<◌}
+use Prim.Native.Nat.{ℕ, ◌+◌, ◌-◌, ◌*◌, ◌≤◌, ◌<◌}
 use native.Mathlib.Omega.{arith}
 use lib.Dec.{eqb, leb}
 use lib.ListN.{length, get_or, take, drop, length-drop}
 use lib.Seq.{drop-drop, get_or-drop}
 use borrow.Author.Tests.{eq-eqb, eqb-true, le-leb, leb-true}
+use Rattle.std.specs.Prelude.{Some, None}
 use Rattle.frames.specs.Lines.{digits, number_from, are_bytes, bytes_of}
 use Rattle.frames.specs.Frames.{most, starts_at, data_of, is_frame}
 use Rattle.frames.specs.inner.Reading.{first_line, offset_of, bytes_written}
@@ -75,49 +76,51 @@ frame_inv n s h =
 no_frame : (n : ℕ) (s : List ℕ) → (Framed n s → ⊥) → is_frame n (first_line s) ≡ false
 no_frame n s h = by_test (is_frame n (first_line s)) (λ e. absurd (h (frame_inv n s e))) (λ e. e)
 
-framed_offset : (n : ℕ) (s : List ℕ) → starts_at n s ≡ true → offset_of s ≡ n
+framed_offset : (n : ℕ) (s : List ℕ) → starts_at n s ≡ true → offset_of s ≡ Some n
 unfolding offset_of starts_at
 framed_offset n s h =
     rw (starts_digits n s h, eq-eqb (get_or s 8 0) 32 (starts_space n s h))
-    (eqb-true (number_from 0 (take 8 s)) n (and_right (digits (take 8 s)) _ (and_left _ (eqb (get_or s 8 0) 32) h)))
+    (ap Some (eqb-true (number_from 0 (take 8 s)) n (and_right (digits (take 8 s)) _ (and_left _ (eqb (get_or s 8 0) 32) h))))
 
-offset_framed : (n : ℕ) (s : List ℕ) → n < 2 ^ 32 → offset_of s ≡ n → starts_at n s ≡ true
+offset_framed : (n : ℕ) (s : List ℕ) → offset_of s ≡ Some n → starts_at n s ≡ true
 unfolding offset_of starts_at
-offset_framed n s b h =
+offset_framed n s h =
     by_test (digits (take 8 s) && eqb (get_or s 8 0) 32)
     (λ e. let x = and_left (digits (take 8 s)) _ e in
     let y = and_right (digits (take 8 s)) _ e in
-    rw (x, y, eq-eqb (number_from 0 (take 8 s)) n (simp e at h)))
-    (λ e. absurd (omega (arith, simp e at h)))
+    let w : number_from 0 (take 8 s) ≡ n = (let u = simp e at h in cc) in
+    rw (x, y, eq-eqb (number_from 0 (take 8 s)) n w))
+    (λ e. let u = simp e at h in absurd (cc))
 
-pub framed_count : {n : ℕ} {s : List ℕ} → Framed n s → bytes_written (drop 9 s) ≡ length (bytes_of (first_line (drop 9 s)))
+pub framed_count : {n : ℕ} {s : List ℕ} → Framed n s → bytes_written (drop 9 s) ≡ Some (length (bytes_of (first_line (drop 9 s))))
 unfolding bytes_written
 framed_count {n} {s} f = rw (f.bytes, le-leb _ _ f.few)
 
 framed_long : {n : ℕ} {s : List ℕ} → Framed n s → 9 < length s
 framed_long {n} {s} f = omega (arith, some_bytes (drop 9 s) f.bytes f.some, length-drop 9 s)
 
-count_inv : (s : List ℕ) → (bytes_written s ≡ 0 → ⊥) → (are_bytes (first_line s) && leb (length (bytes_of (first_line s))) 32) ≡ true
+count_inv : (s : List ℕ) (k : ℕ) → bytes_written s ≡ Some k → (are_bytes (first_line s) && leb (length (bytes_of (first_line s))) 32) ≡ true
 unfolding bytes_written
-count_inv s h = by_test (are_bytes (first_line s) && leb (length (bytes_of (first_line s))) 32) (λ e. e) (λ e. absurd (h (simp e)))
+count_inv s k h = by_test (are_bytes (first_line s) && leb (length (bytes_of (first_line s))) 32) (λ e. e) (λ e. let u = simp e at h in absurd (cc))
 
-count-value : (s : List ℕ) → (are_bytes (first_line s) && leb (length (bytes_of (first_line s))) 32) ≡ true → bytes_written s ≡ length (bytes_of (first_line s))
+count-value : (s : List ℕ) → (are_bytes (first_line s) && leb (length (bytes_of (first_line s))) 32) ≡ true → bytes_written s ≡ Some (length (bytes_of (first_line s)))
 unfolding bytes_written
 count-value s h = simp h
 
 -- some bytes were counted, so they stand there
-pub record Counted (s : List ℕ) : Type 0 where
+pub record Counted (s : List ℕ) (k : ℕ) : Type 0 where
   pub bytes : are_bytes (first_line s) ≡ true
   pub few : length (bytes_of (first_line s)) ≤ 32
-  pub count : bytes_written s ≡ length (bytes_of (first_line s))
+  pub count : k ≡ length (bytes_of (first_line s))
 
-pub counted : (s : List ℕ) → (bytes_written s ≡ 0 → ⊥) → Counted s
-counted s h =
-    let e = count_inv s h in
+pub counted : (s : List ℕ) (k : ℕ) → bytes_written s ≡ Some k → Counted s k
+counted s k h =
+    let e = count_inv s k h in
+    let v = count-value s e in
     record {
       bytes = and_left (are_bytes (first_line s)) _ e;
       few = leb-true (length (bytes_of (first_line s))) 32 (and_right (are_bytes (first_line s)) _ e);
-      count = count-value s e;
+      count = cc;
     }
 
 -- each test of the line at p, where it is no frame; and all of them passed
@@ -128,32 +131,37 @@ module _ (s : List ℕ) (p n : ℕ) where
   pub too_short : length s - p < 9 → is_frame n (first_line (drop p s)) ≡ false
   too_short h = no_frame n (drop p s) (λ f. omega (arith, framed_long f, length-drop p s))
 
-  pub offset_off : (offset_of (drop p s) ≡ n → ⊥) → is_frame n (first_line (drop p s)) ≡ false
+  pub offset_off : (offset_of (drop p s) ≡ Some n → ⊥) → is_frame n (first_line (drop p s)) ≡ false
   offset_off h = no_frame n (drop p s) (λ f. h (framed_offset n (drop p s) f.starts))
 
-  pub bytes_off : bytes_written (drop (p + 9) s) ≡ 0 → is_frame n (first_line (drop p s)) ≡ false
-  bytes_off h = no_frame n (drop p s) (λ f. omega (arith, rest-count, framed_count f, f.some))
+  pub bytes_off : bytes_written (drop (p + 9) s) ≡ None → is_frame n (first_line (drop p s)) ≡ false
+  bytes_off h = no_frame n (drop p s) (λ f. let e = framed_count f in let g = rest-count in absurd (cc))
 
-  pub room_off : 32768 < n + bytes_written (drop (p + 9) s) → is_frame n (first_line (drop p s)) ≡ false
-  room_off h = no_frame n (drop p s) (λ f. omega (arith, rest-count, framed_count f, f.room))
+  -- where k bytes follow
+  module _ (k : ℕ) (e : bytes_written (drop (p + 9) s) ≡ Some k) where
+    rest : Counted (drop 9 (drop p s)) k
+    rest = counted (drop 9 (drop p s)) k (rest-count ∙ e)
 
-  pub all_pass : offset_of (drop p s) ≡ n → (bytes_written (drop (p + 9) s) ≡ 0 → ⊥) → n + bytes_written (drop (p + 9) s) ≤ 32768
-      → Framed n (drop p s)
-  all_pass o h r =
-      let c = counted (drop 9 (drop p s)) (λ e. h (sym rest-count ∙ e)) in
-      record {
-        starts = offset_framed n (drop p s) (omega arith) o;
-        bytes = c.bytes;
-        some = omega (arith, h, rest-count, c.count);
-        few = c.few;
-        room = omega (arith, rest-count, c.count);
-      }
+    pub none_off : k ≡ 0 → is_frame n (first_line (drop p s)) ≡ false
+    none_off h = no_frame n (drop p s) (λ f. omega (arith, rest.count, f.some))
 
-pub framed_length : {n : ℕ} {s : List ℕ} → Framed n s → length (first_line s) ≡ 10 + 2 * bytes_written (drop 9 s)
+    pub room_off : 32768 < n + k → is_frame n (first_line (drop p s)) ≡ false
+    room_off h = no_frame n (drop p s) (λ f. omega (arith, rest.count, f.room))
+
+    pub all_pass : offset_of (drop p s) ≡ Some n → (k ≡ 0 → ⊥) → n + k ≤ 32768 → Framed n (drop p s)
+    all_pass o h r = record {
+      starts = offset_framed n (drop p s) o;
+      bytes = rest.bytes;
+      some = omega (arith, h, rest.count);
+      few = rest.few;
+      room = omega (arith, rest.count);
+    }
+
+pub framed_length : {n : ℕ} {s : List ℕ} → Framed n s → length (first_line s) ≡ 10 + 2 * length (bytes_of (first_line (drop 9 s)))
 framed_length {n} {s} f =
     let a = bytes-length (first_line (drop 9 s)) f.bytes in
     let b = ap length (body_line n s f.starts) in
-    omega (arith, framed_count f, length-drop 9 (first_line s))
+    omega (arith, length-drop 9 (first_line s))
 
 pub framed_data : {n : ℕ} {s : List ℕ} → Framed n s → data_of (first_line s) ≡ bytes_of (first_line (drop 9 s))
 unfolding data_of

@@ -9,52 +9,62 @@ use lib.Seq.{drop-drop}
 use Rattle.laws.specs.inner.Lists.{splice}
 use Rattle.laws.proofs.Splice.{splice_nil, splice-append, splice-length}
 use Rattle.frames.specs.Lines.{bytes_of}
-use Rattle.frames.specs.Frames.{data_of, is_frame, file_of, frames_of}
-use Rattle.frames.specs.inner.Reading.{first_line, offset_of, bytes_written, given_by, line_at}
-use Rattle.frames.specs.declared.Frames.TheVariants.{Bytes, Bad}
-use Rattle.frames.specs.declared.Line.{Line}
-use Rattle.frames.specs.declared.Line.TheVariants.{Frame, Other}
+use Rattle.std.specs.Prelude.{Option, Some, None}
+use Rattle.frames.specs.Frames.{data_of, is_frame, file_of, frames_of, Bytes, Bad}
+use Rattle.frames.specs.inner.Reading.{first_line, offset_of, bytes_written, given_by, UpTo, line_at}
+use Rattle.frames.specs.declared.Frame.{Frame}
 use Rattle.frames.proofs.Tests.{by_test}
 use Rattle.frames.proofs.Lines.{line-fits, line-some}
-use Rattle.frames.proofs.Framed.{framed, frame_inv, framed_count, framed_length, framed_data, too_short, offset_off, bytes_off, room_off, all_pass}
+use Rattle.frames.proofs.Framed.{framed, frame_inv, framed_length, framed_data, counted, too_short, offset_off, bytes_off, none_off, room_off, all_pass}
 use Rattle.frames.proofs.Answers.{file_from, answer_from, file_start, answer_start, file_end, answer_end, file_other, file_frame, answer_other, answer_frame}
 
 -- what the line at p gives: the answer r, and d' for d
-abbrev pub Gives : (s : List ℕ) (p n : ℕ) (d : List ℕ) (r : Line) (d' : List ℕ) → Type 0
+abbrev pub Gives : (s : List ℕ) (p n : ℕ) (d : List ℕ) (r : Option Frame) (d' : List ℕ) → Type 0
 Gives s p n d r d' = (r ≡ line_at s p n) × (d' ≡ splice d n (given_by n (first_line (drop p s))))
 
-line_other : (s : List ℕ) (p n : ℕ) (d : List ℕ) → is_frame n (first_line (drop p s)) ≡ false → Gives s p n d Other d
+line_other : (s : List ℕ) (p n : ℕ) (d : List ℕ) → is_frame n (first_line (drop p s)) ≡ false → Gives s p n d None d
 unfolding line_at given_by
 line_other s p n d e = (simp e, simp e (sym (splice_nil d n)))
 
 module _ (s : List ℕ) (p n : ℕ) (d : List ℕ) where
-  pub line-short : length s - p < 9 → Gives s p n d Other d
+  pub line-short : length s - p < 9 → Gives s p n d None d
   line-short h = line_other s p n d (too_short s p n h)
 
-  module _ {x : ℕ} (o : x ≡ offset_of (drop p s)) where
-    pub line_offset : (x ≡ n → ⊥) → Gives s p n d Other d
-    line_offset h = line_other s p n d (offset_off s p n (λ e. h (o ∙ e)))
+  pub offset_none : None ≡ offset_of (drop p s) → Gives s p n d None d
+  offset_none o = line_other s p n d (offset_off s p n (λ e. absurd (cc)))
 
-  module _ {k : ℕ} (c : k ≡ bytes_written (drop (p + 9) s)) where
-    pub line-bytes : k ≡ 0 → Gives s p n d Other d
-    line-bytes h = line_other s p n d (bytes_off s p n (sym c ∙ h))
+  pub line_offset : {x : ℕ} → Some x ≡ offset_of (drop p s) → (x ≡ n → ⊥) → Gives s p n d None d
+  line_offset {x} o h = line_other s p n d (offset_off s p n (λ e. h (cc)))
 
-    pub line-room : n ≤ 32768 → 32768 - n < k → Gives s p n d Other d
-    line-room b h = line_other s p n d (room_off s p n (omega arith))
+  pub line-bytes : None ≡ bytes_written (drop (p + 9) s) → Gives s p n d None d
+  line-bytes c = line_other s p n d (bytes_off s p n (sym c))
 
-    pub line_frame : {x : ℕ} {d' : List ℕ} → x ≡ offset_of (drop p s) → x ≡ n → (k ≡ 0 → ⊥) → n ≤ 32768 → k ≤ 32768 - n
+  module _ {k : ℕ} (c : Some k ≡ bytes_written (drop (p + 9) s)) where
+    pub line-none : k ≡ 0 → Gives s p n d None d
+    line-none h = line_other s p n d (none_off s p n k (sym c) h)
+
+    pub line-room : n ≤ 32768 → 32768 - n < k → Gives s p n d None d
+    line-room b h = line_other s p n d (room_off s p n k (sym c) (omega arith))
+
+    pub line_frame : {x : ℕ} {d' : List ℕ} → Some x ≡ offset_of (drop p s) → x ≡ n → (k ≡ 0 → ⊥) → n ≤ 32768 → k ≤ 32768 - n
         → d' ≡ splice d n (bytes_of (first_line (drop (p + 9) s)))
-        → Gives s p n d (Frame (p + 10 + 2 * k) (n + k)) d'
+        → Gives s p n d (UpTo (p + 10 + 2 * k) (n + k)) d'
     unfolding line_at given_by
     line_frame {x} {d'} o h z b r w =
-        let f = all_pass s p n (sym o ∙ h) (λ e. z (c ∙ e)) (omega arith) in
+        let f = all_pass s p n k (sym c) (sym o ∙ ap Some h) z (omega arith) in
         let e = drop-drop 9 p s in
         let v = framed_data f in
-        let q : p + 10 + 2 * k ≡ p + length (first_line (drop p s)) = omega (arith, framed_length f, ap bytes_written e) in
-        let m : n + k ≡ n + length (data_of (first_line (drop p s))) = omega (arith, framed_count f, ap length v, ap bytes_written e) in
+        let g : k ≡ length (bytes_of (first_line (drop 9 (drop p s)))) = (counted (drop 9 (drop p s)) k (ap bytes_written e ∙ sym c)).count in
+        let q : p + 10 + 2 * k ≡ p + length (first_line (drop p s)) = omega (arith, framed_length f) in
+        let m : n + k ≡ n + length (data_of (first_line (drop p s))) = omega (arith, ap length v) in
         let u : d' ≡ splice d n (data_of (first_line (drop p s))) =
         w ∙ ap (λ (t : List ℕ). splice d n (bytes_of (first_line t))) (sym e) ∙ ap (splice d n) (sym v) in
         (simp (framed f) (cc), simp (framed f) u)
+
+same_end : {q m r k : ℕ} → UpTo q m ≡ UpTo r k → (q ≡ r) × (m ≡ k)
+same_end {q} {m} {r} {k} e =
+    let f : ◌≡◌ {A = Frame} (record { next = q; count = m }) (record { next = r; count = k }) = cc in
+    (ap (λ (x : Frame). x.next) f, ap (λ (x : Frame). x.count) f)
 
 -- the lines before p are read: n bytes of them stand in d, and the line at p has this number
 pub record Reached (s d₀ d : List ℕ) (n p number : ℕ) : Type 0 where
@@ -90,14 +100,14 @@ module _ {s d₀ d : List ℕ} {n p number : ℕ} (h : Reached s d₀ d n p numb
     some_left : 0 < length (drop p s)
     some_left = omega (arith, length-drop p s)
 
-    other_inv : Other ≡ line_at s p n → is_frame n (first_line (drop p s)) ≡ false
+    other_inv : None ≡ line_at s p n → is_frame n (first_line (drop p s)) ≡ false
     unfolding line_at
     other_inv e =
         by_test (is_frame n (first_line (drop p s)))
-        (λ t. let w = simp t at e in let z : ◌≡◌ {A = ℕ} 0 1 = cc in absurd (omega arith))
+        (λ t. let w = simp t at e in absurd (cc))
         (λ f. f)
 
-    pub reach_other : {d' : List ℕ} → Other ≡ line_at s p n → d' ≡ splice d n (given_by n (first_line (drop p s)))
+    pub reach_other : {d' : List ℕ} → None ≡ line_at s p n → d' ≡ splice d n (given_by n (first_line (drop p s)))
         → (Bad number ≡ frames_of s) × (d' ≡ splice d₀ 0 (file_of s))
     unfolding given_by
     reach_other e w =
@@ -106,25 +116,25 @@ module _ {s d₀ d : List ℕ} {n p number : ℕ} (h : Reached s d₀ d n p numb
           w ∙ simp f (ap (splice d n) (sym (file_other n (drop p s) some_left f)) ∙ h.file),
         )
 
-    read_frame : {q m : ℕ} → Frame q m ≡ line_at s p n → is_frame n (first_line (drop p s)) ≡ true
+    read_frame : {q m : ℕ} → UpTo q m ≡ line_at s p n → is_frame n (first_line (drop p s)) ≡ true
     unfolding line_at
     read_frame e =
         by_test (is_frame n (first_line (drop p s)))
         (λ t. t)
-        (λ f. let w = simp f at e in let z : ◌≡◌ {A = ℕ} 0 1 = cc in absurd (omega arith))
+        (λ f. let w = simp f at e in absurd (cc))
 
-    next_start : {q m : ℕ} → Frame q m ≡ line_at s p n → q ≡ p + length (first_line (drop p s))
+    next_start : {q m : ℕ} → UpTo q m ≡ line_at s p n → q ≡ p + length (first_line (drop p s))
     unfolding line_at
-    next_start e = let w = simp (read_frame e) at e in cc
+    next_start e = (same_end (simp (read_frame e) at e)).0
 
-    next_count : {q m : ℕ} → Frame q m ≡ line_at s p n → m ≡ n + length (data_of (first_line (drop p s)))
+    next_count : {q m : ℕ} → UpTo q m ≡ line_at s p n → m ≡ n + length (data_of (first_line (drop p s)))
     unfolding line_at
-    next_count e = let w = simp (read_frame e) at e in cc
+    next_count e = (same_end (simp (read_frame e) at e)).1
 
-    pub reach-on : {q m : ℕ} → Frame q m ≡ line_at s p n → p < q
+    pub reach-on : {q m : ℕ} → UpTo q m ≡ line_at s p n → p < q
     reach-on e = omega (arith, next_start e, line-some (drop p s) some_left)
 
-    pub reach_frame : {q m : ℕ} {d' : List ℕ} → Frame q m ≡ line_at s p n → d' ≡ splice d n (given_by n (first_line (drop p s)))
+    pub reach_frame : {q m : ℕ} {d' : List ℕ} → UpTo q m ≡ line_at s p n → d' ≡ splice d n (given_by n (first_line (drop p s)))
         → Reached s d₀ d' m q (number + 1)
     unfolding given_by
     reach_frame {q} {m} {d'} e w =

@@ -1,9 +1,8 @@
 -- Frames (FORMAT, "Frames"): lines of hexadecimal to bytes, or the first bad line.
-use Rattle.std.specs.Prelude.{ℕ, ◌+◌, Bool, cond, ◌&&◌, eqb, leb, length, get_or, take, drop}
+use Rattle.std.specs.Prelude.{ℕ, ◌+◌, Bool, cond, ◌&&◌, eqb, leb, length, get_or, take, drop, Result, Ok, Err}
 use mathlib.Core.List.{List, [], ◌∷◌, flatten}
 use Rattle.frames.specs.Lines.{lines_of, digits, number_from, are_bytes, bytes_of}
-use Rattle.frames.specs.declared.Frames.{Frames}
-use Rattle.frames.specs.declared.Frames.TheVariants.{Bytes, Bad}
+use Rattle.frames.specs.declared.BadLine.{BadLine}
 
 -- The most bytes that a file may have here.
 unfoldable pub most : ℕ
@@ -32,8 +31,15 @@ frames_from n (l ∷ ls) = cond (is_frame n l) (data_of l ∷ frames_from (n + l
 unfoldable pub file_of : List ℕ → List ℕ
 file_of input = flatten (frames_from 0 (lines_of input))
 
+-- The answers: so many bytes, or a bad line.
+abbrev pub Bytes : ℕ → Result ℕ BadLine
+Bytes n = Ok n
+
+abbrev pub Bad : ℕ → Result ℕ BadLine
+Bad n = Err (record { 0 = n })
+
 -- The answer: how many bytes where each line is a frame, else the first bad line, counted from 1.
-unfoldable pub frames_of : List ℕ → Frames
+unfoldable pub frames_of : List ℕ → Result ℕ BadLine
 frames_of input =
     cond (eqb (length (frames_from 0 (lines_of input))) (length (lines_of input)))
     (Bytes (length (file_of input)))

@@ -3,10 +3,10 @@ use Prim.Native.Nat.{ℕ, suc, ◌+◌, ◌-◌, ◌*◌, ◌/◌, ◌%◌, ◌�
 use native.Mathlib.Numerals.{add-one}
 use native.Mathlib.Omega.{arith}
 use mathlib.Core.Path.{◌≡◌, refl, ap, sym, ◌∙◌}
-use mathlib.Core.List.{List}
+use mathlib.Core.List.{List, ◌++◌}
 use borrow.Author.Count.{below_more}
 use lib.Bits.{bit_xor, xor_zero_r}
-use lib.ListN.{length, get_or, set, length-set}
+use lib.ListN.{length, get_or, set, length-set, length-append, get_or-append}
 use lib.Seq.{get_or-set_same, get_or-set_other}
 use Rattle.laws.proofs.Xor.{xor_assoc}
 use Rattle.hash.specs.Table.{entry_of}
@@ -23,9 +23,6 @@ byte_step t h b i a s p q = ap (λ (n : ℕ). bit_xor n (h / 256)) (q ∙ s.at i
 pub record Filled (t : List ℕ) (n : ℕ) : Type 0 where
   pub long : length t ≡ 2048
   pub at : (k : ℕ) → k < n → get_or t k 0 ≡ lent_of k
-
-pub filled_none : (t : List ℕ) → length t ≡ 2048 → Filled t 0
-filled_none t l = record { long = l; at = λ k h. absurd (omega arith) }
 
 pub filled-all : (t : List ℕ) (n : ℕ) → 2048 ≤ n → Filled t n → Tables t
 filled-all t n e f = record { long = f.long; at = λ k h. f.at k (omega arith) }
@@ -47,11 +44,15 @@ lent_at m k i e h =
     let b : m % 256 ≡ i = omega arith in
     ap (λ (n : ℕ). zeros_on n (entry_of (m % 256))) a ∙ ap (λ (n : ℕ). zeros_on k (entry_of n)) b
 
--- how an entry of T itself is made, and one of the others
-pub first_made : (s : List ℕ) (i : ℕ) → Entries s → i < 256 → get_or s i 0 ≡ lent_of i
+-- T stands first
+pub filled_first : (s d : List ℕ) → length s ≡ 256 → length d ≡ 1792 → Entries s → Filled (s ++ d) 256
 unfolding zeros_on
-first_made s i t h = t.at i h ∙ sym (lent_at i 0 i (omega arith) h)
+filled_first s d l m t = record {
+  long = omega (arith, length-append s d);
+  at = λ k h. get_or-append s d 0 k (omega arith) ∙ t.at k h ∙ sym (lent_at k 0 k (omega arith) h);
+}
 
+-- how one of the other entries is made
 pub next_made : (s : List ℕ) (i e w j : ℕ) → Entries s → 256 ≤ i → e ≡ lent_of (i - 256) → w ≡ e → j ≡ w % 256 → bit_xor (get_or s j 0) (e / 256) ≡ lent_of i
 unfolding zero_on zeros_on lent_of
 next_made s i e w j t h p q r =

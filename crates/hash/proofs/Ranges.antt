@@ -3,37 +3,29 @@ use Prim.Native.Nat.{ℕ, ◌-◌, ◌≤◌, ◌<◌}
 use native.Mathlib.Omega.{arith}
 use mathlib.Core.Path.{◌≡◌, refl, ◌∙◌}
 use mathlib.Core.Logic.{◌⊎◌, inl, inr, ⊎_elim}
-use mathlib.Core.Bool.{Bool, true, false, true≢false, cond, not, ◌&&◌}
+use mathlib.Core.Bool.{Bool, true, false, true≢false, cond}
 use borrow.Author.Tests.{le-leb, lt-leb, ne_eqb, eqb-true, eqb-false}
 use lib.Dec.{eqb}
 use Rattle.laws.proofs.Order.{le_or_lt}
 use Rattle.hash.specs.Fold.{loses, folded}
 
-pub keeps_below : (c : ℕ) → c < 0x61 → loses c ≡ false
+keeps_below : (c : ℕ) → c < 0x61 → loses c ≡ false
 unfolding loses
 keeps_below c h = rw (lt-leb 0x61 c h, lt-leb 0xe0 c (omega arith))
 
-pub loses_letter : (c : ℕ) → 0x61 ≤ c → c ≤ 0x7a → loses c ≡ true
-unfolding loses
-loses_letter c h l = rw (le-leb 0x61 c h, le-leb c 0x7a l)
-
-pub keeps_between : (c : ℕ) → 0x7a < c → c < 0xe0 → loses c ≡ false
+keeps_between : (c : ℕ) → 0x7a < c → c < 0xe0 → loses c ≡ false
 unfolding loses
 keeps_between c h l = rw (le-leb 0x61 c (omega arith), lt-leb c 0x7a h, lt-leb 0xe0 c l)
 
-pub keeps_above : (c : ℕ) → 0xfe < c → loses c ≡ false
+keeps_above : (c : ℕ) → 0xfe < c → loses c ≡ false
 unfolding loses
 keeps_above c h = rw (le-leb 0x61 c (omega arith), lt-leb c 0x7a (omega arith), le-leb 0xe0 c (omega arith), lt-leb c 0xfe h)
-
-pub loses_accent : (c : ℕ) → 0xe0 ≤ c → c ≤ 0xfe → loses c ≡ (not (eqb c 0xf0) && not (eqb c 0xf7))
-unfolding loses
-loses_accent c h l = rw (le-leb 0x61 c (omega arith), lt-leb c 0x7a (omega arith), le-leb 0xe0 c h, le-leb c 0xfe l)
 
 never : {A : Type 0} (t : Bool) → t ≡ true → t ≡ false → A
 never t e d = let z : true ≡ false = cc in absurd (true≢false z)
 
 -- what loses 0020 is in one of the two ranges
-pub loses-range : (c : ℕ) → loses c ≡ true → ((0x61 ≤ c) × (c ≤ 0x7a)) ⊎ ((0xe0 ≤ c) × (c ≤ 0xfe))
+loses-range : (c : ℕ) → loses c ≡ true → ((0x61 ≤ c) × (c ≤ 0x7a)) ⊎ ((0xe0 ≤ c) × (c ≤ 0xfe))
 loses-range c e =
     ⊎_elim
     (λ a. ⊎_elim
@@ -46,20 +38,14 @@ loses-range c e =
     (λ a. never (loses c) e (keeps_below c a))
     (le_or_lt 0x61 c)
 
-pub lost_room : (c : ℕ) → loses c ≡ true → 0x20 ≤ c
-lost_room c e = ⊎_elim (λ r. omega arith) (λ r. omega arith) (loses-range c e)
-
 module _ (c : ℕ) (m : c ≡ 0x9c → ⊥) (n : c ≡ 0xff → ⊥) where
   -- past the two single characters
   rest : folded c ≡ cond (loses c) (c - 0x20) c
   unfolding folded
   rest = rw (ne_eqb c 0x9c m, ne_eqb c 0xff n)
 
-  pub stays : loses c ≡ false → folded c ≡ c
+  stays : loses c ≡ false → folded c ≡ c
   stays e = rest ∙ rw e
-
-  pub lost : loses c ≡ true → folded c ≡ c - 0x20
-  lost e = rest ∙ rw e
 
 -- what is left of it stays
 pub lost_stays : (c : ℕ) → loses c ≡ true → folded (c - 0x20) ≡ c - 0x20

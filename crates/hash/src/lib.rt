@@ -71,15 +71,10 @@ pub fn tables() -> [u32; 2048]
 {
     let source = T;
     let mut t = [0u32; 2048];
-    let mut i = 0;
-    while i < 256 {
-        t[i] = source[i];
-        i += 1;
-    }
-    while i < 2048 {
+    t[..256].copy_from_slice(&source);
+    for i in 256..2048 {
         let e = t[i - 256];
         t[i] = source[low(le::wide(e))] ^ (e >> 8);
-        i += 1;
     }
     t
 }
@@ -137,43 +132,18 @@ pub fn bucket(h: usize, n: usize) -> usize
     x % n
 }
 
-// Whether a fold takes 0020 off the character.
-fn loses(c: usize) -> bool
-    ensures { result ≡ Rattle.hash.specs.Fold.loses c }
-{
-    if c < 0x61 {
-        return false;
-    }
-    if c <= 0x7a {
-        return true;
-    }
-    if c < 0xe0 {
-        return false;
-    }
-    if c > 0xfe {
-        return false;
-    }
-    if c == 0xf0 {
-        return false;
-    }
-    c != 0xf7
-}
-
 // The fold of any character.
 fn fold_any(c: usize) -> usize
     requires { c < 65536 }
     ensures { (result ≡ folded c) × (result < 65536) }
 {
-    if c == 0x9c {
-        return 0x8c;
+    match c {
+        0x9c => 0x8c,
+        0xff => 0x9f,
+        0xf0 | 0xf7 => c,
+        0x61..=0x7a | 0xe0..=0xfe => c - 0x20,
+        _ => c,
     }
-    if c == 0xff {
-        return 0x9f;
-    }
-    if loses(c) {
-        return c - 0x20;
-    }
-    c
 }
 
 // Where both halves of a word are below 0080, only letters change: they lose bit 5. A letter is 61 or more and not 7b or more;

@@ -8,13 +8,6 @@ ghost use Rattle.laws.specs.inner.Lists.{splice};
 ghost use Rattle.le.specs.Le.{u16_at, u32_at, u64_at, le4};
 ghost use Rattle.le.specs.Floats.{single_of, double_at};
 
-// A byte as the code counts.
-pub fn byte(x: u8) -> usize
-    ensures { (result ≡ x) × (result < 256) }
-{
-    x as usize
-}
-
 // A number of 32 bits as the code counts.
 pub fn wide(x: u32) -> usize
     ensures { (result ≡ x) × (result < 2 ^ 32) }
@@ -26,14 +19,14 @@ pub fn u16_at(s: &[u8], at: usize) -> usize
     requires { at + 2 ≤ length s.now }
     ensures { (result ≡ u16_at s.now at) × (result < 65536) }
 {
-    byte(s[at]) + byte(s[at + 1]) * 256
+    usize::from(u16::from_le_bytes([s[at], s[at + 1]]))
 }
 
 pub fn u32_at(s: &[u8], at: usize) -> usize
     requires { at + 4 ≤ length s.now }
     ensures { (result ≡ u32_at s.now at) × (result < 2 ^ 32) }
 {
-    byte(s[at]) + byte(s[at + 1]) * 256 + byte(s[at + 2]) * 65536 + byte(s[at + 3]) * 16777216
+    wide(u32::from_le_bytes([s[at], s[at + 1], s[at + 2], s[at + 3]]))
 }
 
 pub fn u64_at(s: &[u8], at: usize) -> u64

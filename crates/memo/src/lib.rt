@@ -21,12 +21,12 @@ pub fn recall(memo: &[u32; 3072], x: usize, n: usize) -> Option<usize>
 {
     let s = slot(x, n);
     if le::wide(memo[s]) != x {
-        return 4294967296;
+        return None;
     }
     if le::wide(memo[1024 + s]) != n {
-        return 4294967296;
+        return None;
     }
-    le::wide(memo[2048 + s])
+    Some(le::wide(memo[2048 + s]))
 }
 
 // Remembers the value v at x and n.

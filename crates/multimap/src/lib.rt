@@ -6,12 +6,6 @@
 ghost use Rattle.std.specs.Prelude.{◌≡◌, ◌+◌, ◌%◌, ◌≤◌, ◌<◌, ◌^◌};
 ghost use Rattle.multimap.specs.inner.Multimap.{number_at, Filled, OnSlot, LastWith, PutBehind};
 
-fn wide16(x: u16) -> usize
-    ensures { result ≡ x }
-{
-    x as usize
-}
-
 // Of the first m places the last one with number x, plus 1, or 0 if there is none; c is the last one on its slot.
 fn seek(map: &[u16; 20480], n: usize, m: usize, c: usize, x: usize) -> usize
     requires { Filled n map.now × (m ≤ n) × OnSlot map.now (x % 4096) m c }
@@ -19,10 +13,10 @@ fn seek(map: &[u16; 20480], n: usize, m: usize, c: usize, x: usize) -> usize
 {
     let mut at = c;
     while at > 0 {
-        if wide16(map[4095 + at]) == x {
+        if usize::from(map[4095 + at]) == x {
             return at;
         }
-        at = wide16(map[12287 + at]);
+        at = usize::from(map[12287 + at]);
     }
     0
 }
@@ -32,7 +26,7 @@ pub fn last(map: &[u16; 20480], n: usize, x: usize) -> usize
     requires { Filled n map.now }
     ensures { LastWith map.now n x result }
 {
-    seek(map, n, n, wide16(map[x % 4096]), x)
+    seek(map, n, n, usize::from(map[x % 4096]), x)
 }
 
 // The same of the places before place i, which has number x.
@@ -40,7 +34,7 @@ pub fn before(map: &[u16; 20480], n: usize, i: usize, x: usize) -> usize
     requires { Filled n map.now × (i < n) × (number_at map.now i ≡ x) }
     ensures { LastWith map.now i x result }
 {
-    seek(map, n, i, wide16(map[12288 + i]), x)
+    seek(map, n, i, usize::from(map[12288 + i]), x)
 }
 
 // Fills place n with number x.

@@ -1,19 +1,19 @@
 -- The texts of Text by the steps of the code: spaces, digits, characters. Assumes nothing.
 use Prim.Native.Nat.{ℕ, zero, suc, ◌+◌, ◌-◌, ◌*◌, ◌/◌, ◌%◌, ◌^◌, ◌≤◌, ◌<◌}
 use native.Mathlib.Nat.{pow-suc, div-lt_iff_lt-mul, sub-zero}
-use native.Mathlib.Numerals.{sub-one}
+use native.Mathlib.Numerals.{add-one, sub-one}
 use native.Mathlib.Omega.{arith}
 use mathlib.Core.Path.{◌≡◌, refl, sym, ap, ◌∙◌}
-use mathlib.Core.Logic.{⊎_elim}
 use mathlib.Core.List.{List, [], ◌∷◌, ◌++◌}
-use mathlib.Core.Bool.{true, false, cond, not}
-use borrow.Author.Tests.{le-ltb, lt-ltb, le-leb, lt-leb, eq-eqb, ne_eqb}
-use lib.Dec.{eqb, ltb}
-use lib.IntN.{ℤ, pos, negsuc}
+use mathlib.Core.Bool.{true, false, true≢false, cond}
+use borrow.Author.Tests.{le-ltb, lt-ltb, leb-false}
+use lib.Dec.{ltb}
+use lib.IntN.{ℤ, pos, negsuc, nat_abs}
+use lib.Signed.{le_z}
+use Rattle.std.proofs.lemmas.Bool.Decides.{nat_tests}
 use lib.ListN.{replicate}
 use lib.Pow.{pow-add}
 use lib.Bits.{and_mask, mask_lt, bit_and}
-use Rattle.laws.proofs.Order.{le_or_lt}
 use Rattle.print.specs.Text.{hex_digit, hex_of, plain, escape, decimal_in, decimal, whole_text}
 
 -- ---- spaces
@@ -86,45 +86,29 @@ pub decimal_more : (x : ℕ) → 10 ≤ x → x < 2 ^ 64 → decimal (x / 10) ++
 unfolding decimal
 decimal_more x h l = let k : x < 100000000000000000000 = omega arith in decimal_step 18 x h k
 
--- ---- whole numbers
+-- ---- whole numbers, as z is read from its bits
 
-pub whole-up : (n : ℕ) (z : ℤ) → pos n ≡ z → decimal n ≡ whole_text z
+up : (z : ℤ) → le_z (pos 0) z ≡ true → decimal (nat_abs z) ≡ whole_text z
 unfolding whole_text
-whole-up n z e = rw⁻¹ e refl
+up (pos n) e = refl
+up (negsuc n) e = absurd (true≢false (sym e))
 
-pub whole-down : (n : ℕ) (z : ℤ) → negsuc n ≡ z → (45 ∷ []) ++ decimal (n + 1) ≡ whole_text z
+pub whole-up : (u z : ℤ) (n : ℕ) → u ≡ z → le_z (pos 0) u ≡ true → n ≡ nat_abs u → decimal n ≡ whole_text z
+whole-up u z n t e m = ap decimal m ∙ up u e ∙ ap whole_text t
+
+down : (z : ℤ) → le_z (pos 0) z ≡ false → (45 ∷ []) ++ decimal (nat_abs z) ≡ whole_text z
 unfolding whole_text
-whole-down n z e = rw⁻¹ e refl
+down (pos n) e = absurd (omega (arith, leb-false 0 n e))
+down (negsuc n) e = rw add-one
+
+pub whole-down : (u z : ℤ) (n : ℕ) → u ≡ z → le_z (pos 0) u ≡ false → n ≡ nat_abs u → (45 ∷ []) ++ decimal n ≡ whole_text z
+whole-down u z n t e m = ap (λ (k : ℕ). (45 ∷ []) ++ decimal k) m ∙ down u e ∙ ap whole_text t
 
 -- ---- characters
 
-pub plain-below : (c : ℕ) → c < 0x21 → false ≡ plain c
-unfolding plain
-plain-below c h = sym (rw (lt-leb 0x21 c h))
-
-pub plain-above : (c : ℕ) → 0x21 ≤ c → 0x7e < c → false ≡ plain c
-unfolding plain
-plain-above c h l = sym (rw (le-leb 0x21 c h, lt-leb c 0x7e l))
-
-module _ (c : ℕ) (h : 0x21 ≤ c) (l : c ≤ 0x7e) where
-  pub plain_slash : c ≡ 0x5c → false ≡ plain c
-  unfolding plain
-  plain_slash e = sym (rw (le-leb 0x21 c h, le-leb c 0x7e l, eq-eqb c 0x5c e))
-
-  module _ (a : c ≡ 0x5c → ⊥) where
-    pub plain_equals : c ≡ 0x3d → false ≡ plain c
-    unfolding plain
-    plain_equals e = sym (rw (le-leb 0x21 c h, le-leb c 0x7e l, ne_eqb c 0x5c a, eq-eqb c 0x3d e))
-
-    pub plain_else : (c ≡ 0x3d → ⊥) → not (eqb c 0x22) ≡ plain c
-    unfolding plain
-    plain_else b = sym (rw (le-leb 0x21 c h, le-leb c 0x7e l, ne_eqb c 0x5c a, ne_eqb c 0x3d b))
-
 pub plain-small : (c : ℕ) → plain c ≡ true → c < 127
-plain-small c e =
-    ⊎_elim (λ h. omega arith)
-    (λ h. let f : false ≡ true = plain-above c (omega arith) h ∙ e in let z : ◌≡◌ {A = ℕ} 0 1 = cc in absurd (omega arith))
-    (le_or_lt c 126)
+unfolding plain
+plain-small c e = grind (arith, nat_tests)
 
 pub escape-plain : (c : ℕ) → plain c ≡ true → c ∷ [] ≡ escape c
 unfolding escape

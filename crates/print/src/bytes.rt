@@ -8,12 +8,8 @@ pub fn put(out: &mut [u8], at: usize, c: u8) -> usize
 {
     if at < out.len() {
         out[at] = c;
-        return at + 1;
     }
-    if at < 18446744073709551615 {
-        return at + 1;
-    }
-    at
+    at.saturating_add(1)
 }
 
 // n spaces.
@@ -21,10 +17,8 @@ pub fn put_spaces(out: &mut [u8], at: usize, n: usize) -> usize
     ensures { Put out.old at (replicate n 32) result out.new }
 {
     let mut p = at;
-    let mut i = 0;
-    while i < n {
-        p = put(out, p, 32);
-        i += 1;
+    for _ in 0..n {
+        p = put(out, p, b' ');
     }
     p
 }
@@ -34,10 +28,8 @@ pub fn put_bytes(out: &mut [u8], at: usize, s: &[u8]) -> usize
     ensures { Put out.old at s.now result out.new }
 {
     let mut p = at;
-    let mut i = 0;
-    while i < s.len() {
-        p = put(out, p, s[i]);
-        i += 1;
+    for c in s {
+        p = put(out, p, *c);
     }
     p
 }

@@ -10,19 +10,11 @@ use crate::numbers::put_hex;
 fn is_plain(c: usize) -> bool
     ensures { result ≡ plain c }
 {
-    if c < 0x21 {
-        return false;
+    match c {
+        0x22 | 0x3d | 0x5c => false,
+        0x21..=0x7e => true,
+        _ => false,
     }
-    if 0x7e < c {
-        return false;
-    }
-    if c == 0x5c {
-        return false;
-    }
-    if c == 0x3d {
-        return false;
-    }
-    c != 0x22
 }
 
 // A character as itself, or as `\` and its four digits.

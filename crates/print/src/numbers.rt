@@ -1,5 +1,5 @@
 // Numbers.
-ghost use Rattle.std.specs.Prelude.{◌≡◌, ◌/◌, ◌%◌, ◌^◌, ◌≤◌, ◌<◌, pos, negsuc, ◌≤ℤ◌, ◌<ℤ◌};
+ghost use Rattle.std.specs.Prelude.{◌≡◌, ◌/◌, ◌%◌, ◌^◌, ◌≤◌, ◌<◌};
 ghost use Rattle.print.specs.inner.Put.{Put};
 ghost use Rattle.print.specs.Text.{hex_digit, hex_of, decimal, whole_text};
 
@@ -23,9 +23,7 @@ pub fn put_hex(out: &mut [u8], at: usize, x: usize, n: usize) -> usize
     ensures { Put out.old at (hex_of n x) result out.new }
 {
     let mut p = at;
-    let mut i = n;
-    while 0 < i {
-        i -= 1;
+    for i in (0..n).rev() {
         p = put(out, p, hex_digit(x, i));
     }
     p
@@ -42,30 +40,14 @@ pub fn put_decimal(out: &mut [u8], at: usize, x: usize) -> usize
     put(out, p, (48 + x % 10) as u8)
 }
 
-// A number that is not negative.
-fn upward(z: i32) -> usize
-    requires { pos 0 ≤ℤ z }
-    ensures { pos result ≡ z }
-{
-    z as usize
-}
-
-// How far a negative number is below -1. (The lowest i32 has no opposite.)
-fn downward(z: i32) -> usize
-    requires { z <ℤ pos 0 }
-    ensures { (negsuc result ≡ z) × (result < 2 ^ 31) }
-{
-    let m = -1 - z;
-    upward(m)
-}
-
 // z in decimal, with a `-` if it is negative.
 pub fn put_whole(out: &mut [u8], at: usize, z: i32) -> usize
     ensures { Put out.old at (whole_text z) result out.new }
 {
+    let n = z.unsigned_abs() as usize;
     if 0 <= z {
-        return put_decimal(out, at, upward(z));
+        return put_decimal(out, at, n);
     }
-    let p = put(out, at, 45);
-    put_decimal(out, p, downward(z) + 1)
+    let p = put(out, at, b'-');
+    put_decimal(out, p, n)
 }

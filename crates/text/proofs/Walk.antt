@@ -85,6 +85,10 @@ hash-rest b p n i s h r k e = e ∙ ap (hash_on h) (chars_rest b p n i) ∙ sym 
 
 -- ---- characters or the end
 
+-- a character that is there is that character
+pub char_here : (b : List ℕ) (p n i c : ℕ) → i < n → (c ≡ u16_at b (p + 2 * i)) × (c < 65536) → CharOrEnd b p n i c
+char_here b p n i c l e = record { within = λ m. e.0; past = λ m. absurd (omega arith); small = e.1 }
+
 module _ (b : List ℕ) (p n i c : ℕ) (k : CharOrEnd b p n i c) where
   -- at a 0 no text is left
   pub char_end : c ≡ 0 → text_from b p n i ≡ []
@@ -115,11 +119,18 @@ same_next s e f q = (λ h. let g = s.0 h in cc, λ g. s.1 (cc))
 pub none-some : {xs us vs : List ℕ} {d : ℕ} → xs ≡ [] → us ≡ d ∷ vs → xs ≡ us → ⊥
 none-some e f g = let z : ◌≡◌ {A = ℕ} 0 1 = cc in omega arith
 
+-- the text at p ends behind m characters: that at q tells
+pub same_end : (b : List ℕ) (p m q n i c : ℕ) → i ≡ m → (text_in b p m ≡ text_in b q n) ↔ (text_from b p m i ≡ text_from b q n i)
+    → CharOrEnd b q n m c → Tells (text_in b p m ≡ text_in b q n) (eqb c 0)
+same_end b p m q n i c e w g =
+    let v : (text_in b p m ≡ text_in b q n) ↔ (text_from b p m m ≡ text_from b q n m) = rw e at w in
+    let t = text_over b p m m (omega arith) in
+    tells_eqb c 0 (λ z. v.1 (t ∙ sym (char_end b q n m c g z))) (λ h. sym (char_head b q n m c g [] (sym (v.0 h) ∙ t)))
+
 -- all k characters are borne: what is left tells
-pub borne_end : (b s : List ℕ) (p n q k i c : ℕ) → i ≤ k → k ≤ i → (text_in b p n ≡ chars s q k) ↔ (text_from b p n i ≡ chars_from s q k i)
+pub borne_end : (b s : List ℕ) (p n q k i c : ℕ) → i ≡ k → (text_in b p n ≡ chars s q k) ↔ (text_from b p n i ≡ chars_from s q k i)
     → CharOrEnd b p n k c → Tells (text_in b p n ≡ chars s q k) (eqb c 0)
-borne_end b s p n q k i c l m w g =
-    let e : i ≡ k = omega arith in
+borne_end b s p n q k i c e w g =
     let v : (text_in b p n ≡ chars s q k) ↔ (text_from b p n k ≡ chars_from s q k k) = rw e at w in
     let t = chars_over s q k k (omega arith) in
     tells_eqb c 0 (λ z. v.1 (char_end b p n k c g z ∙ sym t)) (λ h. sym (char_head b p n k c g [] (v.0 h ∙ t)))

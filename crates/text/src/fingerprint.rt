@@ -18,11 +18,11 @@ pub fn fingerprint(b: &[u8], p: usize, n: usize) -> usize
     ensures { (result ≡ fingerprint_of (chars b.now p n)) × (result < 2 ^ 16) }
 {
     let mut g = 0;
-    let mut i = 0;
-    while i + 1 < n {
+    for k in 0..n / 2 {
+        let i = 2 * k;
         g = stir(g, le::u32_at(b, p + 2 * i));
-        i += 2;
     }
+    let i = 2 * (n / 2);
     if i < n {
         return stir(g, le::u16_at(b, p + 2 * i)) / 65536;
     }

@@ -14,7 +14,7 @@ pub mod fingerprint;
 pub mod parts;
 
 // What is measured of a text: its characters, its hash.
-#[derive(Clone, Copy)]
+#[derive(Clone, Copy, Debug, PartialEq, Eq)]
 pub struct Extent {
     pub length: usize,
     pub hash: usize,
@@ -33,8 +33,8 @@ pub fn measure(b: &[u8], t: &[u32; 2048], p: usize, n: usize) -> Extent
     ensures { Measured b.now p n result }
 {
     let mut h = 0;
-    let mut i = 0;
-    while i + 3 < n {
+    for k in 0..n / 4 {
+        let i = 4 * k;
         let v = le::u32_at(b, p + 2 * i);
         if v & 65535 == 0 {
             return measured(i, h);
@@ -50,8 +50,8 @@ pub fn measure(b: &[u8], t: &[u32; 2048], p: usize, n: usize) -> Extent
             return measured(i + 3, hash::char_on(t, hash::pair_on(t, h, v), w));
         }
         h = hash::quad_on(t, h, v, w);
-        i += 4;
     }
+    let i = 4 * (n / 4);
     let few = measure_few(b, t, p + 2 * i, n - i, h);
     measured(i + few.length, few.hash)
 }
@@ -62,15 +62,14 @@ fn measure_few(b: &[u8], t: &[u32; 2048], p: usize, n: usize, h: usize) -> Exten
     ensures { MeasuredOn b.now p n h result }
 {
     let mut g = h;
-    let mut i = 0;
-    loop {
-        let c = char_or_end(b, p, n, i);
+    for i in 0..n {
+        let c = le::u16_at(b, p + 2 * i);
         if c == 0 {
             return measured(i, g);
         }
         g = hash::char_on(t, g, c);
-        i += 1;
     }
+    measured(n, g)
 }
 
 // The value hash, on from h, of the text at offset p, if a 0 ends it within n characters; otherwise 16,384 more than the hash of the n folded
@@ -81,8 +80,8 @@ pub fn value_run(b: &[u8], t: &[u32; 2048], p: usize, n: usize, h: usize) -> usi
     ensures { ValueRun b.now p n h result }
 {
     let mut g = h;
-    let mut i = 0;
-    while i + 3 < n {
+    for k in 0..n / 4 {
+        let i = 4 * k;
         let v = le::u32_at(b, p + 2 * i);
         let w = le::u32_at(b, p + 2 * (i + 2));
         let f = hash::fold_quad(v, w);
@@ -99,8 +98,8 @@ pub fn value_run(b: &[u8], t: &[u32; 2048], p: usize, n: usize, h: usize) -> usi
             return hash::low_14(hash::char_on(t, hash::pair_on(t, g, f.first), f.second));
         }
         g = hash::quad_on(t, g, f.first, f.second);
-        i += 4;
     }
+    let i = 4 * (n / 4);
     value_run_few(b, t, p + 2 * i, n - i, g)
 }
 
@@ -110,14 +109,12 @@ fn value_run_few(b: &[u8], t: &[u32; 2048], p: usize, n: usize, h: usize) -> usi
     ensures { ValueRun b.now p n h result }
 {
     let mut g = h;
-    let mut i = 0;
-    while i < n {
+    for i in 0..n {
         let c = le::u16_at(b, p + 2 * i);
         if c == 0 {
             return hash::low_14(g);
         }
         g = hash::char_on(t, g, hash::fold(c));
-        i += 1;
     }
     16384 + g
 }
@@ -140,16 +137,13 @@ pub fn zeros(b: &[u8], p: usize, n: usize) -> usize
     requires { (p + 2 * n ≤ length b.now) × (n < 65536) }
     ensures { (result ≡ zeros_in b.now p n) × (result ≤ n) }
 {
-    let end = p + 2 * n;
     let mut found = 0u16;
-    let mut at = p;
-    while at < end {
-        if le::u16_at(b, at) == 0 {
+    for i in 0..n {
+        if le::u16_at(b, p + 2 * i) == 0 {
             found += 1;
         }
-        at += 2;
     }
-    found as usize
+    usize::from(found)
 }
 
 // Whether one of the n characters at p is 0.
@@ -157,12 +151,10 @@ pub fn holds_zero(b: &[u8], p: usize, n: usize) -> bool
     requires { p + 2 * n ≤ length b.now }
     ensures { Tells (HoldsZero (chars b.now p n)) result }
 {
-    let mut i = 0;
-    while i < n {
+    for i in 0..n {
         if le::u16_at(b, p + 2 * i) == 0 {
             return true;
         }
-        i += 1;
     }
     false
 }
@@ -173,12 +165,12 @@ pub fn hash_chars(s: &[u8], t: &[u32; 2048], p: usize, k: usize, h: usize) -> us
     ensures { (result ≡ hash_on h (chars s.now p k)) × (result < 2 ^ 32) }
 {
     let mut g = h;
-    let mut i = 0;
-    while i + 3 < k {
+    for j in 0..k / 4 {
+        let i = 4 * j;
         let v = le::u32_at(s, p + 2 * i);
         g = hash::quad_on(t, g, v, le::u32_at(s, p + 2 * (i + 2)));
-        i += 4;
     }
+    let i = 4 * (k / 4);
     hash_few(s, t, p + 2 * i, k - i, g)
 }
 
@@ -205,17 +197,16 @@ pub fn same(b: &[u8], p: usize, m: usize, q: usize, n: usize) -> bool
     requires { (p + 2 * m ≤ length b.now) × (q + 2 * n ≤ length b.now) }
     ensures { Tells (text_in b.now p m ≡ text_in b.now q n) result }
 {
-    let mut i = 0;
-    loop {
-        let c = char_or_end(b, p, m, i);
+    for i in 0..m {
+        let c = le::u16_at(b, p + 2 * i);
         if char_or_end(b, q, n, i) != c {
             return false;
         }
         if c == 0 {
             return true;
         }
-        i += 1;
     }
+    char_or_end(b, q, n, m) == 0
 }
 
 // Character i of the n at p, or 0 past them: 0 ends a text either way.
@@ -231,8 +222,7 @@ pub fn bears(b: &[u8], p: usize, n: usize, s: &[u8], q: usize, k: usize) -> bool
     requires { (p + 2 * n ≤ length b.now) × (q + 2 * k ≤ length s.now) }
     ensures { Tells (text_in b.now p n ≡ chars s.now q k) result }
 {
-    let mut i = 0;
-    while i < k {
+    for i in 0..k {
         let c = char_or_end(b, p, n, i);
         if c == 0 {
             return false;
@@ -240,7 +230,6 @@ pub fn bears(b: &[u8], p: usize, n: usize, s: &[u8], q: usize, k: usize) -> bool
         if c != le::u16_at(s, q + 2 * i) {
             return false;
         }
-        i += 1;
     }
     char_or_end(b, p, n, k) == 0
 }
@@ -250,12 +239,10 @@ fn alike_few(b: &[u8], p: usize, s: &[u8], q: usize, n: usize) -> bool
     requires { (p + 2 * n ≤ length b.now) × (q + 2 * n ≤ length s.now) }
     ensures { Tells (chars b.now p n ≡ chars s.now q n) result }
 {
-    let mut i = 0;
-    while i < n {
+    for i in 0..n {
         if le::u16_at(b, p + 2 * i) != le::u16_at(s, q + 2 * i) {
             return false;
         }
-        i += 1;
     }
     true
 }
@@ -268,12 +255,11 @@ pub fn alike(b: &[u8], p: usize, s: &[u8], q: usize, n: usize) -> bool
     if n < 4 {
         return alike_few(b, p, s, q, n);
     }
-    let mut i = 0;
-    while i + 4 < n {
+    for k in 0..(n - 1) / 4 {
+        let i = 4 * k;
         if le::u64_at(b, p + 2 * i) != le::u64_at(s, q + 2 * i) {
             return false;
         }
-        i += 4;
     }
     le::u64_at(b, p + 2 * (n - 4)) == le::u64_at(s, q + 2 * (n - 4))
 }

@@ -1,5 +1,5 @@
 // The two hashes of a text that a caller hands over whole or in parts (docs/changes/T-07.md).
-ghost use Rattle.std.specs.Prelude.{◌≡◌, ◌+◌, ◌*◌, ◌/◌, ◌≤◌, ◌<◌, ◌^◌, length, drop};
+ghost use Rattle.std.specs.Prelude.{◌≡◌, ◌+◌, ◌*◌, ◌/◌, ◌≤◌, ◌<◌, ◌^◌, length};
 ghost use Rattle.hash.specs.inner.Tables.{Tables};
 ghost use Rattle.hash.specs.Hash.{hash_bytes, hash_on};
 ghost use Rattle.hash.specs.Fold.{fold_text, value_hash};
@@ -8,17 +8,15 @@ ghost use Rattle.text.specs.Text.{chars};
 // From so many bytes on, the eight tables of many bytes a step save more time than it takes to make them.
 const LONG: usize = 512;
 
-// The hash, on from h, of the bytes from `at` on, one in a step.
-fn hash_each(s: &[u8], at: usize, h: usize) -> usize
+// The hash, on from h, of the bytes, one in a step.
+fn hash_each(s: &[u8], h: usize) -> usize
     requires { h < 2 ^ 32 }
-    ensures { (result ≡ hash_bytes h (drop at s.now)) × (result < 2 ^ 32) }
+    ensures { (result ≡ hash_bytes h s.now) × (result < 2 ^ 32) }
 {
     let t = hash::table();
     let mut g = h;
-    let mut i = at;
-    while i < s.len() {
-        g = hash::byte_on(&t, g, le::byte(s[i]));
-        i += 1;
+    for b in s {
+        g = hash::byte_on(&t, g, usize::from(*b));
     }
     g
 }
@@ -30,11 +28,11 @@ pub fn hash_bytes(s: &[u8], h: usize) -> usize
 {
     let n = s.len();
     if n < LONG {
-        return hash_each(s, 0, h);
+        return hash_each(s, h);
     }
     let t = hash::tables();
     let g = crate::hash_chars(s, &t, 0, n / 2, h);
-    hash_each(s, 2 * (n / 2), g)
+    hash_each(&s[2 * (n / 2)..], g)
 }
 
 // The hash, on from h, of n characters at p, each folded, one in a step.
@@ -44,11 +42,9 @@ fn fold_each(s: &[u8], p: usize, n: usize, h: usize) -> usize
 {
     let t = hash::table();
     let mut g = h;
-    let mut i = 0;
-    while i < n {
+    for i in 0..n {
         let c = hash::fold(le::u16_at(s, p + 2 * i));
         g = hash::byte_on(&t, hash::byte_on(&t, g, c % 256), c / 256);
-        i += 1;
     }
     g
 }
@@ -59,12 +55,12 @@ fn fold_fours(s: &[u8], t: &[u32; 2048], p: usize, n: usize) -> usize
     ensures { result ≡ hash_on 0 (fold_text (chars s.now p n)) }
 {
     let mut g = 0;
-    let mut i = 0;
-    while i + 3 < n {
+    for k in 0..n / 4 {
+        let i = 4 * k;
         let f = hash::fold_quad(le::u32_at(s, p + 2 * i), le::u32_at(s, p + 2 * (i + 2)));
         g = hash::quad_on(t, g, f.first, f.second);
-        i += 4;
     }
+    let i = 4 * (n / 4);
     fold_each(s, p + 2 * i, n - i, g)
 }
 

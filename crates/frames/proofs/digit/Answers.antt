@@ -1,19 +1,19 @@
-use mathlib.Core.Path.{sym}
-use borrow.Author.Rules.{rules}
-use Rattle.frames.proofs.Digits.{below_nine, to_nine, below_a, to_f, above_f}
+use mathlib.Core.Logic.{inl, inr}
+use native.Mathlib.Omega.{arith}
+use Rattle.frames.proofs.Digits.{value-number, value-letter, value-other}
 use Rattle.frames.proofs.digit.Goals as goal
 
-pub returns-then-x-lt48 : goal.returns-then-x-lt48
-returns-then-x-lt48 c = (sym (below_nine _ c.if-x-lt48.true), search rules)
+pub returns-in-48-to-57 : goal.returns-in-48-to-57
+returns-in-48-to-57 c = value-number _ (omega arith) (omega arith)
 
-pub returns-then-x-le57 : goal.returns-then-x-le57
-returns-then-x-le57 c = (sym (to_nine _ c.if-x-lt48.false c.if-x-le57.true), search rules)
+pub returns-in-97-to-102 : goal.returns-in-97-to-102
+returns-in-97-to-102 c = value-letter _ (omega arith) (omega arith)
 
-pub returns-then-x-lt97 : goal.returns-then-x-lt97
-returns-then-x-lt97 c = (sym (below_a _ c.if-x-le57.false c.if-x-lt97.true), search rules)
+pub returns-in_default : goal.returns-in_default
+returns-in_default c = value-other _ (inl (omega arith)) (inl (omega arith))
 
-pub returns-then-x-le102 : goal.returns-then-x-le102
-returns-then-x-le102 c = (sym (to_f _ c.if-x-lt97.false c.if-x-le102.true), search rules)
+pub returns-in_default-2 : goal.returns-in_default-2
+returns-in_default-2 c = value-other _ (inr (omega arith)) (inl (omega arith))
 
-pub returns : goal.returns
-returns c = (sym (above_f _ c.if-x-le102.false), search rules)
+pub returns-in_default-3 : goal.returns-in_default-3
+returns-in_default-3 c = value-other _ (inr (omega arith)) (inr (omega arith))

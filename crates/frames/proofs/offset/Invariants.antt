@@ -1,9 +1,5 @@
 use Rattle.frames.proofs.Offsets.{Offset}
-use Prim.Native.Nat.{◌-◌}
 use Rattle.frames.proofs.offset.Given as goal
 
 abbrev pub invariant-loop-i : goal.invariant-loop-i
 invariant-loop-i l = Offset l.input l.p l.number l.i
-
-abbrev pub decreases-loop-i : goal.decreases-loop-i
-decreases-loop-i l = 8 - l.i

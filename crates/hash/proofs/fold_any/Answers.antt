@@ -1,25 +1,34 @@
-use native.Mathlib.Nat.{sub-le, lt_of_le_of_lt}
-use native.Mathlib.Omega.{arith}
 use mathlib.Core.Path.{ap, sym, ◌∙◌}
-use Rattle.hash.specs.Fold.{folded}
-use Rattle.hash.proofs.Ranges.{lost_room, lost, stays}
+use mathlib.Core.Logic.{⊎_elim}
+use native.Mathlib.Omega.{arith}
+use Rattle.hash.specs.Fold.{loses, folded}
+use Rattle.std.proofs.lemmas.Bool.Decides.{nat_tests}
 use Rattle.hash.proofs.fold_any.Goals as goal
 
-pub returns-then-c-eq156 : goal.returns-then-c-eq156
+pub returns-in-156 : goal.returns-in-156
 unfolding folded
-returns-then-c-eq156 c = (sym (ap folded c.if-c-eq156.true), omega arith)
+returns-in-156 c = (sym (ap folded c.in-156.is), omega arith)
 
-pub returns-then-c-eq255 : goal.returns-then-c-eq255
+pub returns-in-255 : goal.returns-in-255
 unfolding folded
-returns-then-c-eq255 c = (sym (ap folded c.if-c-eq255.true), omega arith)
+returns-in-255 c = (sym (ap folded c.in-255.is), omega arith)
 
-pub overflow_sub-result : goal.overflow_sub-result
-overflow_sub-result c = lost_room _ (sym c.loses.ensures ∙ c.if-loses.true)
+pub returns-in-240 : goal.returns-in-240
+unfolding folded loses
+returns-in-240 c = (⊎_elim (λ e. e ∙ sym (ap folded e)) (λ e. e ∙ sym (ap folded e)) c.in-240.is, c.requires)
 
-pub returns-then-loses : goal.returns-then-loses
-returns-then-loses c = let e = sym c.loses.ensures ∙ c.if-loses.true in
-    (sym (lost _ c.if-c-eq156.false c.if-c-eq255.false e), lt_of_le_of_lt (sub-le _ _) c.requires)
+pub returns-in-97-to-122 : goal.returns-in-97-to-122
+unfolding folded loses
+returns-in-97-to-122 c = (grind (arith, nat_tests), omega arith)
 
-pub returns : goal.returns
-returns c = let e = sym c.loses.ensures ∙ c.if-loses.false in
-    (sym (stays _ c.if-c-eq156.false c.if-c-eq255.false e), c.requires)
+pub returns-in_default : goal.returns-in_default
+unfolding folded loses
+returns-in_default c = (grind (arith, nat_tests), omega arith)
+
+pub returns-in_default-2 : goal.returns-in_default-2
+unfolding folded loses
+returns-in_default-2 c = (grind (arith, nat_tests), omega arith)
+
+pub returns-in_default-3 : goal.returns-in_default-3
+unfolding folded loses
+returns-in_default-3 c = (grind (arith, nat_tests), omega arith)

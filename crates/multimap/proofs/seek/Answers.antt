@@ -12,8 +12,8 @@ offset_bounds-map-at c = record { fits = omega (arith, c.loop-at.invariant.withi
 pub bounds-map-at : goal.bounds-map-at
 bounds-map-at c = omega (arith, c.loop-at.invariant.within, c.requires.1, c.requires.0.few)
 
-pub returns-then-wide16-x : goal.returns-then-wide16-x
-returns-then-wide16-x c = sought_here _ _ _ _ c.loop-at.invariant (sym c.wide16.ensures ∙ c.if-wide16-x.true)
+pub returns-then-from-x : goal.returns-then-from-x
+returns-then-from-x c = sought_here _ _ _ _ c.loop-at.invariant (sym c.from.ensures ∙ c.if-from-x.true)
 
 pub offset_bounds-map-at-in-loop-at : goal.offset_bounds-map-at-in-loop-at
 offset_bounds-map-at-in-loop-at c = record { fits = omega (arith, c.loop-at.invariant.within, c.requires.1, c.requires.0.few) }
@@ -23,12 +23,12 @@ bounds-map-at-in-loop-at c = omega (arith, c.loop-at.invariant.within, c.require
 
 pub loop-at-smaller : goal.loop-at-smaller
 loop-at-smaller c = let p = c.requires in
-    linked_less _ _ _ p.0 p.1 _ c.loop-at.invariant c.loop-at-test.true _ c.wide16-at.ensures
+    linked_less _ _ _ p.0 p.1 _ c.loop-at.invariant c.loop-at-test.true _ c.from-at.ensures
 
 pub loop-at-preserved : goal.loop-at-preserved
 loop-at-preserved c = let p = c.requires in
-    sought_next _ _ _ p.0 p.1 _ c.loop-at.invariant c.loop-at-test.true _ c.wide16-at.ensures
-    (λ e. c.if-wide16-x.false (c.wide16.ensures ∙ e))
+    sought_next _ _ _ p.0 p.1 _ c.loop-at.invariant c.loop-at-test.true _ c.from-at.ensures
+    (λ e. c.if-from-x.false (c.from.ensures ∙ e))
 
 pub returns : goal.returns
 returns c = sought_none _ _ _ _ c.loop-at.invariant c.loop-at-test.false

@@ -1,4 +1,3 @@
-use Prim.Native.Nat.{◌-◌, ◌≤◌}
 use mathlib.Core.Path.{◌≡◌}
 use mathlib.Core.Logic.{◌↔◌}
 use Rattle.text.specs.Text.{chars, text_in}
@@ -6,7 +5,4 @@ use Rattle.text.proofs.Walk.{chars_from, text_from}
 use Rattle.text.proofs.bears.Given as goal
 
 abbrev pub invariant-loop-i : goal.invariant-loop-i
-invariant-loop-i l = (l.i ≤ l.k) × ((text_in l.b l.p l.n ≡ chars l.s l.q l.k) ↔ (text_from l.b l.p l.n l.i ≡ chars_from l.s l.q l.k l.i))
-
-abbrev pub decreases-loop-i : goal.decreases-loop-i
-decreases-loop-i l = l.k - l.i
+invariant-loop-i l = (text_in l.b l.p l.n ≡ chars l.s l.q l.k) ↔ (text_from l.b l.p l.n l.i ≡ chars_from l.s l.q l.k l.i)

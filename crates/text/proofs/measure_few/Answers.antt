@@ -1,25 +1,19 @@
 use mathlib.Core.Path.{refl}
-use Rattle.text.proofs.Walk.{char_end, char_in, char_next}
+use Rattle.text.proofs.Walk.{text_over, text_shut, text_next}
 use Rattle.text.proofs.Passed.{passed_start, passed_next, measured}
 use native.Mathlib.Omega.{arith}
 use Rattle.text.proofs.measure_few.Goals as goal
 
-pub loop-p-init : goal.loop-p-init
-loop-p-init c = passed_start _ _ _ _ c.requires.2
+pub loop-i-init : goal.loop-i-init
+loop-i-init c = passed_start _ _ _ _ c.requires.2
 
 pub returns-then-c-eq0 : goal.returns-then-c-eq0
-returns-then-c-eq0 c = measured _ _ _ _ _ _ _ c.loop-p.invariant (char_end _ _ _ _ _ c.char_or_end-c.ensures c.if-c-eq0.true) c.measured.ensures
+returns-then-c-eq0 c = measured _ _ _ _ _ _ _ c.loop-i.invariant (text_shut _ _ _ _ _ c.loop-i-test.true c.u16_at-c.ensures.0 c.if-c-eq0.true) c.measured.ensures
 
-pub char_on-g-requires : goal.char_on-g-requires
-char_on-g-requires c = (c.requires.0, c.loop-p.invariant.small, c.char_or_end-c.ensures.small)
+pub loop-i-preserved : goal.loop-i-preserved
+loop-i-preserved c = let l = c.loop-i-test.true in
+    passed_next _ _ _ _ _ _ _ _ _ c.loop-i.invariant refl l (text_next _ _ _ _ _ l c.u16_at-c.ensures.0 c.if-c-eq0.false) c.char_on-g.ensures
 
-pub overflow_add-i : goal.overflow_add-i
-overflow_add-i c = record { fits = omega (arith, char_in _ _ _ _ _ c.char_or_end-c.ensures c.if-c-eq0.false) }
-
-pub loop-p-smaller : goal.loop-p-smaller
-loop-p-smaller c = omega (arith, char_in _ _ _ _ _ c.char_or_end-c.ensures c.if-c-eq0.false)
-
-pub loop-p-preserved : goal.loop-p-preserved
-loop-p-preserved c = let k = c.char_or_end-c.ensures in
-    let z = c.if-c-eq0.false in
-    passed_next _ _ _ _ _ _ _ _ _ c.loop-p.invariant refl (char_in _ _ _ _ _ k z) (char_next _ _ _ _ _ k z) c.char_on-g.ensures
+pub returns : goal.returns
+returns c = let e = c.measured-2.ensures in
+    measured _ _ _ _ _ _ _ c.loop-i.invariant (text_over _ _ _ _ c.loop-i-test.false) (omega arith, e.1)

@@ -1,29 +1,20 @@
-use mathlib.Core.Path.{sym, ◌∙◌}
-use Rattle.text.proofs.Counted.{counted_start, counted_zero, counted_other, counted_all}
+use mathlib.Core.Path.{◌≡◌, sym, ◌∙◌}
+use Rattle.text.proofs.Counted.{zeros_none, zeros_zero, zeros_other}
 use native.Mathlib.Omega.{arith}
 use Rattle.text.proofs.zeros.Goals as goal
 use Rattle.text.proofs.zeros.Goals.{then-u16_at-eq0, else-u16_at-eq0}
 
-pub loop-at-init : goal.loop-at-init
-loop-at-init c = counted_start
+pub loop-i-init : goal.loop-i-init
+loop-i-init c = (sym (zeros_none _ _), omega arith)
 
-pub u16_at-requires : goal.u16_at-requires
-u16_at-requires c = let w = c.loop-at.invariant in omega (arith, w.place, w.inside)
-
-pub overflow_add-found : goal.overflow_add-found
-overflow_add-found c = let w = c.loop-at.invariant in record { fits = omega (arith, w.few, w.place, w.inside) }
-
-pub overflow_add-at : goal.overflow_add-at
-overflow_add-at c = let w = c.loop-at.invariant in record { fits = omega (arith, w.place, w.inside) }
-
-pub loop-at-preserved : goal.loop-at-preserved
-loop-at-preserved c = let w = c.loop-at.invariant in
-    let l = c.loop-at-test.true in
+pub loop-i-preserved : goal.loop-i-preserved
+loop-i-preserved c = let w = c.loop-i.invariant in
+    let s = c.args in
     let r = c.u16_at.ensures.0 in
     elim c.if-u16_at-eq0.branch [
-      | then-u16_at-eq0 z ↦ rw z.found-is (counted_zero w l (sym r ∙ z.if-u16_at-eq0.true))
-      | else-u16_at-eq0 z ↦ rw z.found-is (counted_other w l (λ e. z.if-u16_at-eq0.false (r ∙ e)))
+      | then-u16_at-eq0 z ↦ rw z.found-is (omega (arith, zeros_zero s.b.now s.p c.loop-i.i (sym r ∙ z.if-u16_at-eq0.true)), omega arith)
+      | else-u16_at-eq0 z ↦ rw z.found-is (omega (arith, zeros_other s.b.now s.p c.loop-i.i (λ e. z.if-u16_at-eq0.false (r ∙ e))), omega arith)
     ]
 
 pub returns : goal.returns
-returns c = counted_all c.loop-at.invariant c.loop-at-test.false
+returns c = let e : c.loop-i.i ≡ c.args.n = omega arith in rw (c.from.ensures, ← e) c.loop-i.invariant

@@ -6,15 +6,11 @@ use Rattle.laws.proofs.Drops.{drop_next}
 use Rattle.print.proofs.Puts.{left_start, left_more, left_end}
 use Rattle.print.proofs.bytes.put_bytes.Goals as goal
 
-pub loop-i-init : goal.loop-i-init
-loop-i-init c = (search rules, left_start (search rules) (search rules) refl)
+pub loop-c-init : goal.loop-c-init
+loop-c-init c = left_start (search rules) (search rules) refl
 
-pub loop-i-preserved : goal.loop-i-preserved
-loop-i-preserved c = let l = c.loop-i in
-    (search rules, left_more l.invariant.1 c.put-p.ensures (sym (drop_next _ l.i (omega arith))))
-
-pub shape_of-out : goal.shape_of-out
-shape_of-out c = c.loop-i.invariant.1.size
+pub loop-c-preserved : goal.loop-c-preserved
+loop-c-preserved c = left_more c.loop-c.invariant c.put-p.ensures (sym (drop_next _ c.loop-c.c-index (omega arith)))
 
 pub returns : goal.returns
-returns c = left_end c.loop-i.invariant.1 (drop_of_length-le _ c.loop-i-test.false)
+returns c = left_end c.loop-c.invariant (drop_of_length-le _ c.loop-c-test.false)

@@ -1,4 +1,4 @@
-use Prim.Native.Nat.{◌-◌, ◌^◌, ◌≤◌, ◌<◌}
+use Prim.Native.Nat.{◌^◌, ◌<◌}
 use mathlib.Core.Path.{◌≡◌}
 use Rattle.hash.specs.Hash.{hash_on}
 use Rattle.hash.specs.Fold.{fold_text}
@@ -7,7 +7,4 @@ use Rattle.text.proofs.AsBytes.{folded_from}
 use Rattle.text.proofs.parts.fold_each.Given as goal
 
 abbrev pub invariant-loop-i : goal.invariant-loop-i
-invariant-loop-i l = (l.i ≤ l.n) × (l.g < 2 ^ 32) × (hash_on l.h (fold_text (chars l.s l.p l.n)) ≡ folded_from l.s l.p l.n l.i l.g)
-
-abbrev pub decreases-loop-i : goal.decreases-loop-i
-decreases-loop-i l = l.n - l.i
+invariant-loop-i l = (l.g < 2 ^ 32) × (hash_on l.h (fold_text (chars l.s l.p l.n)) ≡ folded_from l.s l.p l.n l.i l.g)
