@@ -1,4 +1,5 @@
 pub mod Placed
+pub mod Zeros
 pub mod Told
 pub mod Own
 pub mod Slots

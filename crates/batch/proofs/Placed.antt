@@ -1,14 +1,9 @@
 -- The places of some texts, written one after the other. Assumes nothing.
 use mathlib.Core.Path.{◌≡◌, refl, sym, ap, ◌∙◌}
-use mathlib.Core.Bool.{cond}
-use mathlib.Core.Logic.{⊎_elim, by_cases}
+use mathlib.Core.Logic.{⊎_elim}
 use mathlib.Core.List.{List, [], ◌∷◌, ◌++◌}
-use Prim.Native.Nat.{ℕ, zero, suc, ◌+◌, ◌-◌, ◌*◌, ◌/◌, ◌%◌, ◌≤◌, ◌<◌}
-use native.Mathlib.Decide.{ℕ_discrete}
-use native.Mathlib.Numerals.{add-one}
+use Prim.Native.Nat.{ℕ, ◌+◌, ◌-◌, ◌*◌, ◌/◌, ◌%◌, ◌≤◌, ◌<◌}
 use native.Mathlib.Omega.{arith}
-use borrow.Author.Tests.{eq-eqb, ne_eqb}
-use lib.Dec.{eqb}
 use lib.ListN.{length, length-append}
 use Rattle.laws.specs.inner.Lists.{splice}
 use Rattle.laws.proofs.Order.{le_or_lt}
@@ -17,14 +12,12 @@ use Rattle.le.specs.Le.{u16_at, le4}
 use Rattle.verdict.proofs.Laws.{Clean}
 use Rattle.hash.specs.Hash.{hash_text}
 use Rattle.text.specs.Text.{chars, text_in}
-use Rattle.text.specs.inner.Zeros.{zeros_in}
-use Rattle.text.proofs.Laws.{chars_more, text-chars, text-live, text_end}
-use Rattle.text.proofs.Counted.{zeros_none, zeros_zero, zeros_other}
+use Rattle.text.proofs.Laws.{text-chars, text-live, text_end}
 use Rattle.lookup.specs.Kinds.{kind_of, told_number}
 use Rattle.lookup.specs.declared.Lookup.{Lookup}
-use Rattle.path.specs.Names.{add_char, split, names_of, path_checks}
+use Rattle.path.specs.Names.{names_of, path_checks}
 use Rattle.path.specs.inner.Indices.{NameEnd}
-use Rattle.path.proofs.Split.{length_add, names_from, names_start, names_end, names_more}
+use Rattle.path.proofs.Split.{names_from, names_start, names_end, names_more}
 use Rattle.path.proofs.Formed.{formed_inv}
 use Rattle.batch.specs.Places.{place, places}
 use Rattle.batch.specs.inner.Groups.{TextRead}
@@ -51,69 +44,6 @@ pub put_told : (d : List ℕ) (at : ℕ) (l : Lookup) {k n : ℕ} {d₁ d₂ : L
 unfolding place
 put_told d at l {d₁ = d₁} h e f p q =
     put_two d at (kind_of l) (told_number l) h (p ∙ ap (λ (x : ℕ). splice d at (le4 x)) e) (q ∙ ap (λ (x : ℕ). splice d₁ (at + 4) (le4 x)) f)
-
--- ---- the loop that counts
-
--- a character in front of the others ends a text where it is 0, and otherwise only makes the first longer
-module _ (texts : List ℕ) (at : ℕ) (even : length texts % 2 ≡ 0) (h : at % 2 ≡ 0) (l : at < length texts) where
-  first_char : names_from texts at
-      ≡ cond (eqb (u16_at texts at) 0) ([] ∷ names_from texts (at + 2)) (add_char (u16_at texts at) (names_from texts (at + 2)))
-  unfolding names_from split
-  first_char = ap split (chars_more texts at _ ((length texts - (at + 2)) / 2) (omega arith))
-
-  names_ended : u16_at texts at ≡ 0 → length (names_from texts at) ≡ length (names_from texts (at + 2)) + 1
-  names_ended z = rw (first_char, eq-eqb (u16_at texts at) 0 z) (omega arith)
-
-  names_longer : (u16_at texts at ≡ 0 → ⊥) → length (names_from texts at) ≡ length (names_from texts (at + 2))
-  names_longer f = rw (first_char, ne_eqb (u16_at texts at) 0 f) (length_add (u16_at texts at) (names_from texts (at + 2)))
-
--- n texts end before offset `at`
-pub record Counted (texts : List ℕ) (n at : ℕ) : Type 0 where
-  pub even : at % 2 ≡ 0
-  pub few : n ≤ at
-  pub left : n + length (names_from texts at) ≡ length (names_of texts)
-
-pub counted_start : (texts : List ℕ) → Counted texts 0 0
-counted_start texts = record { even = refl; few = omega arith; left = omega (arith, ap length (names_start texts)) }
-
-module _ {texts : List ℕ} {n at : ℕ} (w : Counted texts n at) where
-  pub counted_zero : length texts % 2 ≡ 0 → at < length texts → u16_at texts at ≡ 0 → Counted texts (n + 1) (at + 2)
-  counted_zero even l z = record {
-    even = omega (arith, w.even);
-    few = omega (arith, w.few);
-    left = omega (arith, w.left, names_ended texts at even w.even l z);
-  }
-
-  pub counted_other : length texts % 2 ≡ 0 → at < length texts → (u16_at texts at ≡ 0 → ⊥) → Counted texts n (at + 2)
-  counted_other even l f = record {
-    even = omega (arith, w.even);
-    few = omega (arith, w.few);
-    left = omega (arith, w.left, names_longer texts at even w.even l f);
-  }
-
-  pub counted_all : length texts ≤ at → n ≡ length (names_of texts)
-  counted_all h = omega (arith, w.left, ap length (names_end texts at h))
-
--- the same numbers by other names
-counted_as : {texts : List ℕ} {n m at to : ℕ} → n ≡ m → at ≡ to → Counted texts n at → Counted texts m to
-counted_as e f w = rw (sym e, sym f) w
-
--- k characters more, whose zeros are counted by themselves
-counted_block : {texts : List ℕ} {n at : ℕ} → Counted texts n at → length texts % 2 ≡ 0 → (k : ℕ) → at + 2 * k ≤ length texts
-    → Counted texts (n + zeros_in texts at k) (at + 2 * k)
-counted_block {texts} {n} {at} w even zero l = counted_as (omega (arith, zeros_none texts at)) (omega arith) w
-counted_block {texts} {n} {at} w even (suc k) l =
-    let c = counted_block w even k (omega arith) in
-    let q = ap (zeros_in texts at) (add-one k) in
-    by_cases (ℕ_discrete (u16_at texts (at + 2 * k)) 0)
-    (λ h. counted_as (omega (arith, q, zeros_zero texts at k h)) (omega arith) (counted_zero c even (omega arith) h))
-    (λ h. counted_as (omega (arith, q, zeros_other texts at k h)) (omega arith) (counted_other c even (omega arith) h))
-
--- up to the end of a block
-pub block_on : {texts : List ℕ} {n at end z : ℕ} → Counted texts n at → length texts % 2 ≡ 0 → at < end → end ≤ length texts → end % 2 ≡ 0
-    → z ≡ zeros_in texts at ((end - at) / 2) → Counted texts (n + z) end
-block_on {texts} {n} {at} {end} w even l h e q =
-    counted_as (ap (λ (z : ℕ). n + z) (sym q)) (omega (arith, w.even)) (counted_block w even ((end - at) / 2) (omega arith))
 
 -- ---- the loop that writes
 

@@ -4,7 +4,11 @@ use native.Mathlib.Nat.{mod-lt}
 use native.Mathlib.Numerals.{add-one}
 use native.Mathlib.Omega.{arith}
 use mathlib.Core.Path.{◌≡◌, refl, ap, sym, ◌∙◌}
+use mathlib.Core.Logic.{by_cases}
 use mathlib.Core.List.{List}
+use native.Mathlib.Decide.{ℕ_discrete}
+use Rattle.std.specs.Prelude.{Option, None, IfSome}
+use Rattle.std.proofs.lemmas.Option.{IfSome_then}
 use borrow.Author.Count.{below_none, below_more}
 use lib.ListN.{length, get_or, set, length-set}
 use lib.Seq.{get_or-set_same, get_or-set_other}
@@ -19,9 +23,10 @@ use Rattle.search.specs.inner.Group.{LowerBounds}
 use Rattle.strings.specs.inner.Held.{Held, held_table}
 use Rattle.strings.specs.declared.Strings.{Strings}
 use Rattle.strings.proofs.Places.{few-entries}
-use Rattle.strings.proofs.Filling.{set_at, fill, fill_both}
+use Rattle.strings.proofs.Filling.{set_at, fill_both}
 use Rattle.lookup.specs.inner.PickedEntry.{PickedEntry}
 use Rattle.lookup.specs.declared.Kind.{Kind}
+use Rattle.lookup.specs.declared.first.Candidate.{Candidate}
 use Rattle.batch.specs.inner.Groups.{TextRead, stands_at, Group, PackedBounds, Texts, Picked, SameLow}
 
 -- ---- where the texts of a group stand
@@ -81,10 +86,9 @@ group_none texts at lengths hashes e f = record {
 }
 
 module _ {texts : List ℕ} {at n : ℕ} {lengths hashes : List ℕ} (g : Group texts at n lengths hashes) where
-  pub group_more : {p k h : ℕ} → p ≡ stands_at at lengths n → p < length texts → (n ≡ 64 → ⊥) → TextRead texts p k h
+  pub group_more : {p k h : ℕ} → p ≡ stands_at at lengths n → p < length texts → n < 64 → TextRead texts p k h
       → Group texts at (n + 1) (set lengths n k) (set hashes n h)
-  group_more {p} {k} {h} e l f r =
-      let m : n < 64 = omega (arith, g.few) in
+  group_more {p} {k} {h} e l m r =
       let here = stands_kept at lengths n k n (omega arith) in
       record {
         few = omega arith;
@@ -132,51 +136,35 @@ same_more {a} {b} {j} {x} r s l e f = record {
       set_at (λ (i y z : ℕ). y % 4294967296 ≡ get_or b i 0 % 4294967296) b b j r r l l (f ∙ ap (λ (y : ℕ). y % 4294967296) e) i (λ d. refl) ∙ s.each i;
 }
 
--- ---- places of texts
-
-pub texts-none : (b first later : List ℕ) → length first ≡ 64 → length later ≡ 64 → Texts b 0 first later
-texts-none b first later e f = record { first-long = e; later-long = f; first_in = below_none _; later_in = below_none _ }
-
-pub texts_more : {b first later : List ℕ} {j : ℕ} (x y : ℕ) → Texts b j first later → j < 64 → x + 2 ≤ length b → y + 2 ≤ length b
-    → Texts b (j + 1) (set first j x) (set later j y)
-texts_more {b} {first} {later} {j} x y w l p q = record {
-  first-long = length-set first j x ∙ w.first-long;
-  later-long = length-set later j y ∙ w.later-long;
-  first_in = fill (λ (i z : ℕ). z + 2 ≤ length b) first j x (omega (arith, w.first-long)) w.first_in p;
-  later_in = fill (λ (i z : ℕ). z + 2 ≤ length b) later j y (omega (arith, w.later-long)) w.later_in q;
-}
-
-pub texts-upto : {b first later : List ℕ} {j n : ℕ} → n ≤ j → Texts b j first later → Texts b n first later
-texts-upto {j = j} {n = n} l w = record {
-  first-long = w.first-long;
-  later-long = w.later-long;
-  first_in = λ i h. w.first_in i (omega arith);
-  later_in = λ i h. w.later_in i (omega arith);
-}
-
 -- ---- entries picked
 
-pub picked_none : (kind : Kind) (t : Table) (lengths text results : List ℕ) → length text ≡ 64 → length results ≡ 64 → Picked kind t lengths 0 text results
-picked_none kind t lengths text results e f = record { text-long = e; results_long = f; each = below_none _ }
+-- one slot more
+fill_next : {A : Type 0} (P : ℕ → A → Type 0) (xs : List A) (j : ℕ) (x d : A) → j < length xs → ((i : ℕ) → i < j → P i (get_or xs i d)) → P j x
+    → (i : ℕ) → i < j + 1 → P i (get_or (set xs j x) i d)
+fill_next P xs j x d l f h i k =
+    by_cases (ℕ_discrete i j)
+    (λ e. rw (e, get_or-set_same xs j x d l) h)
+    (λ g. rw (get_or-set_other xs j i x d g) (f i (omega arith)))
 
-pub picked_more : {kind : Kind} {t : Table} {lengths text results : List ℕ} {j : ℕ} (x y : ℕ) → Picked kind t lengths j text results → j < 64 → {n : ℕ} → n ≡ get_or lengths j 0
-    → ((x ≡ 0 → ⊥) → PickedEntry kind t n x y) → Picked kind t lengths (j + 1) (set text j x) (set results j y)
-picked_more {kind} {t} {lengths} {text} {results} {j} x y w l e f = record {
-  text-long = length-set text j x ∙ w.text-long;
-  results_long = length-set results j y ∙ w.results_long;
-  each =
-      fill_both (λ (i x y : ℕ). (x ≡ 0 → ⊥) → PickedEntry kind t (get_or lengths i 0) x y) text results j x y
-      (omega (arith, w.text-long)) (omega (arith, w.results_long)) w.each (rw (sym e) f);
-}
+module _ {kind : Kind} {t : Table} {lengths : List ℕ} where
+  pub picked_none : (picked : List (Option Candidate)) → length picked ≡ 64 → Picked kind t lengths 0 picked
+  picked_none picked e = record { long = e; each = below_none _ }
 
-pub picked_upto : {kind : Kind} {t : Table} {lengths text results : List ℕ} {j n : ℕ} → n ≤ j → Picked kind t lengths j text results → Picked kind t lengths n text results
-picked_upto {j = j} {n = n} l w = record { text-long = w.text-long; results_long = w.results_long; each = λ i h. w.each i (omega arith) }
+  module _ {picked : List (Option Candidate)} {n : ℕ} (w : Picked kind t lengths n picked) where
+    pub picked_more : (x : Option Candidate) → n < 64 → {k : ℕ} → k ≡ get_or lengths n 0 → IfSome x (PickedEntry kind t k) → Picked kind t lengths (n + 1) (set picked n x)
+    picked_more x l e f = record {
+      long = length-set picked n x ∙ w.long;
+      each = fill_next (λ (i : ℕ) (y : Option Candidate). IfSome y (PickedEntry kind t (get_or lengths i 0))) picked n x None (omega (arith, w.long)) w.each (rw (sym e) f);
+    }
+
+    -- where their texts stand
+    pub picked-texts : Texts t.bytes n picked
+    picked-texts = record { long = w.long; each = λ j l. IfSome_then (get_or picked j None) (w.each j l) (λ c e. (omega (arith, e.ends, e.fits), e.fits)) }
+
+    pub picked_read : (j : ℕ) → j < n → {k : ℕ} {x : Option Candidate} → k ≡ get_or lengths j 0 → x ≡ get_or picked j None → IfSome x (PickedEntry kind t k)
+    picked_read j l e f = rw (e, f) (w.each j l)
 
 -- what is read of one slot
 pub near_read : {t : Table} {hashes low : List ℕ} {n : ℕ} → PackedBounds t hashes n low → (j : ℕ) → j < n → {h r : ℕ} → h ≡ get_or hashes j 0 → r ≡ get_or low j 0
     → LowerBound t (bucket_of t.buckets h) h (r % 4294967296)
 near_read a j l e f = rw (e, f) (a.each j l)
-
-pub picked_read : {kind : Kind} {t : Table} {lengths text results : List ℕ} {n : ℕ} → Picked kind t lengths n text results → (j : ℕ) → j < n → {k x y : ℕ} → k ≡ get_or lengths j 0
-    → x ≡ get_or text j 0 → y ≡ get_or results j 0 → (x ≡ 0 → ⊥) → PickedEntry kind t k x y
-picked_read w j l e f g = rw (e, f, g) (w.each j l)

@@ -10,47 +10,42 @@ use Rattle.laws.specs.inner.Lists.{splice}
 use Rattle.le.specs.Le.{u32_at, le4}
 use Rattle.le.proofs.Four.{le4_front, shifted}
 use Rattle.verdict.specs.Checks.{first_fault}
-use Rattle.verdict.specs.Verdict.{Accepted, Refused}
-use Rattle.verdict.proofs.Laws.{Clean, never, pass, stop, fault_none, fault_append, fault_keep}
+use Rattle.std.specs.Prelude.{Result, Ok, Err}
+use Rattle.std.specs.Result.{IsErrAnd}
+use Rattle.std.proofs.lemmas.Result.{err_from_is_err_and}
+use Rattle.verdict.specs.Verdict.{Accepted, Refused, refused, answer_of}
+use Rattle.verdict.specs.declared.Refusal.{Refusal}
+use Rattle.verdict.specs.declared.Rule.TheVariants.{AnswerRoom}
+use Rattle.verdict.proofs.Gives.{gives_ok, gives_err}
+use Rattle.verdict.proofs.Laws.{Clean, pass, stop, fault_none, fault_append, fault_keep}
 use Rattle.lookup.specs.Kinds.{kind_of, told_number}
 use Rattle.lookup.specs.declared.Lookup.{Lookup}
 use Rattle.lookup.proofs.ByKind.{kind-low}
 use Rattle.path.specs.Names.{names_of, name_at, path_checks}
 use Rattle.batch.specs.Places.{place, places, place_checks, answers_after}
 use Rattle.batch.specs.inner.Answer.{Answered}
-use Rattle.batch.specs.declared.Batch.{Batch}
 use Rattle.batch.proofs.Placed.{length-place}
 
 -- ---- the ways out
 
-abbrev pub Done : (List ℕ → Lookup) → List ℕ → List ℕ → Batch → List ℕ → Type 0
-Done f texts d r d' = Answered texts (length d) r × (d' ≡ answers_after f texts d r.answer)
+abbrev pub Done : (List ℕ → Lookup) → List ℕ → List ℕ → Result ℕ Refusal → List ℕ → Type 0
+Done f texts d r d' = Answered texts (length d) r × (d' ≡ answers_after f texts d (answer_of r))
 
 module _ (f : List ℕ → Lookup) (texts d : List ℕ) where
-  pub texts-refused : {n p : ℕ} → first_fault (path_checks texts) ≡ Refused n p → Done f texts d (record { answer = Refused n p; texts = 0 }) d
+  -- by a `?`
+  pub texts-refused : (a : Result ℕ Refusal) (r : Refusal) → IsErrAnd a (λ q. q ≡ r) → first_fault (path_checks texts) ≡ refused r → Done f texts d a d
   unfolding answers_after
-  texts-refused e = (record { answer = sym (fault_keep _ _ e); many = λ z. absurd (never refl z); none = λ n p z. refl }, refl)
+  texts-refused a r h e = let q = err_from_is_err_and a h in rw (q.1, q.2) (gives_err (fault_keep _ _ e), refl)
 
   module _ (ok : Clean (path_checks texts)) {n : ℕ} (e : n ≡ length (names_of texts)) where
-    pub too_few : length d / 8 < n → Done f texts d (record { answer = Refused 25 n; texts = 0 }) d
+    pub too_few : length d / 8 < n → Done f texts d (Err (record { 0 = AnswerRoom; 1 = n })) d
     unfolding answers_after place_checks
-    too_few h = (
-      record {
-        answer = ap (Refused 25) e ∙ sym (fault_append _ _ ok ∙ stop _ _ _ _ _ (λ l. omega arith));
-        many = λ z. absurd (never refl z);
-        none = λ n p z. refl;
-      },
-      refl,
-    )
+    too_few h = (gives_err (fault_append _ _ ok ∙ stop _ _ _ _ _ (λ l. omega arith) ∙ ap (Refused 25) (sym e)), refl)
 
-    pub all_told : {d' : List ℕ} → n ≤ length d / 8 → d' ≡ splice d 0 (places f (names_of texts)) → Done f texts d (record { answer = Accepted; texts = n }) d'
+    pub all_told : {d' : List ℕ} → n ≤ length d / 8 → d' ≡ splice d 0 (places f (names_of texts)) → Done f texts d (Ok n) d'
     unfolding answers_after place_checks splice
     all_told h s = (
-      record {
-        answer = sym (fault_append _ _ ok ∙ pass _ _ _ _ _ (omega arith) ∙ fault_none);
-        many = λ z. e;
-        none = λ n p z. absurd (never z refl);
-      },
+      gives_ok (fault_append _ _ ok ∙ pass _ _ _ _ _ (omega arith) ∙ fault_none) e,
       s ∙ ap (λ (k : ℕ). places f (names_of texts) ++ drop k d) (zero-add (length (places f (names_of texts)))),
     )
 

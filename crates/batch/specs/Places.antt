@@ -2,8 +2,7 @@
 use Rattle.std.specs.Prelude.{ℕ, ◌/◌, List, [], ◌∷◌, ◌++◌, length, drop}
 use Rattle.le.specs.Le.{le4}
 use Rattle.verdict.specs.Checks.{Check, at_most}
-use Rattle.verdict.specs.Verdict.{Verdict}
-use Rattle.verdict.specs.Verdict.{Accepted, Refused}
+use Rattle.verdict.specs.Verdict.{Verdict, Accepted, Refused}
 use Rattle.lookup.specs.Kinds.{kind_of, told_number}
 use Rattle.lookup.specs.declared.Lookup.{Lookup}
 use Rattle.path.specs.Names.{names_of}

@@ -10,6 +10,7 @@ ghost use Rattle.path.specs.Names.{path_checks};
 ghost use Rattle.search.specs.inner.Group.{LowerBounds, Lengths};
 ghost use Rattle.batch.specs.inner.Groups.{Group, PackedBounds, Texts, Picked, SameLow};
 
+use lookup::first::Candidate;
 use lookup::{Kind, first};
 use region::SAMPLES;
 use search::group;
@@ -27,19 +28,17 @@ pub fn measure_group(
         × (length lengths.old ≡ 64) × (length hashes.old ≡ 64) }
     ensures { (1 ≤ result) × Group texts.now at result lengths.new hashes.new }
 {
-    let mut n = 0;
     let mut p = at;
-    while p < texts.len() {
-        if n == 64 {
+    for n in 0..64 {
+        if p >= texts.len() {
             return n;
         }
         let x = text::measure(texts, t, p, (texts.len() - p) / 2);
         lengths[n] = x.length;
         hashes[n] = x.hash as u32;
         p += 2 * x.length + 2;
-        n += 1;
     }
-    n
+    64
 }
 
 // Picks an entry for each text, by its hash and its length.
@@ -53,18 +52,14 @@ fn pick_each(
     hashes: &[u32; 64],
     low: &[usize; 64],
     n: usize,
-    text: &mut [usize; 64],
-    end: &mut [usize; 64],
-    results: &mut [usize; 64],
+    picked: &mut [Option<Candidate>; 64],
 )
     requires { Held b.now s segments.now buckets.now × (first_fault (string_checks (held_table b.now s buckets.now)) ≡ Accepted)
-        × (n ≤ 64) × Lengths lengths.now hashes.now low.now × Lengths text.old end.old results.old }
-    ensures { Texts b.now n text.new end.new
-        × Picked kind (held_table b.now s buckets.now) lengths.now n text.new results.new }
+        × (n ≤ 64) × Lengths lengths.now hashes.now low.now × (length picked.old ≡ 64) }
+    ensures { Picked kind (held_table b.now s buckets.now) lengths.now n picked.new }
 {
-    let mut j = 0;
-    while j < n {
-        let c = first::pick(
+    for j in 0..n {
+        picked[j] = first::pick(
             b,
             s,
             segments,
@@ -74,24 +69,20 @@ fn pick_each(
             low[j],
             lengths[j],
         );
-        text[j] = c.text;
-        end[j] = c.end;
-        results[j] = c.result;
-        j += 1;
     }
 }
 
-// Reads where texts start and end. What was read stands above the 32 bits of a place, where nobody asks for it: a read whose value is put
-// nowhere would be left out.
-fn read_ends(b: &[u8], text: &[usize; 64], end: &[usize; 64], n: usize, low: &mut [usize; 64])
-    requires { (n ≤ 64) × Texts b.now n text.now end.now × (length low.old ≡ 64) }
+// Reads where the picked texts start and end. What was read stands above the 32 bits of a place, where nobody asks for it: a read whose
+// value is put nowhere would be left out.
+fn read_ends(b: &[u8], picked: &[Option<Candidate>; 64], n: usize, low: &mut [usize; 64])
+    requires { (n ≤ 64) × Texts b.now n picked.now × (length low.old ≡ 64) }
     ensures { SameLow low.old low.new }
 {
-    let mut j = 0;
-    while j < n {
-        let x = le::u16_at(b, text[j]) + 65536 * le::u16_at(b, end[j]);
-        low[j] = low[j] % 4294967296 + 4294967296 * x;
-        j += 1;
+    for j in 0..n {
+        if let Some(c) = picked[j] {
+            let x = le::u16_at(b, c.text) + 65536 * le::u16_at(b, c.end);
+            low[j] = low[j] % 4294967296 + 4294967296 * x;
+        }
     }
 }
 
@@ -107,21 +98,18 @@ pub fn prefetch_texts(
     hashes: &[u32; 64],
     n: usize,
     low: &mut [usize; 64],
-    text: &mut [usize; 64],
-    results: &mut [usize; 64],
+    picked: &mut [Option<Candidate>; 64],
 )
     requires { Held b.now s segments.now buckets.now × (first_fault (string_checks (held_table b.now s buckets.now)) ≡ Accepted)
-        × (n ≤ 64) × Lengths lengths.now hashes.now low.old × (length text.old ≡ 64) × (length results.old ≡ 64)
+        × (n ≤ 64) × Lengths lengths.now hashes.now low.old × (length picked.old ≡ 64)
         × LowerBounds (held_table b.now s buckets.now) hashes.now n low.old }
     ensures near { PackedBounds (held_table b.now s buckets.now) hashes.now n low.new }
-    ensures picked { Picked kind (held_table b.now s buckets.now) lengths.now n text.new results.new }
+    ensures picked { Picked kind (held_table b.now s buckets.now) lengths.now n picked.new }
 {
-    let mut end = [0usize; 64];
     pick_each(
-        b, s, segments, buckets, kind, lengths, hashes, low, n, text, &mut end, results,
+        b, s, segments, buckets, kind, lengths, hashes, low, n, picked,
     );
-    if !group::spread(b, s, segments, buckets, 262144) {
-        return;
+    if group::spread(b, s, segments, buckets, 262144) {
+        read_ends(b, picked, n, low);
     }
-    read_ends(b, text, &end, n, low);
 }

@@ -25,25 +25,17 @@ const PLACE_SIZE: usize = 8;
 
 const VALUE_AT: usize = 4;
 
-// The end of the next block of characters: as long as its zeros can be counted at once.
-fn block_end(at: usize, end: usize) -> usize
-    requires { (at < end) × (at % 2 ≡ 0) × (end % 2 ≡ 0) }
-    ensures { (at < result) × (result ≤ end) × (result ≤ at + 131070) × (result % 2 ≡ 0) }
-{
-    if end - at < 131070 { end } else { at + 131070 }
-}
+// The bytes of the characters whose zeros are counted at once.
+const BLOCK_SIZE: usize = 2 * 65535;
 
-// How many texts there are: each 0 ends one.
+// How many texts there are: each 0 ends one. A block is as long as its zeros can be counted at once.
 fn count_texts(texts: &[u8]) -> usize
     requires { length texts.now % 2 ≡ 0 }
     ensures { result ≡ length (names_of texts.now) }
 {
-    let mut n = 0usize;
-    let mut at = 0;
-    while at < texts.len() {
-        let end = block_end(at, texts.len());
-        n += text::zeros(texts, at, (end - at) / 2);
-        at = end;
+    let mut n = 0;
+    for block in texts.chunks(BLOCK_SIZE) {
+        n += text::zeros(block, 0, block.len() / 2);
     }
     n
 }
@@ -75,13 +67,12 @@ fn put_places(
     ensures { answers.new
         ≡ splice answers.old 0 (places (told_in kind (held_table b.now s buckets.now)) (names_of texts.now)) }
 {
-    let mut lengths = [0usize; 64];
-    let mut hashes = [0u32; 64];
-    let mut low = [0usize; 64];
-    let mut text = [0usize; 64];
-    let mut results = [0usize; 64];
+    let mut lengths = [0; 64];
+    let mut hashes = [0; 64];
+    let mut low = [0; 64];
+    let mut picked = [None; 64];
     let mut skipped = 0;
-    let mut i = 0usize;
+    let mut i = 0;
     let mut at = 0;
     while at < texts.len() {
         let n = group::measure_group(texts, t, at, &mut lengths, &mut hashes);
@@ -98,11 +89,9 @@ fn put_places(
             &hashes,
             n,
             &mut low,
-            &mut text,
-            &mut results,
+            &mut picked,
         );
-        let mut j = 0;
-        while j < n {
+        for j in 0..n {
             let k = lengths[j];
             let l = first::find_picked(
                 b,
@@ -112,8 +101,7 @@ fn put_places(
                 kind,
                 le::wide(hashes[j]),
                 low[j] % 4294967296,
-                text[j],
-                results[j],
+                picked[j],
                 texts,
                 at,
                 k,
@@ -121,12 +109,12 @@ fn put_places(
             put_place(answers, i, l);
             i += PLACE_SIZE;
             at += 2 * k + 2;
-            j += 1;
         }
     }
 }
 
-// Looks up each text in a table that is accepted: refusal 24 or 25, or how many there are; nothing is written unless there is a place for each.
+// Looks up each text in a table that is accepted: refusal 24 or 25, or how many there are. Nothing is written unless there is a place for
+// each.
 pub fn find_each(
     b: &[u8],
     t: &[u32; 2048],
@@ -143,23 +131,11 @@ pub fn find_each(
     ensures answers { answers.new
         ≡ answers_after (told_in kind (held_table b.now s buckets.now)) texts.now answers.old (answer_of result) }
 {
-    let c = path::names::check_path(texts);
-    if let Verdict::Refused(num, place) = c {
-        return Batch {
-            answer: Verdict::Refused(num, place),
-            texts: 0,
-        };
-    }
+    path::names::check_path(texts)?;
     let n = count_texts(texts);
     if answers.len() / PLACE_SIZE < n {
-        return Batch {
-            answer: Verdict::Refused(25, n),
-            texts: 0,
-        };
+        return Err(Refusal(Rule::AnswerRoom, n));
     }
     put_places(b, t, s, segments, buckets, kind, texts, answers);
-    Batch {
-        answer: Verdict::Accepted,
-        texts: n,
-    }
+    Ok(n)
 }

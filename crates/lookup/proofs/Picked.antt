@@ -27,11 +27,6 @@ module _ (b : List ℕ) (r e s p : ℕ) (laid : Laid 2 b r) (h : Resolves 2 b r 
   unfolding place_of
   place_is l d = omega (arith, started, d)
 
--- nothing picked
-pub not_picked : (kind : Kind) (t : Table) (most n w : ℕ) {x y : ℕ} → TableLaid t most → x ≡ 0 → y ≡ 0
-    → ((x + 2 ≤ length t.bytes) × (y + 2 ≤ length t.bytes)) × ((x ≡ 0 → ⊥) → PickedEntry kind t n x w)
-not_picked kind t most n w laid e f = ((omega (arith, laid.list), omega (arith, laid.list)), λ g. absurd (g e))
-
 -- entry j of bucket k, which stands at e
 module _ (t : Table) (k j e : ℕ) (ok : Clean (string_checks t)) (here : Here t k j) (q : e ≡ entry_at t k j) where
   pub resolved-at : Resolves 2 t.bytes t.at (entry_segment t.bytes e) (entry_element t.bytes e)
@@ -49,11 +44,12 @@ module _ (t : Table) (k j e : ℕ) (ok : Clean (string_checks t)) (here : Here t
           let c = element-at t k j e _ q refl in
           addressed t k j x w n ok laid here (p ∙ cc) (length_at t k j e w q d) (omega (arith, long-read))
 
-      pub picked : (kind : Kind) (v : ℕ) → v ≡ tells_at kind t.bytes e → PickedEntry kind t n x v
-      picked kind v g = record {
+      pub picked : (kind : Kind) (y v : ℕ) → y ≡ x + 2 * n → v ≡ tells_at kind t.bytes e → PickedEntry kind t n (record { text = x; end = y; result = v })
+      picked kind y v h g = record {
         bucket = k;
         entry = j;
         here = here;
+        ends = h;
         fits = omega (arith, stands.ends);
         text = stands.text;
         result = g ∙ ap (tells_at kind t.bytes) q;

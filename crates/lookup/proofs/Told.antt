@@ -16,6 +16,7 @@ use Rattle.lookup.specs.Lookup.{entry_of_text, index_of_text, address_of_text}
 use Rattle.lookup.specs.Kinds.{told_in, tells_at}
 use Rattle.lookup.specs.inner.PickedEntry.{PickedEntry}
 use Rattle.lookup.specs.declared.Kind.{Kind}
+use Rattle.lookup.specs.declared.first.Candidate.{Candidate}
 use Rattle.lookup.specs.declared.Kind.TheVariants.{Name, Value}
 use Rattle.lookup.specs.declared.Lookup.{Lookup}
 use Rattle.lookup.specs.declared.Lookup.TheVariants.{Found, Collided, Absent}
@@ -43,7 +44,7 @@ told_borne Value t x ok k j w h e p =
     ap Found z ∙ sym (told-some (λ a c. segment_of t a c * 65536 + element_of t a c) t x ok k j h e)
 
 -- compared where its text stands
-pub told_there : (kind : Kind) (t : Table) (x : List ℕ) {n p w : ℕ} → Clean (string_checks t) → PickedEntry kind t n p w → chars t.bytes p n ≡ x → Found w ≡ told_in kind t x
+pub told_there : (kind : Kind) (t : Table) (x : List ℕ) {n : ℕ} {c : Candidate} → Clean (string_checks t) → PickedEntry kind t n c → chars t.bytes c.text n ≡ x → Found c.result ≡ told_in kind t x
 told_there kind t x ok s e = told_borne kind t x ok _ _ _ s.here (s.text ∙ e) s.result
 
 module _ (t : Table) (x : List ℕ) (ok : Clean (string_checks t)) {r : Lookup} (q : r ≡ entry_of_text t x) where

@@ -1,6 +1,6 @@
 // A lookup whose text is compared later: what is known before any text of the table is read, so that a caller with many can have their
 // texts read ahead.
-ghost use Rattle.std.specs.Prelude.{◌≡◌, ◌+◌, ◌*◌, ◌≤◌, length};
+ghost use Rattle.std.specs.Prelude.{◌≡◌, ◌+◌, ◌*◌, ◌≤◌, IfSome, length};
 ghost use Rattle.verdict.specs.Checks.{first_fault};
 ghost use Rattle.verdict.specs.Verdict.{Accepted};
 ghost use Rattle.hash.specs.Hash.{hash_text, bucket_of};
@@ -19,23 +19,12 @@ use layout::CHARACTER_SIZE;
 use region::{Region, SAMPLES};
 use strings::{Strings, entry, fields};
 
-// An entry that may bear the text: where its own text starts, where it ends, and what is told of it. Where there is none, its text starts
-// at 0.
-#[derive(Clone, Copy)]
+// An entry that bears as many characters as are asked for: where its text starts, where it ends, and what is told of it.
+#[derive(Clone, Copy, Debug, PartialEq, Eq)]
 pub struct Candidate {
     pub text: usize,
     pub end: usize,
     pub result: usize,
-}
-
-fn no_candidate() -> Candidate
-    ensures { (result.text ≡ 0) × (result.end ≡ 0) }
-{
-    Candidate {
-        text: 0,
-        end: 0,
-        result: 0,
-    }
 }
 
 // Where the text of the entry at e starts. Its address resolves, so no count is read.
@@ -58,28 +47,24 @@ pub fn pick(
     h: usize,
     low: usize,
     n: usize,
-) -> Candidate
+) -> Option<Candidate>
     requires { Held b.now s segments.now buckets.now × (first_fault (string_checks (held_table b.now s buckets.now)) ≡ Accepted) }
-    ensures places { (result.text + 2 ≤ length b.now) × (result.end + 2 ≤ length b.now) }
-    ensures bears { (result.text ≡ 0 → ⊥) → PickedEntry kind (held_table b.now s buckets.now) n result.text result.result }
+    ensures { IfSome result (PickedEntry kind (held_table b.now s buckets.now) n) }
 {
     let k = hash::bucket(h, buckets.len());
     if entry::entry_count(b, s, segments, buckets, k) <= low {
-        return no_candidate();
+        return None;
     }
     let e = entry::entry_at(b, s, segments, buckets, k, low);
-    if fields::hash(b, e) != h {
-        return no_candidate();
+    if fields::hash(b, e) != h || fields::length(b, e) - 1 != n {
+        return None;
     }
-    if fields::length(b, e) - 1 != n {
-        return no_candidate();
-    }
-    let x = text_at(b, s.chars, segments, e);
-    Candidate {
-        text: x,
-        end: x + 2 * n,
+    let text = text_at(b, s.chars, segments, e);
+    Some(Candidate {
+        text,
+        end: text + 2 * n,
         result: crate::result_at(b, kind, e),
-    }
+    })
 }
 
 // What is told of the n characters at p of what is asked, for a caller that has their hash, its place in the bucket, and what was picked
@@ -92,8 +77,7 @@ pub fn find_picked(
     kind: Kind,
     h: usize,
     low: usize,
-    text: usize,
-    res: usize,
+    picked: Option<Candidate>,
     q: &[u8],
     p: usize,
     n: usize,
@@ -101,13 +85,13 @@ pub fn find_picked(
     requires held { Held b.now s segments.now buckets.now × (first_fault (string_checks (held_table b.now s buckets.now)) ≡ Accepted) }
     requires n_in_bounds { (p + 2 * n ≤ length q.now) × (h ≡ hash_text (chars q.now p n))
         × LowerBound (held_table b.now s buckets.now) (bucket_of (length buckets.now) h) h low }
-    requires picked_entry { (text ≡ 0 → ⊥) → PickedEntry kind (held_table b.now s buckets.now) n text res }
+    requires picked_entry { IfSome picked (PickedEntry kind (held_table b.now s buckets.now) n) }
     ensures { result ≡ told_in kind (held_table b.now s buckets.now) (chars q.now p n) }
 {
-    if text != 0 {
-        if text::alike(b, text, q, p, n) {
-            return Lookup::Found(res);
-        }
+    if let Some(c) = picked
+        && text::alike(b, c.text, q, p, n)
+    {
+        return Lookup::Found(c.result);
     }
     crate::find_from(b, s, segments, buckets, kind, h, low, q, p, n)
 }

@@ -18,11 +18,10 @@ ghost use Rattle.lookup.specs.Kinds.{told_in, tells_at, kind_of, told_number};
 pub mod first;
 
 use region::SAMPLES;
-use strings::spot::Spot;
 use strings::{Strings, entry, fields, spot};
 
 // What a look-up answers: found, with a number; collided, with how many entries have the text's hash; absent.
-#[derive(Clone, Copy)]
+#[derive(Clone, Copy, Debug, PartialEq, Eq)]
 pub enum Lookup {
     Found(usize),
     Collided(usize),
@@ -30,7 +29,7 @@ pub enum Lookup {
 }
 
 // What is found as two numbers, for C.
-#[derive(Clone, Copy)]
+#[derive(Clone, Copy, Debug, PartialEq, Eq)]
 pub struct Numbers {
     pub kind: u32,
     pub value: usize,
@@ -48,7 +47,7 @@ pub fn as_numbers(l: Lookup) -> Numbers
 }
 
 // What is asked for: a name's index, or a value's address.
-#[derive(Clone, Copy)]
+#[derive(Clone, Copy, Debug, PartialEq, Eq)]
 pub enum Kind {
     Name,
     Value,
@@ -74,11 +73,10 @@ fn entry_bears(
     if fields::length(b, e) != n + 1 {
         return false;
     }
-    let a = spot::entry_spot(b, s.chars, segments, e);
-    let Spot::At(x, _) = a else {
+    let Some(spot) = spot::entry_spot(b, s.chars, segments, e) else {
         return false;
     };
-    text::alike(b, x, q, p, n)
+    text::alike(b, spot.at, q, p, n)
 }
 
 // What is told of the n characters at p of what is asked, which no entry bears, when `count` entries have their hash. A 0 is looked for only
@@ -116,8 +114,7 @@ fn find_entry(
 {
     let k = hash::bucket(h, buckets.len());
     let m = entry::entry_count(b, s, segments, buckets, k);
-    let mut j = low;
-    while j < m {
+    for j in low..m {
         let e = entry::entry_at(b, s, segments, buckets, k, j);
         if fields::hash(b, e) != h {
             return unborne(q, p, n, j - low);
@@ -125,9 +122,8 @@ fn find_entry(
         if entry_bears(b, s, segments, buckets, k, j, q, p, n) {
             return Lookup::Found(e);
         }
-        j += 1;
     }
-    unborne(q, p, n, j - low)
+    unborne(q, p, n, m - low)
 }
 
 // What is told of the entry at e.

@@ -13,7 +13,7 @@ use Rattle.lookup.specs.Kinds.{told_in}
 use Rattle.lookup.specs.declared.Kind.TheVariants.{Name}
 use Rattle.lookup.specs.Lookup.{index_of_text}
 use Rattle.lookup.specs.declared.Lookup.{Lookup}
-use Rattle.lookup.specs.declared.Lookup.TheVariants.{Found, Collided, Absent}
+use Rattle.lookup.specs.declared.Lookup.TheVariants.{Found}
 use Rattle.lookup.proofs.Found.{index_listed}
 
 module _ (ed : Edition) (b x : List ℕ) (ok : Clean (string_checks (names ed b))) where
@@ -39,19 +39,8 @@ module _ (ed : Edition) (b x : List ℕ) (ok : Clean (string_checks (names ed b)
         let w = (index_listed (names ed b) x ok i).0 (sym told_names ∙ e) in
         record { low = w.0; high = omega (arith, w.1); text = w.2 }
 
-    pub collided_bears : {n : ℕ} → r ≡ Collided n → (i : ℕ) → Bears ed b i x → ⊥
-    collided_bears e i h =
-        let p = bears_found i h in
-        let q = told_names in
-        let z : ◌≡◌ {A = ℕ} 0 1 = cc in
-        omega arith
-
-    pub absent_bears : r ≡ Absent → (i : ℕ) → Bears ed b i x → ⊥
-    absent_bears e i h =
-        let p = bears_found i h in
-        let q = told_names in
-        let z : ◌≡◌ {A = ℕ} 0 1 = cc in
-        omega arith
+    pub unfound_bears : ((i : ℕ) → r ≡ Found i → ⊥) → (i : ℕ) → Bears ed b i x → ⊥
+    unfound_bears f i h = f i (told_names ∙ bears_found i h)
 
 -- an index has 32 bits
 pub index-low : (ed : Edition) (b x : List ℕ) (i : ℕ) (t : Table) → t ≡ names ed b → TableLaid t values_most → Bears ed b i x → i < 2 ^ 32

@@ -1,17 +1,15 @@
 -- Refusal 24 of a path: what it finds, and what it leaves of a path that passes. Assumes nothing.
-use mathlib.Core.Path.{◌≡◌, sym, ap, ◌∙◌}
-use mathlib.Core.Logic.{⊎_elim, by_cases}
+use mathlib.Core.Path.{◌≡◌, ap, ◌∙◌}
+use mathlib.Core.Logic.{⊎_elim}
 use mathlib.Core.List.{List}
-use Prim.Native.Nat.{ℕ, ◌+◌, ◌-◌, ◌*◌, ◌%◌, ◌≤◌, ◌<◌}
+use Prim.Native.Nat.{ℕ, ◌+◌, ◌-◌, ◌*◌, ◌/◌, ◌%◌, ◌<◌}
 use native.Mathlib.Omega.{arith}
-use native.Mathlib.Decide.{ℕ_discrete}
 use lib.ListN.{length}
 use Rattle.verdict.specs.Checks.{first_fault}
 use Rattle.verdict.specs.Verdict.{Refused}
 use Rattle.verdict.proofs.Laws.{Clean, pass, stop, clean_inv, fault_none}
 use Rattle.le.specs.Le.{u16_at}
 use Rattle.path.specs.Names.{Closed, path_checks}
-use Rattle.path.specs.inner.Indices.{NameEnd}
 
 module _ (path : List ℕ) where
   pub path_odd : (length path % 2 ≡ 0 → ⊥) → first_fault (path_checks path) ≡ Refused 24 (length path)
@@ -31,33 +29,18 @@ module _ (path : List ℕ) where
   unfolding path_checks
   formed_inv e = let x = clean_inv _ _ _ _ _ e in (x.0, (clean_inv _ _ _ _ _ x.1).0)
 
--- from the start of a name up to e there is no 0, and a character stands at e
-pub record Looking (path : List ℕ) (at e : ℕ) : Type 0 where
-  pub from : at ≤ e
-  pub within : e + 2 ≤ length path
-  pub even : e % 2 ≡ 0
-  pub live : (i : ℕ) → at + 2 * i < e → u16_at path (at + 2 * i) ≡ 0 → ⊥
+-- the k characters from an offset on are not 0
+abbrev pub Live : List ℕ → ℕ → ℕ → Type 0
+Live path at k = (i : ℕ) → i < k → u16_at path (at + 2 * i) ≡ 0 → ⊥
 
-module _ (path : List ℕ) (at : ℕ) (ok : Clean (path_checks path)) (even : at % 2 ≡ 0) where
-  pub looking_start : at < length path → Looking path at at
-  looking_start h =
-      record { from = omega arith; within = omega (arith, (formed_inv path ok).0); even = even; live = λ i l. absurd (omega arith) }
-
-  pub looking_on : (e : ℕ) → Looking path at e → (u16_at path e ≡ 0 → ⊥) → Looking path at (e + 2)
-  looking_on e w f = record {
-    from = omega (arith, w.from);
-    within = ⊎_elim
-        (λ z. absurd (omega (arith, w.within)))
-        (λ z. by_cases (ℕ_discrete (e + 2) (length path))
-        (λ q. let d : e ≡ length path - 2 = omega arith in absurd (f (ap (u16_at path) d ∙ z)))
-        (λ g. omega (arith, w.within, w.even, (formed_inv path ok).0)))
-        (formed_inv path ok).1;
-    even = omega (arith, w.even);
-    live = λ i l z.
-        by_cases (ℕ_discrete (at + 2 * i) e)
-        (λ q. f (ap (u16_at path) (sym q) ∙ z))
-        (λ g. w.live i (omega (arith, w.even)) z);
-  }
-
-pub looking_end : (path : List ℕ) (at e : ℕ) → Looking path at e → u16_at path e ≡ 0 → NameEnd path at e
-looking_end path at e w z = record { from = w.from; within = w.within; even = w.even; zero_there = z; live = w.live }
+-- a name starts there: the last character is 0
+module _ (path : List ℕ) (at : ℕ) (ok : Clean (path_checks path)) (even : at % 2 ≡ 0) (l : at < length path) where
+  pub some_end : Live path at ((length path - at) / 2) → ⊥
+  some_end w =
+      let f = formed_inv path ok in
+      ⊎_elim
+      (λ z. omega arith)
+      (λ z.
+      let e : at + 2 * ((length path - at) / 2 - 1) ≡ length path - 2 = omega (arith, f.0) in
+      w _ (omega (arith, f.0)) (ap (u16_at path) e ∙ z))
+      f.1

@@ -1,10 +1,9 @@
 -- Path listing (FORMAT, "Questions"): the matches written out, or refusal 25.
-use Rattle.std.specs.Prelude.{ℕ, ◌+◌, ◌/◌, Bool, true, false, cond, not, ◌&&◌, List, [], ◌∷◌, ◌++◌, eqb, length, drop}
+use Rattle.std.specs.Prelude.{ℕ, ◌/◌, Bool, true, false, cond, not, ◌&&◌, List, [], ◌∷◌, ◌++◌, eqb, length, drop}
 use Rattle.le.specs.Le.{le4}
 use Rattle.verdict.specs.Checks.{Check, at_most}
 use Rattle.verdict.specs.Decide.{texts?}
-use Rattle.verdict.specs.Verdict.{Verdict}
-use Rattle.verdict.specs.Verdict.{Accepted, Refused}
+use Rattle.verdict.specs.Verdict.{Verdict, Accepted, Refused}
 use Rattle.layout.specs.declared.Edition.{Edition}
 use Rattle.keys.specs.Names.{name_text}
 use Rattle.tree.specs.Chain.{Tree, ranged}

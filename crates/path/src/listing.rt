@@ -16,8 +16,8 @@ use strings::Strings;
 use tree::ranges;
 use verdict::{Refusal, Rule};
 
-// Lists the matches of a path in a file that is accepted: refusal 24 or 25, or how many there are; the first pass, with an empty listing, counts them, so nothing is written
-// unless all fit.
+// Lists the matches of a path in a file that is accepted: refusal 24 or 25, or how many there are. The first pass, with an empty listing,
+// counts them, so nothing is written unless all fit.
 pub fn list_path(
     b: &[u8],
     t: &[u32; 2048],
@@ -34,45 +34,15 @@ pub fn list_path(
     ensures answer { PathListed Bits64 b.now path.now (length list.old) result }
     ensures listing { list.new ≡ listing_after Bits64 b.now path.now list.old (answer_of result) }
 {
-    let c = names::check_path(path);
-    if let Verdict::Refused(num, place) = c {
-        return Listing {
-            answer: Verdict::Refused(num, place),
-            matches: 0,
-        };
-    }
-    let w = names::find_names(b, t, s, name_segments, name_buckets, path);
-    if !w.known {
-        return Listing {
-            answer: Verdict::Accepted,
-            matches: 0,
-        };
-    }
-    let n = w.count;
-    let indices = w.indices;
+    names::check_path(path)?;
+    let Some(w) = names::find_names(b, t, s, name_segments, name_buckets, path) else {
+        return Ok(0);
+    };
+    let wanted = &w.indices[..w.count];
     let root = ranges::root_at(nodes);
-    let mut none = [0u8; 0];
-    let k = below::list_below(
-        b,
-        nodes,
-        node_segments,
-        &indices,
-        n,
-        0,
-        0,
-        root,
-        &mut none,
-        0,
-    );
+    let k = below::list_below(b, nodes, node_segments, wanted, 0, root, &mut [], 0);
     if list.len() / 4 < k {
-        return Listing {
-            answer: Verdict::Refused(25, k),
-            matches: 0,
-        };
+        return Err(Refusal(Rule::AnswerRoom, k));
     }
-    let m = below::list_below(b, nodes, node_segments, &indices, n, 0, 0, root, list, 0);
-    Listing {
-        answer: Verdict::Accepted,
-        matches: m,
-    }
+    Ok(below::list_below(b, nodes, node_segments, wanted, 0, root, list, 0))
 }

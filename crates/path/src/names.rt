@@ -1,5 +1,5 @@
 // The names of a path, looked up once.
-ghost use Rattle.std.specs.Prelude.{◌≡◌, ◌%◌, ◌<◌, length};
+ghost use Rattle.std.specs.Prelude.{◌≡◌, ◌+◌, ◌*◌, ◌%◌, ◌<◌, MatchOption, length};
 ghost use Rattle.verdict.specs.Checks.{first_fault};
 ghost use Rattle.verdict.specs.Verdict.{Accepted, answer_of};
 ghost use Rattle.hash.specs.inner.Tables.{Tables};
@@ -8,18 +8,17 @@ ghost use Rattle.layout.specs.declared.Edition.TheVariants.{Bits64};
 ghost use Rattle.strings.specs.Order.{string_checks};
 ghost use Rattle.strings.specs.inner.Held.{Held, held_table};
 ghost use Rattle.path.specs.Names.{path_checks};
-ghost use Rattle.path.specs.inner.Indices.{NameEnd, WantedIs};
+ghost use Rattle.path.specs.inner.Indices.{NameEnd, Unborne, WantedIs};
 
 use lookup::{Kind, Lookup};
 use region::SAMPLES;
 use strings::Strings;
-use tree::{DEEPEST_LEVEL, MOST_LEVELS};
+use tree::MOST_LEVELS;
 use verdict::{Refusal, Rule};
 
-// The indices of the first `count` names; known is false where no node can bear the names.
+// The indices of a path's names, the first `count` of a chain's.
 #[derive(Clone, Copy)]
 pub struct Wanted {
-    pub known: bool,
     pub count: usize,
     pub indices: [u32; MOST_LEVELS],
 }
@@ -30,29 +29,28 @@ pub fn check_path(path: &[u8]) -> Result<(), Refusal>
 {
     let n = path.len();
     if n % 2 != 0 {
-        return Verdict::Refused(24, n);
+        return Err(Refusal(Rule::AskedText, n));
     }
-    if n != 0 {
-        if le::u16_at(path, n - 2) != 0 {
-            return Verdict::Refused(24, n);
+    if n != 0 && le::u16_at(path, n - 2) != 0 {
+        return Err(Refusal(Rule::AskedText, n));
+    }
+    Ok(())
+}
+
+// How many characters stand in front of the 0 that ends the name at an offset.
+fn name_length(path: &[u8], at: usize) -> usize
+    requires { (first_fault (path_checks path.now) ≡ Accepted) × (at % 2 ≡ 0) × (at < length path.now) }
+    ensures { NameEnd path.now at (at + 2 * result) }
+{
+    for k in 0..(path.len() - at) / 2 {
+        if le::u16_at(path, at + 2 * k) == 0 {
+            return k;
         }
     }
-    Verdict::Accepted
+    unreachable!()
 }
 
-// Where the name that starts at an offset ends: the offset of its 0.
-fn name_end(path: &[u8], at: usize) -> usize
-    requires { (first_fault (path_checks path.now) ≡ Accepted) × (at % 2 ≡ 0) × (at < length path.now) }
-    ensures { NameEnd path.now at result }
-{
-    let mut e = at;
-    while le::u16_at(path, e) != 0 {
-        e += 2;
-    }
-    e
-}
-
-// The indices of a path's names.
+// The indices of a path's names, or nothing where no node can bear them: below the root a chain has fewer than `MOST_LEVELS` nodes.
 pub(crate) fn find_names(
     b: &[u8],
     t: &[u32; 2048],
@@ -60,22 +58,19 @@ pub(crate) fn find_names(
     segments: &[u32; SAMPLES],
     buckets: &[u32],
     path: &[u8],
-) -> Wanted
+) -> Option<Wanted>
     requires { Tables t.now × Held b.now s segments.now buckets.now × (held_table b.now s buckets.now ≡ names Bits64 b.now)
         × (first_fault (string_checks (names Bits64 b.now)) ≡ Accepted) × (first_fault (path_checks path.now) ≡ Accepted) }
-    ensures { WantedIs Bits64 b.now path.now result }
+    ensures { MatchOption result (Unborne Bits64 b.now path.now) (WantedIs Bits64 b.now path.now) }
 {
-    let mut indices = [0u32; MOST_LEVELS];
-    let mut known = true;
-    let mut n = 0usize;
+    let mut indices = [0; MOST_LEVELS];
     let mut at = 0;
-    while at < path.len() {
-        if n == DEEPEST_LEVEL {
-            known = false;
-            break;
+    for count in 0..MOST_LEVELS {
+        if at == path.len() {
+            return Some(Wanted { count, indices });
         }
-        let e = name_end(path, at);
-        match lookup::find_text(
+        let n = name_length(path, at);
+        let Lookup::Found(i) = lookup::find_text(
             b,
             t,
             s,
@@ -84,26 +79,12 @@ pub(crate) fn find_names(
             Kind::Name,
             path,
             at,
-            (e - at) / 2,
-        ) {
-            Lookup::Found(i) => {
-                indices[n] = i as u32;
-            }
-            Lookup::Collided(_) => {
-                known = false;
-                break;
-            }
-            Lookup::Absent => {
-                known = false;
-                break;
-            }
-        }
-        n += 1;
-        at = e + 2;
+            n,
+        ) else {
+            return None;
+        };
+        indices[count] = i as u32;
+        at += 2 * n + 2;
     }
-    Wanted {
-        known,
-        count: n,
-        indices,
-    }
+    None
 }

@@ -1,26 +1,26 @@
-use Rattle.batch.proofs.Placed.{counted_start, block_on, counted_all}
+use Prim.Native.Nat.{◌%◌}
+use mathlib.Core.Path.{◌≡◌}
 use native.Mathlib.Omega.{arith}
+use lib.ListN.{length}
+use Rattle.batch.proofs.Zeros.{counting_few, counting_more, counting_all}
 use Rattle.batch.proofs.count_texts.Goals as goal
+use Rattle.batch.proofs.count_texts.Goals.{In-Some}
 
-pub loop-at-init : goal.loop-at-init
-loop-at-init c = counted_start _
-
-pub block_end-end-requires : goal.block_end-end-requires
-block_end-end-requires c = (c.loop-at-test.true, c.loop-at.invariant.even, c.requires)
-
-pub zeros-n-requires : goal.zeros-n-requires
-zeros-n-requires c = let e = c.block_end-end.ensures in (omega (arith, e.0, e.1), omega (arith, e.2))
+-- a block has whole characters
+even : (c : In-Some) → length c.in-Some.block.now % 2 ≡ 0
+even c = let i = c.loop-block.invariant in let s = c.in-Some.ensures.steps in omega (arith, s.1.1, i.size, i.counting.even)
 
 pub overflow_add-n : goal.overflow_add-n
-overflow_add-n c = record { fits = omega (arith, c.loop-at.invariant.few, c.zeros-n.ensures.1, c.block_end-end.ensures.0, c.block_end-end.ensures.1) }
+overflow_add-n c =
+    let w = counting_few c.loop-block.invariant.counting _ _ c.in-Some.ensures.steps.1.0 (even (goal.at.overflow_add-n c).In-Some) in
+    record { fits = omega (arith, w, c.zeros-n.ensures.0) }
 
-pub loop-at-smaller : goal.loop-at-smaller
-loop-at-smaller c = omega (arith, c.block_end-end.ensures.0, c.block_end-end.ensures.1)
-
-pub loop-at-preserved : goal.loop-at-preserved
-loop-at-preserved c = let w = c.loop-at.invariant in
-    let e = c.block_end-end.ensures in
-    block_on w c.requires e.0 e.1 e.3 c.zeros-n.ensures.0
+pub loop-block-preserved : goal.loop-block-preserved
+loop-block-preserved c =
+    let i = c.loop-block.invariant in
+    let s = c.in-Some.ensures.steps in
+    let w = counting_more i.counting _ _ s.1.0 (even (goal.at.loop-block-preserved c).In-Some) in
+    record { size = omega (arith, s.0, i.size); counting = rw c.zeros-n.ensures.0 w }
 
 pub returns : goal.returns
-returns c = counted_all c.loop-at.invariant c.loop-at-test.false
+returns c = counting_all c.loop-block.invariant.counting c.in-None.ensures.steps.1.0

@@ -1,10 +1,8 @@
-use Rattle.batch.proofs.Placed.{Counted}
-use lib.ListN.{length}
-use Prim.Native.Nat.{◌-◌}
+use Prim.Native.Nat.{◌%◌}
+use mathlib.Core.Path.{◌≡◌}
+use Rattle.std.specs.Slice.Iter.{chunks_rest, chunks_size}
+use Rattle.batch.proofs.Zeros.{Counting}
 use Rattle.batch.proofs.count_texts.Given as goal
 
-abbrev pub invariant-loop-at : goal.invariant-loop-at
-invariant-loop-at l = Counted l.texts l.n l.at
-
-abbrev pub decreases-loop-at : goal.decreases-loop-at
-decreases-loop-at l = length l.texts - l.at
+abbrev pub invariant-loop-block : goal.invariant-loop-block
+invariant-loop-block l = record { size : chunks_size l.block-iterator % 2 ≡ 0; counting : Counting l.texts l.n (chunks_rest l.block-iterator) }

@@ -11,11 +11,12 @@ use Rattle.batch.proofs.put_places.Given as goal
 abbrev pub invariant-loop-j : goal.invariant-loop-j
 invariant-loop-j l = Going (told_in l.kind (held_table l.b l.s l.buckets)) l.texts l.initial.answers l.initial.i l.initial.at l.n l.lengths l.hashes l.j l.answers l.i l.at
 
-abbrev pub decreases-loop-j : goal.decreases-loop-j
-decreases-loop-j l = l.n - l.j
-
 abbrev pub invariant-loop-at : goal.invariant-loop-at
-invariant-loop-at l = Writing (told_in l.kind (held_table l.b l.s l.buckets)) l.texts l.initial.answers l.i l.at l.answers × Lengths l.lengths l.hashes l.low × (length l.text ≡ 64) × (length l.results ≡ 64)
+invariant-loop-at l = record {
+  writing : Writing (told_in l.kind (held_table l.b l.s l.buckets)) l.texts l.initial.answers l.i l.at l.answers;
+  lengths : Lengths l.lengths l.hashes l.low;
+  picked : length l.picked ≡ 64;
+}
 
 abbrev pub decreases-loop-at : goal.decreases-loop-at
 decreases-loop-at l = length l.texts - l.at

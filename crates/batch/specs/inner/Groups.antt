@@ -1,11 +1,12 @@
 -- A group of texts: what is measured of each, and where its hash stands in the table.
-use Rattle.std.specs.Prelude.{ℕ, zero, suc, ◌+◌, ◌-◌, ◌*◌, ◌/◌, ◌%◌, ◌≤◌, ◌<◌, ◌≡◌, List, length, get_or}
+use Rattle.std.specs.Prelude.{ℕ, zero, suc, ◌+◌, ◌-◌, ◌*◌, ◌/◌, ◌%◌, ◌≤◌, ◌<◌, ◌≡◌, List, length, get_or, Option, None, IfSome}
 use Rattle.hash.specs.Hash.{hash_text, bucket_of}
 use Rattle.text.specs.Text.{text_in}
 use Rattle.layout.specs.Table.{Table}
 use Rattle.search.specs.inner.LowerBound.{LowerBound}
 use Rattle.lookup.specs.inner.PickedEntry.{PickedEntry}
 use Rattle.lookup.specs.declared.Kind.{Kind}
+use Rattle.lookup.specs.declared.first.Candidate.{Candidate}
 
 -- The text at an offset of the texts has k characters and hash h.
 pub record TextRead (texts : List ℕ) (at k h : ℕ) : Type 0 where
@@ -30,18 +31,15 @@ pub record PackedBounds (t : Table) (hashes : List ℕ) (n : ℕ) (low : List �
   pub long : length low ≡ 64
   pub each : (j : ℕ) → j < n → LowerBound t (bucket_of t.buckets (get_or hashes j 0)) (get_or hashes j 0) (get_or low j 0 % 4294967296)
 
--- A character of the file stands at each of the first n offsets of two lists.
-pub record Texts (b : List ℕ) (n : ℕ) (first later : List ℕ) : Type 0 where
-  pub first-long : length first ≡ 64
-  pub later-long : length later ≡ 64
-  pub first_in : (j : ℕ) → j < n → get_or first j 0 + 2 ≤ length b
-  pub later_in : (j : ℕ) → j < n → get_or later j 0 + 2 ≤ length b
+-- A character of the file stands where each of the first n candidates starts and where it ends.
+pub record Texts (b : List ℕ) (n : ℕ) (picked : List (Option Candidate)) : Type 0 where
+  pub long : length picked ≡ 64
+  pub each : (j : ℕ) → j < n → IfSome (get_or picked j None) (λ c. (c.text + 2 ≤ length b) × (c.end + 2 ≤ length b))
 
--- For each of the first n either nothing is picked, which is 0, or an entry that bears as many characters as its text has.
-pub record Picked (kind : Kind) (t : Table) (lengths : List ℕ) (n : ℕ) (text results : List ℕ) : Type 0 where
-  pub text-long : length text ≡ 64
-  pub results_long : length results ≡ 64
-  pub each : (j : ℕ) → j < n → (get_or text j 0 ≡ 0 → ⊥) → PickedEntry kind t (get_or lengths j 0) (get_or text j 0) (get_or results j 0)
+-- For each of the first n either nothing is picked or an entry that bears as many characters as its text has.
+pub record Picked (kind : Kind) (t : Table) (lengths : List ℕ) (n : ℕ) (picked : List (Option Candidate)) : Type 0 where
+  pub long : length picked ≡ 64
+  pub each : (j : ℕ) → j < n → IfSome (get_or picked j None) (PickedEntry kind t (get_or lengths j 0))
 
 -- The low halves of two lists are the same.
 pub record SameLow (a b : List ℕ) : Type 0 where

@@ -12,18 +12,18 @@ returns-then-length-n c = let p = c.requires in
 
 pub returns-in_default : goal.returns-in_default
 returns-in_default c = let p = c.requires in
-    absurd (unspotted _ _ _ _ c.entry_at-e.ensures.0 c.entry_spot-a.ensures c.in_default.is (entry-resolved _ _ _ p.2 p.1))
+    absurd (unspotted _ _ _ _ c.entry_at-e.ensures.0 c.entry_spot.ensures c.in_default.is (entry-resolved _ _ _ p.2 p.1))
 
 pub alike-requires : goal.alike-requires
 alike-requires c = let p = c.requires in
     let e = c.entry_at-e.ensures.0 in
-    let w = spotted _ _ _ _ e c.entry_spot-a.ensures p.0.laid.characters c.in-At.is in
+    let w = spotted _ _ _ _ e c.entry_spot.ensures p.0.laid.characters c.in-Some.is in
     let x = standing _ _ _ _ _ _ _ p.0.laid p.2 p.1 w (length_at _ _ _ _ _ e c.length.ensures) c.if-length-n.false in
     (omega (arith, x.ends), p.3)
 
 pub returns : goal.returns
 returns c = let p = c.requires in
     let e = c.entry_at-e.ensures.0 in
-    let w = spotted _ _ _ _ e c.entry_spot-a.ensures p.0.laid.characters c.in-At.is in
+    let w = spotted _ _ _ _ e c.entry_spot.ensures p.0.laid.characters c.in-Some.is in
     let x = standing _ _ _ _ _ _ _ p.0.laid p.2 p.1 w (length_at _ _ _ _ _ e c.length.ensures) c.if-length-n.false in
     text_there _ _ _ _ _ _ x c.alike.ensures

@@ -1,3 +1,5 @@
+use mathlib.Core.Path.{◌≡◌}
+use native.Mathlib.Omega.{arith}
 use Rattle.strings.proofs.Places.{here_in, hash_at}
 use Rattle.lookup.proofs.Bucket.{searched_start, searched_more, searched_over, searched_end, searched_found}
 use Rattle.lookup.proofs.find_entry.Goals as goal
@@ -27,4 +29,6 @@ loop-j-preserved c = searched_more _ _ _ _ _ _ _ c.loop-j.invariant _ c.loop-j-t
     c.if-hash-h.false (c.entry_bears.ensures.not c.if-entry_bears.false)
 
 pub returns : goal.returns
-returns c = searched_end _ _ _ _ _ _ _ c.loop-j.invariant c.requires.held.1 _ c.unborne-2.ensures c.loop-j-test.false
+returns c = let i = c.loop-j.invariant in
+    let e : c.entry_count-m.result ≡ c.loop-j.j = omega (arith, i.many, i.upto, c.loop-j-test.false) in
+    searched_end _ _ _ _ _ _ _ i c.requires.held.1 _ (rw e at c.unborne-2.ensures) c.loop-j-test.false

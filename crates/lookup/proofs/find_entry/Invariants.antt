@@ -1,4 +1,3 @@
-use Prim.Native.Nat.{◌-◌}
 use Rattle.text.specs.Text.{chars}
 use Rattle.strings.specs.inner.Held.{held_table}
 use Rattle.lookup.proofs.Bucket.{Searched}
@@ -6,6 +5,3 @@ use Rattle.lookup.proofs.find_entry.Given as goal
 
 abbrev pub invariant-loop-j : goal.invariant-loop-j
 invariant-loop-j l = Searched (held_table l.b l.s l.buckets) (chars l.q l.p l.n) l.h l.k l.m l.low l.j
-
-abbrev pub decreases-loop-j : goal.decreases-loop-j
-decreases-loop-j l = l.m - l.j

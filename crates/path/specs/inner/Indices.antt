@@ -1,5 +1,5 @@
 -- The names of a path as name indices: what the code looks up once, before it goes down the tree.
-use Rattle.std.specs.Prelude.{ℕ, ◌+◌, ◌*◌, ◌%◌, ◌≤◌, ◌<◌, ◌≡◌, true, false, cond, ◌⊎◌, List, [], ◌∷◌, eqb, length, get_or, take, drop}
+use Rattle.std.specs.Prelude.{ℕ, ◌+◌, ◌*◌, ◌%◌, ◌≤◌, ◌<◌, ◌≡◌, cond, ◌⊎◌, List, [], ◌∷◌, eqb, length, get_or}
 use Rattle.le.specs.Le.{u16_at}
 use Rattle.layout.specs.declared.Edition.{Edition}
 use Rattle.keys.specs.Names.{Bears}
@@ -15,23 +15,19 @@ pub record NameEnd (path : List ℕ) (at e : ℕ) : Type 0 where
   pub zero_there : u16_at path e ≡ 0
   pub live : (i : ℕ) → at + 2 * i < e → u16_at path (at + 2 * i) ≡ 0 → ⊥
 
--- The first `count` names have these indices, and the others' places hold 0. They are all the names; or the next name is no name of
--- the file, or there are more than a chain can bear.
+-- No node can bear the names: one is no name of the file, or there are more than a chain can bear.
+abbrev pub Unborne : Edition → List ℕ → List ℕ → Type 0
+Unborne ed b path = (deepest_level < length (names_of path))
+    ⊎ ((i : ℕ) × (i < length (names_of path)) × ((k : ℕ) → Bears ed b k (name_at (names_of path) i) → ⊥))
+
+-- The names have these indices.
 pub record WantedIs (ed : Edition) (b path : List ℕ) (w : Wanted) : Type 0 where
   pub long : length w.indices ≡ most_levels
   pub few : w.count ≤ deepest_level
+  pub many : w.count ≡ length (names_of path)
   pub index : (i : ℕ) → i < w.count → Bears ed b (get_or w.indices i 0) (name_at (names_of path) i)
-  pub rest : (i : ℕ) → w.count ≤ i → get_or w.indices i 0 ≡ 0
-  pub many : w.known ≡ true → w.count ≡ length (names_of path)
-  pub none : w.known ≡ false
-      → ((w.count ≡ deepest_level) × (deepest_level < length (names_of path)))
-      ⊎ ((w.count < length (names_of path)) × ((k : ℕ) → Bears ed b k (name_at (names_of path) w.count) → ⊥))
 
 -- The nodes below node a that name indices lead to, in document order.
 unfoldable pub matches_at : Tree → List ℕ → ℕ → List ℕ
 matches_at t [] a = a ∷ []
 matches_at t (i ∷ is) a = ranged (λ c. cond (eqb (t.name c) i) (matches_at t is c) []) (t.first a) (t.count a)
-
--- The indices from place `at` on, of n.
-abbrev pub indices_from : List ℕ → ℕ → ℕ → List ℕ
-indices_from xs n at = drop at (take n xs)

@@ -1,44 +1,35 @@
+use mathlib.Core.Path.{refl}
 use Rattle.strings.specs.inner.Held.{Here, held_table}
 use Rattle.strings.proofs.Places.{here_in}
 use Rattle.lookup.proofs.Bucket.{Standing}
-use Rattle.lookup.proofs.Picked.{not_picked, resolved-at, long-read, stands, picked}
+use Rattle.lookup.proofs.Picked.{resolved-at, long-read, stands, picked}
 use native.Mathlib.Omega.{arith}
 use Rattle.lookup.proofs.first.pick.Goals as goal
-use Rattle.lookup.proofs.first.pick.Goals.{After-entry_at-e, After-text_at-x}
+use Rattle.lookup.proofs.first.pick.Goals.{After-entry_at-e, After-text_at-text}
 
 -- the entry is there
 here : (c : After-entry_at-e) → let a = c.args in Here (held_table a.b.now a.s a.buckets.now) c.bucket-k.result a.low
 here c = here_in _ _ _ _ c.bucket-k.ensures.1 c.entry_count.ensures c.if-entry_count-low.false
 
 -- its text stands where it was located
-found : (c : After-text_at-x) → let a = c.args in Standing (held_table a.b.now a.s a.buckets.now) c.bucket-k.result a.low c.text_at-x.result a.n
-found c = let p = c.requires in stands _ _ _ _ p.1 ((let it : let a = c.args in Here (held_table a.b.now a.s a.buckets.now) c.bucket-k.result a.low = here_in _ _ _ _ c.bucket-k.ensures.1 c.entry_count.ensures c.if-entry_count-low.false in it)) c.entry_at-e.ensures.0 _ c.length.ensures p.0.laid _ _ c.text_at-x.ensures c.if-length-n.false
-
-pub returns-then-entry_count-low : goal.returns-then-entry_count-low
-returns-then-entry_count-low c = let z = c.no_candidate.ensures in
-    let both = not_picked _ _ _ _ _ c.requires.0.laid z.0 z.1 in record { places = both.0; bears = both.1 }
-
-pub returns-then-hash-h : goal.returns-then-hash-h
-returns-then-hash-h c = let z = c.no_candidate-then-hash-h.ensures in
-    let both = not_picked _ _ _ _ _ c.requires.0.laid z.0 z.1 in record { places = both.0; bears = both.1 }
+found : (c : After-text_at-text) → let a = c.args in
+    let t = held_table a.b.now a.s a.buckets.now in
+    Here t c.bucket-k.result a.low → Standing t c.bucket-k.result a.low c.text_at-text.result a.n
+found c h = let p = c.requires in stands _ _ _ _ p.1 h c.entry_at-e.ensures.0 _ c.length.ensures p.0.laid _ _ c.text_at-text.ensures c.if-length-n.false
 
 pub overflow_sub-length : goal.overflow_sub-length
 overflow_sub-length c = omega (arith, long-read _ _ _ _ c.requires.1 (here (goal.at.overflow_sub-length c).After-entry_at-e) c.entry_at-e.ensures.0 _ c.length.ensures)
 
-pub returns-then-length-n : goal.returns-then-length-n
-returns-then-length-n c = let z = c.no_candidate-then-length-n.ensures in
-    let both = not_picked _ _ _ _ _ c.requires.0.laid z.0 z.1 in record { places = both.0; bears = both.1 }
-
-pub text_at-x-requires : goal.text_at-x-requires
-text_at-x-requires c = let p = c.requires in (p.0.chars, p.0.sampled, c.entry_at-e.ensures.1, resolved-at _ _ _ _ p.1 (here (goal.at.text_at-x-requires c).After-entry_at-e) c.entry_at-e.ensures.0)
+pub text_at-text-requires : goal.text_at-text-requires
+text_at-text-requires c = let p = c.requires in (p.0.chars, p.0.sampled, c.entry_at-e.ensures.1, resolved-at _ _ _ _ p.1 (here (goal.at.text_at-text-requires c).After-entry_at-e) c.entry_at-e.ensures.0)
 
 pub overflow_mul-result : goal.overflow_mul-result
-overflow_mul-result c = record { fits = omega (arith, (found (goal.at.overflow_mul-result c).After-text_at-x).ends, c.requires.0.small) }
+overflow_mul-result c = record { fits = omega (arith, (found (goal.at.overflow_mul-result c).After-text_at-text (here (goal.at.overflow_mul-result c).After-entry_at-e)).ends, c.requires.0.small) }
 
 pub overflow_add-result : goal.overflow_add-result
-overflow_add-result c = record { fits = omega (arith, (found (goal.at.overflow_add-result c).After-text_at-x).ends, c.requires.0.small) }
+overflow_add-result c = record { fits = omega (arith, (found (goal.at.overflow_add-result c).After-text_at-text (here (goal.at.overflow_add-result c).After-entry_at-e)).ends, c.requires.0.small) }
 
 pub returns : goal.returns
 returns c = let p = c.requires in
-    let z = (found (goal.at.returns c).After-text_at-x).ends in
-    record { places = (omega arith, omega arith); bears = λ f. picked _ _ _ _ p.1 (here (goal.at.returns c).After-entry_at-e) c.entry_at-e.ensures.0 _ c.length.ensures p.0.laid _ _ c.text_at-x.ensures c.if-length-n.false _ _ c.result_at.ensures }
+    let h = here (goal.at.returns c).After-entry_at-e in
+    picked _ _ _ _ p.1 h c.entry_at-e.ensures.0 _ c.length.ensures p.0.laid _ _ c.text_at-text.ensures c.if-length-n.false _ _ _ refl c.result_at.ensures

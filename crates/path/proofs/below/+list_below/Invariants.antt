@@ -1,14 +1,11 @@
-use Prim.Native.Nat.{◌-◌, ◌≤◌}
+use lib.ListN.{length}
 use Rattle.layout.specs.declared.Edition.TheVariants.{Bits64}
 use Rattle.path.specs.inner.Written.{Wrote}
 use Rattle.path.proofs.Turns.{passed}
 use Rattle.path.proofs.below.+list_below.Given as goal
 
 abbrev pub decreases-list_below : goal.decreases-list_below
-decreases-list_below l = l.n - l.at
+decreases-list_below l = length l.wanted.now
 
 abbrev pub invariant-loop-j : goal.invariant-loop-j
-invariant-loop-j l = (l.j ≤ l.c.count) × Wrote l.initial.list l.k (passed Bits64 l.b l.wanted l.n l.at l.c.first l.j) l.m l.list
-
-abbrev pub decreases-loop-j : goal.decreases-loop-j
-decreases-loop-j l = l.c.count - l.j
+invariant-loop-j l = Wrote l.initial.list l.k (passed Bits64 l.b l.name l.rest l.c.first l.j) l.m l.list
