@@ -1,5 +1,5 @@
 -- The scan over all nodes: whether there is a root, and what the loops over segments and nodes have left. Assumes nothing.
-use Prim.Native.Nat.{ℕ, ◌+◌, ◌<◌}
+use Prim.Native.Nat.{ℕ, ◌+◌, ◌*◌, ◌<◌}
 use native.Mathlib.Omega.{arith}
 use mathlib.Core.Path.{◌≡◌, ap, sym, ◌∙◌}
 use mathlib.Core.List.{List}
@@ -11,7 +11,6 @@ use Rattle.verdict.proofs.Laws.{pass, stop}
 use Rattle.region.specs.declared.Region.{Region}
 use Rattle.region.specs.Region.{Resolves, count_of, start_of, used_of}
 use Rattle.region.specs.inner.Samples.{Mapped}
-use Rattle.region.proofs.Laws.{place-row}
 use Rattle.region.proofs.Samples.{used-at, place_at}
 use Rattle.layout.specs.Edition.{node_size}
 use Rattle.layout.specs.Layout.{nodes_at}
@@ -58,11 +57,7 @@ module _ (ed : Edition) (b : List ℕ) (g : Region) (w : Mapped (node_size ed) b
     pub node_in : (u el : ℕ) → u ≡ u32_at b (p + 4) → el < u → Resolves (node_size ed) b (nodes_at ed b) seg el
     node_in u el e l = record { seg_in = omega (arith, w.count_is); el_in = omega (arith, used-at (node_size ed) b (nodes_at ed b) seg p u q e) }
 
--- the first node of the segment that starts at p, and the one behind the node at x
-pub node-first : (ed : Edition) (b : List ℕ) (seg p : ℕ) → p ≡ start_of (node_size ed) b (nodes_at ed b) seg → p + 8 ≡ node_at ed b seg 0
+-- node el of the segment that starts at p
+pub node-place : (ed : Edition) (b : List ℕ) (seg p el : ℕ) → p ≡ start_of (node_size ed) b (nodes_at ed b) seg → p + 8 + el * node_size ed ≡ node_at ed b seg el
 unfolding node_at
-node-first ed b seg p q = omega (arith, place_at (node_size ed) b (nodes_at ed b) seg p 0 q)
-
-pub node_next : (ed : Edition) (b : List ℕ) (seg el x : ℕ) → x ≡ node_at ed b seg el → x + node_size ed ≡ node_at ed b seg (el + 1)
-unfolding node_at
-node_next ed b seg el x e = omega (arith, place-row (node_size ed) b (nodes_at ed b) seg el 1)
+node-place ed b = place_at (node_size ed) b (nodes_at ed b)

@@ -1,15 +1,14 @@
 -- The value read out of an attribute. Assumes nothing.
-use Prim.Native.Nat.{ℕ, zero, suc, ◌-◌, ◌^◌, ◌≤◌, ◌<◌}
-use native.Mathlib.Nat.{zero-add}
+use Prim.Native.Nat.{ℕ, suc, ◌-◌, ◌^◌}
 use native.Mathlib.Omega.{arith}
-use mathlib.Core.Path.{◌≡◌, refl, sym, ap, subst, ◌∙◌}
+use mathlib.Core.Path.{◌≡◌, refl, sym, ap}
 use mathlib.Core.List.{List}
-use borrow.Author.Tests.{le-ltb, lt-ltb, eq-eqb, ne_eqb}
-use lib.Dec.{eqb}
-use lib.IntN.{ℤ, pos, negsuc, ◌-ℤ◌}
+use borrow.Author.Tests.{eq-eqb, ne_eqb}
+use lib.Dec.{eqb, ltb}
+use mathlib.Core.Bool.{cond, true, false}
+use lib.IntN.{pos, negsuc}
 use mir.Syntax.{w32}
-use mir.Val.{to_z, of_z, SFits}
-use mir.Facts.{to_z_pos, to_z-of_z}
+use mir.Val.{to_z}
 use Rattle.le.specs.Floats.{single_of}
 use Rattle.words.specs.Words.{type_of, extended_of}
 use Rattle.nodes.specs.Attribute.{type_word, value_word, text_segment, text_element, signed_of, value_of}
@@ -18,25 +17,11 @@ use Rattle.nodes.proofs.Types.{kind_is, extended_is}
 
 -- ---- a word as a signed number
 
-pub signed_low : (w : ℕ) → w < 0x8000_0000 → to_z w32 w ≡ signed_of w
+pub signed_is : (w : ℕ) → to_z w32 w ≡ signed_of w
 unfolding signed_of
-signed_low w h = to_z_pos w32 h ∙ sym (rw (lt-ltb w 0x8000_0000 h))
-
-minus : (m : ℕ) → negsuc 0 -ℤ pos m ≡ negsuc m
-minus zero = refl
-minus (suc m) = ap (λ (k : ℕ). negsuc (suc k)) (zero-add m)
-
-less_one : (m : ℕ) → m < 0x8000_0000 → negsuc 0 -ℤ to_z w32 m ≡ negsuc m
-less_one m h = ap (λ (z : ℤ). negsuc 0 -ℤ z) (to_z_pos w32 h) ∙ minus m
-
-pub signed_fits : (m : ℕ) → m < 0x8000_0000 → SFits w32 (negsuc 0 -ℤ to_z w32 m)
-signed_fits m h = subst (λ (z : ℤ). SFits w32 z) (sym (less_one m h)) (record { sfits = h })
-
-pub signed_high : (w : ℕ) → 0x8000_0000 ≤ w → w < 2 ^ 32 → to_z w32 (of_z w32 (negsuc 0 -ℤ to_z w32 (0xffff_ffff - w))) ≡ signed_of w
-unfolding signed_of
-signed_high w h l =
-    let k : 0xffff_ffff - w < 0x8000_0000 = omega arith in
-    to_z-of_z (signed_fits (0xffff_ffff - w) k) ∙ less_one (0xffff_ffff - w) k ∙ sym (rw (le-ltb w 0x8000_0000 h))
+signed_is w =
+    let e : 2 ^ 32 - suc w ≡ 0xffff_ffff - w = omega arith in
+    elim (ltb w 0x8000_0000) as (λ t. cond t (pos w) (negsuc (2 ^ 32 - suc w)) ≡ cond t (pos w) (negsuc (0xffff_ffff - w))) [ true ↦ refl | false ↦ ap negsuc e ]
 
 -- ---- the value, by type and extended code
 

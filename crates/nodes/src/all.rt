@@ -38,20 +38,18 @@ pub fn check_nodes(
 {
     let nodes = p.nodes;
     if nodes.count == 0 {
-        return Verdict::Refused(16, nodes.at);
+        return Err(Refusal(Rule::Node, nodes.at));
     }
     let mut at = region::first_start(nodes);
     if region::used_count(b, at) == 0 {
-        return Verdict::Refused(16, nodes.at);
+        return Err(Refusal(Rule::Node, nodes.at));
     }
-    let mut fault = Verdict::Accepted;
-    let mut seg = 0;
-    'segments: while seg < nodes.count {
-        let used = region::used_count(b, at);
-        let mut x = at + SEGMENT_HEADER;
-        let mut el = 0;
-        while el < used {
-            match node::check_node(
+    let mut answer = Ok(());
+    'segments: for seg in 0..nodes.count {
+        let first = at + SEGMENT_HEADER;
+        for el in 0..region::used_count(b, at) {
+            let x = first + el * NODE_SIZE;
+            answer = node::check_node(
                 b,
                 t,
                 p,
@@ -66,18 +64,12 @@ pub fn check_nodes(
                 known,
                 doubts,
                 memo,
-            ) {
-                Verdict::Accepted => {}
-                Verdict::Refused(num, place) => {
-                    fault = Verdict::Refused(num, place);
-                    break 'segments;
-                }
+            );
+            if answer.is_err() {
+                break 'segments;
             }
-            x += NODE_SIZE;
-            el += 1;
         }
         at = region::next_start(b, at, NODE_SIZE);
-        seg += 1;
     }
-    fault
+    answer
 }

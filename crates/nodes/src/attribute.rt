@@ -23,8 +23,7 @@ use keys::Names;
 use layout::ATTRIBUTE_SIZE;
 use region::SAMPLES;
 use search::run;
-use strings::spot::Spot;
-use strings::{Strings, entry, spot};
+use strings::{Strings, spot};
 use verdict::{Refusal, Rule};
 
 // Whether type, extended code and truth word of the attribute at q are right.
@@ -93,24 +92,29 @@ pub fn text_right(
     if words::kind(word) != 3 {
         return true;
     }
-    let a = spot::spot_at(
-        b,
-        s.chars,
-        segments,
-        fields::text_segment(b, q),
-        fields::text_element(b, q),
-    );
-    let Spot::At(x, n) = a else {
+    let seg = fields::text_segment(b, q);
+    let el = fields::text_element(b, q);
+    let Some(spot) = spot::spot_at(b, s.chars, segments, seg, el) else {
         return false;
     };
-    if words::extended(word) != long::remembered_hash(b, t, x, n, memo) {
+    if words::extended(word) != long::remembered_hash(b, t, spot.at, spot.left, memo) {
         return false;
     }
-    let h = long::text_hash(b, t, x, n, memo);
+    let h = long::text_hash(b, t, spot.at, spot.left, memo);
     let k = hash::bucket(h, buckets.len());
     let low = search::lower_bound(b, s, segments, buckets, k, h);
     let address = fields::value_word(b, q);
-    run::run_has(b, s, segments, buckets, k, h, low, 12, address)
+    run::run_has(
+        b,
+        s,
+        segments,
+        buckets,
+        k,
+        h,
+        low,
+        strings::fields::ADDRESS_AT,
+        address,
+    )
 }
 
 // The same where it may be known of the attribute already: that nothing is doubted saves a look at its place.
@@ -162,16 +166,14 @@ pub fn check_attributes(
     ensures answer { answer_of result ≡ first_fault (node_attribute_checks Bits64 b.now p) }
     ensures memo { Remembers (noted b.now) memo.new }
 {
-    let mut i = 0;
-    while i < n {
+    for i in 0..n {
         let q = a + i * ATTRIBUTE_SIZE;
         if !attribute_right(b, names, p, i, q) {
-            return Verdict::Refused(18, q);
+            return Err(Refusal(Rule::Attribute, q));
         }
         if !text_passes(b, t, s, segments, buckets, q, known, doubts, memo) {
-            return Verdict::Refused(19, q);
+            return Err(Refusal(Rule::AttributeText, q));
         }
-        i += 1;
     }
-    Verdict::Accepted
+    Ok(())
 }

@@ -1,4 +1,6 @@
 // The fields of nodes and attributes (FORMAT, "Nodes", "Attributes"). Their offsets stand here and nowhere else.
+#![tactic(auto, unfolding(crate::specs::Node::node_name, crate::specs::Node::key_word, crate::specs::Node::attribute_field, crate::specs::Node::child_field, crate::specs::Node::attribute_segment, crate::specs::Node::attribute_element, crate::specs::Node::child_segment, crate::specs::Node::child_element, crate::specs::Attribute::attribute_name, crate::specs::Attribute::type_word, crate::specs::Attribute::value_word, crate::specs::Attribute::text_segment, crate::specs::Attribute::text_element,))]
+
 ghost use Rattle.std.specs.Prelude.{◌≡◌, ◌+◌, ◌≤◌, ◌<◌, ◌^◌, length};
 ghost use Rattle.layout.specs.Edition.{attribute_size, node_size};
 ghost use Rattle.layout.specs.declared.Edition.TheVariants.{Bits64};

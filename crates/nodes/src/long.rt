@@ -13,10 +13,7 @@ ghost use Rattle.nodes.specs.inner.Noted.{noted};
 fn worth(n: usize) -> bool
     ensures { Sure ((64 ≤ n) × (n < 65536)) result }
 {
-    if n <= 64 {
-        return false;
-    }
-    n < 65536
+    64 < n && n < 65536
 }
 
 // The value hash of the text at x, where n characters are left.
@@ -38,8 +35,7 @@ pub fn remembered_hash(
     if first < 16384 {
         return first;
     }
-    let known = memo::recall(memo, x, n);
-    if known < 4294967296 {
+    if let Some(known) = memo::recall(memo, x, n) {
         return known;
     }
     let r = text::value_hash(b, t, x + 128, n - 64, first - 16384);
@@ -61,8 +57,7 @@ pub fn text_hash(b: &[u8], t: &[u32; 2048], x: usize, n: usize, memo: &mut [u32;
     if first.length < 64 {
         return first.hash;
     }
-    let known = memo::recall(memo, x, n + 65536);
-    if known < 4294967296 {
+    if let Some(known) = memo::recall(memo, x, n + 65536) {
         return known;
     }
     let m = text::measure(b, t, x, n);

@@ -62,8 +62,7 @@ fn rising(b: &[u8], q: usize, n: usize) -> bool
     ensures { Tells (NamesRise Bits64 b.now q n) result }
 {
     let mut last = 0;
-    let mut i = 0;
-    while i < n {
+    for i in 0..n {
         let name = fields::node_name(b, q + i * NODE_SIZE);
         if name != 0 {
             if name < last {
@@ -71,7 +70,6 @@ fn rising(b: &[u8], q: usize, n: usize) -> bool
             }
             last = name;
         }
-        i += 1;
     }
     true
 }
@@ -95,10 +93,10 @@ fn children_right(b: &[u8], nodes: Region, segments: &[u32; SAMPLES], p: usize) 
         fields::child_element(b, p),
         n,
     );
-    match r {
-        Place::At(q) => rising(b, q, n),
-        Place::Nowhere => false,
-    }
+    let Some(q) = r else {
+        return false;
+    };
+    rising(b, q, n)
 }
 
 // Refusals 17 to 19 of the live node at x; 19 is due only to attributes that are doubted.
@@ -126,7 +124,7 @@ fn check_attribute_range(
 {
     let n = fields::attribute_field(b, x);
     if n == 0 {
-        return Verdict::Accepted;
+        return Ok(());
     }
     let r = region::range_at(
         b,
@@ -137,12 +135,12 @@ fn check_attribute_range(
         fields::attribute_element(b, x),
         n,
     );
-    match r {
-        Place::At(a) => attribute::check_attributes(
-            b, t, names, s, segments, buckets, x, a, n, known, doubts, memo,
-        ),
-        Place::Nowhere => Verdict::Refused(17, x),
-    }
+    let Some(a) = r else {
+        return Err(Refusal(Rule::AttributeRange, x));
+    };
+    attribute::check_attributes(
+        b, t, names, s, segments, buckets, x, a, n, known, doubts, memo,
+    )
 }
 
 // Refusals 16 to 19 and 23 of node seg:el, which stands at x; 19 is due only to attributes that are doubted.
@@ -169,17 +167,16 @@ pub fn check_node(
     ensures memo { Remembers (noted b.now) memo.new }
 {
     if !node_right(b, names, p.keys, seg, el, x) {
-        return Verdict::Refused(16, x);
+        return Err(Refusal(Rule::Node, x));
     }
     if fields::node_name(b, x) == 0 {
-        return Verdict::Accepted;
+        return Ok(());
     }
-    let chars = p.value_chars;
     let s = Strings {
-        chars,
+        chars: p.value_chars,
         list: p.value_list,
     };
-    let v = check_attribute_range(
+    check_attribute_range(
         b,
         t,
         p.attributes,
@@ -192,12 +189,9 @@ pub fn check_node(
         known,
         doubts,
         memo,
-    );
-    if let Verdict::Refused(num, place) = v {
-        return Verdict::Refused(num, place);
-    }
+    )?;
     if !children_right(b, p.nodes, node_segments, x) {
-        return Verdict::Refused(23, x);
+        return Err(Refusal(Rule::Children, x));
     }
-    Verdict::Accepted
+    Ok(())
 }

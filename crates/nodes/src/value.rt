@@ -1,8 +1,8 @@
 // The value of an attribute, read out.
-ghost use Rattle.std.specs.Prelude.{◌≡◌, ◌+◌, ◌≤◌, ◌<◌, ◌^◌, length};
+ghost use Rattle.std.specs.Prelude.{◌≡◌, ◌+◌, ◌≤◌, length};
 ghost use Rattle.layout.specs.Edition.{attribute_size};
 ghost use Rattle.layout.specs.declared.Edition.TheVariants.{Bits64};
-ghost use Rattle.nodes.specs.Attribute.{signed_of, value_of};
+ghost use Rattle.nodes.specs.Attribute.{value_of};
 
 use crate::fields;
 use le::Float32;
@@ -16,20 +16,6 @@ pub enum Value {
     Text(usize, usize),
 }
 
-// A word read as a signed number.
-fn signed(w: usize) -> i32
-    requires { w < 2 ^ 32 }
-    ensures { result ≡ signed_of w }
-{
-    if w < 0x8000_0000 {
-        w as i32
-    } else {
-        let m = 0xffff_ffff - w;
-        let d = m as i32;
-        -1 - d
-    }
-}
-
 // The value of the attribute at q.
 pub fn value_at(b: &[u8], q: usize) -> Value
     requires { q + attribute_size Bits64 ≤ length b.now }
@@ -40,7 +26,7 @@ pub fn value_at(b: &[u8], q: usize) -> Value
     if kind == 1 {
         let w = fields::value_word(b, q);
         if words::extended(word) == 0 {
-            return Value::Whole(signed(w));
+            return Value::Whole((w as u32).cast_signed());
         }
         return Value::Truth(w == 1);
     }

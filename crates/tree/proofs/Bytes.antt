@@ -1,19 +1,19 @@
 -- The workspace that acceptance leaves, byte by byte. Assumes nothing.
-use Prim.Native.Nat.{ℕ, ◌≤◌, ◌<◌}
+use Prim.Native.Nat.{ℕ, ◌≤◌}
 use native.Mathlib.Omega.{arith}
 use mathlib.Core.Path.{◌≡◌, refl, ap, ◌∙◌}
 use mathlib.Core.Logic.{◌↔◌}
 use mathlib.Core.List.{List}
-use lib.ListN.{length, get_or, drop, replicate, length-append, length-drop, length-replicate, get_or-replicate, get_or-append}
-use lib.Seq.{drop_at}
+use lib.ListN.{length, get_or, drop, length-append, length-drop, get_or-append}
 use Rattle.region.specs.Region.{Laid, Resolves, number_of, all_used}
 use Rattle.region.proofs.Laws.{number_lt, all-length, all-at}
 use Rattle.layout.specs.Edition.{node_size}
 use Rattle.layout.specs.Layout.{nodes_at}
 use Rattle.layout.specs.declared.Edition.{Edition}
 use Rattle.tree.specs.File.{address, used_node_count}
-use Rattle.tree.specs.Marks.{is_child?, mark_by, marks_of, cleared, marked}
+use Rattle.tree.specs.Marks.{is_child?, mark_by, marks_of, marked}
 use Rattle.tree.proofs.Marking.{marks_at, all_marks}
+pub use Rattle.tree.proofs.Cleared.{cleared_at, cleared-rest, cleared-long}
 
 -- ---- a mark is 1 or 0
 
@@ -47,23 +47,3 @@ module _ (ed : Edition) (b ws : List ℕ) (g : Laid (node_size ed) b (nodes_at e
       let m = all_marks ed b g in
       let d = length-drop (used_node_count ed b) ws in
       length-append (marks_of ed b (all_used (node_size ed) b (nodes_at ed b))) (drop (used_node_count ed b) ws) ∙ omega arith
-
--- ---- 21 and 22 clear
-
-module _ (ed : Edition) (b ws : List ℕ) where
-  pub cleared_at : (i : ℕ) → i < used_node_count ed b → get_or (cleared ed b ws) i 0 ≡ 0
-  unfolding cleared
-  cleared_at i h =
-      let r = length-replicate {A = ℕ} (used_node_count ed b) 0 in
-      get_or-append (replicate (used_node_count ed b) 0) (drop (used_node_count ed b) ws) 0 i (omega arith) ∙ get_or-replicate (used_node_count ed b) i 0 0 h
-
-  pub cleared-rest : drop (used_node_count ed b) (cleared ed b ws) ≡ drop (used_node_count ed b) ws
-  unfolding cleared
-  cleared-rest = drop_at (replicate (used_node_count ed b) 0) (drop (used_node_count ed b) ws) (used_node_count ed b) (length-replicate {A = ℕ} (used_node_count ed b) 0)
-
-  pub cleared-long : used_node_count ed b ≤ length ws → length (cleared ed b ws) ≡ length ws
-  unfolding cleared
-  cleared-long h =
-      let r = length-replicate {A = ℕ} (used_node_count ed b) 0 in
-      let d = length-drop (used_node_count ed b) ws in
-      length-append (replicate (used_node_count ed b) 0) (drop (used_node_count ed b) ws) ∙ omega arith

@@ -2,21 +2,19 @@
 use Prim.Native.Nat.{ℕ, ◌+◌, ◌-◌, ◌≤◌, ◌<◌}
 use native.Mathlib.Omega.{arith}
 use mathlib.Core.Path.{◌≡◌, sym, ap, ◌∙◌}
-use mathlib.Core.List.{List, [], ◌∷◌, ◌++◌}
-use lib.ListN.{length, drop, take, get_or, set, replicate, length-append, length-replicate, get_or-replicate, replicate-append-replicate}
+use mathlib.Core.List.{List, ◌++◌, append_assoc}
+use lib.ListN.{length, drop, take, get_or, replicate, length-append, length-replicate, get_or-replicate}
 use lib.Seq.{length-take-le, drop-append-add, drop-drop}
+use borrow.Rule.Slice.PartMut.{put_mid}
 use Rattle.laws.specs.inner.Lists.{splice}
-use Rattle.laws.proofs.Splice.{splice-length, splice-append, splice_in, set-splice}
+use Rattle.laws.proofs.Splice.{splice_in}
 
--- one byte more
-pub fill_more : (d : List ℕ) (i j x : ℕ) → i + j < length d → set (splice d i (replicate j x)) (i + j) x ≡ splice d i (replicate (j + 1) x)
-fill_more d i j x h =
-    let l = length-replicate j x in
-    let m = splice-length d i (replicate j x) (omega arith) in
-    set-splice (splice d i (replicate j x)) (i + j) x (omega arith)
-    ∙ ap (λ (k : ℕ). splice (splice d i (replicate j x)) (i + k) (x ∷ [])) (sym l)
-    ∙ sym (splice-append d i (replicate j x) (x ∷ []) (omega arith))
-    ∙ ap (splice d i) (replicate-append-replicate j 1 x)
+-- a part of d that the code filled: n bytes from i on, which r holds
+pub filled : (d r : List ℕ) (i k n x : ℕ) → k ≡ n → r ≡ replicate n x → put_mid i k d r ≡ splice d i (replicate n x)
+unfolding splice
+filled d r i k n x q e =
+    rw (q, e, length-replicate)
+    (sym (append_assoc (take i d) (replicate n x) (drop n (drop i d))) ∙ ap (λ (t : List ℕ). take i d ++ replicate n x ++ t) (drop-drop n i d))
 
 -- each of its bytes
 pub fill_in : (d : List ℕ) (i n x j : ℕ) → i + n ≤ length d → j < n → get_or (splice d i (replicate n x)) (i + j) 0 ≡ x

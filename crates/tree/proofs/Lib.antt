@@ -8,6 +8,7 @@ pub mod Deepest
 pub mod Accepted
 pub mod Fills
 pub mod Numbers
+pub mod Cleared
 pub mod Marking
 pub mod Bytes
 pub mod Left

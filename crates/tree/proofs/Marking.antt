@@ -1,6 +1,6 @@
 -- The marks in the workspace while the nodes are passed in file order, and at the end. Assumes nothing.
 use Prim.Native.Nat.{ℕ, zero, suc, ◌+◌, ◌-◌, ◌/◌, ◌%◌, ◌≤◌, ◌<◌}
-use native.Mathlib.Nat.{not-suc-le-zero, zero-add}
+use native.Mathlib.Nat.{not-suc-le-zero}
 use native.Mathlib.Omega.{arith}
 use mathlib.Core.Path.{◌≡◌, refl, sym, ap, subst, ◌∙◌}
 use mathlib.Core.Logic.{◌⊎◌, inl, inr, ⊎_elim}
@@ -22,6 +22,7 @@ use Rattle.tree.specs.Rules.{RangeRule}
 use Rattle.tree.specs.Marks.{InRange, IsChild, is_child?, mark_by, marks_of, cleared, marked}
 use Rattle.tree.specs.inner.Marking.{Free, first_number}
 use Rattle.tree.proofs.Fills.{fill_in, splice-drop}
+use Rattle.tree.proofs.Cleared.{cleared_at}
 use Rattle.tree.proofs.Addresses.{address-of, small-element, used-of}
 use Rattle.tree.proofs.Numbers.{root-number, range-room, reached, child-number, number-child, at-child}
 
@@ -41,17 +42,12 @@ pub record Marks (ed : Edition) (b ws : List ℕ) (a : ℕ) (w : List ℕ) : Typ
 
 module _ (ed : Edition) (b ws : List ℕ) (room : used_node_count ed b ≤ length ws) where
   -- before the first node no byte is marked
-  pub marks_start : Marks ed b (splice ws 0 (replicate (used_node_count ed b) 0)) 0 (splice ws 0 (replicate (used_node_count ed b) 0))
+  pub marks_start : Marks ed b (cleared ed b ws) 0 (cleared ed b ws)
   unfolding used_node_count
   marks_start = record {
     long = refl;
     rest = refl;
-    bits = λ s e h.
-        let l = number_lt (node_size ed) b (nodes_at ed b) s e h in
-        inr (
-          ap (λ (i : ℕ). get_or (splice ws 0 (replicate (used_node_count ed b) 0)) i 0) (sym (zero-add _)) ∙ fill_in ws 0 (used_node_count ed b) 0 _ (omega arith) l,
-          λ k. not-suc-le-zero k.1,
-        );
+    bits = λ s e h. inr (cleared_at ed b ws _ (number_lt (node_size ed) b (nodes_at ed b) s e h), λ k. not-suc-le-zero k.1);
   }
 
   -- where there is no used node nothing changes
@@ -231,13 +227,6 @@ module _ (ed : Edition) (b : List ℕ) (g : Laid (node_size ed) b (nodes_at ed b
 pub marked-same : (ed : Edition) (b v w : List ℕ) → drop (used_node_count ed b) v ≡ drop (used_node_count ed b) w → marked ed b v ≡ marked ed b w
 unfolding marked
 marked-same ed b v w q = ap (λ (u : List ℕ). marks_of ed b (all_used (node_size ed) b (nodes_at ed b)) ++ u) q
-
-pub clear_same : (ed : Edition) (b v w : List ℕ) → drop (used_node_count ed b) v ≡ drop (used_node_count ed b) w → splice v 0 (replicate (used_node_count ed b) 0) ≡ cleared ed b w
-unfolding splice cleared
-clear_same ed b v w q = rw (zero-add, length-replicate, q)
-
-pub clear_rest : (ed : Edition) (b w : List ℕ) → used_node_count ed b ≤ length w → drop (used_node_count ed b) (splice w 0 (replicate (used_node_count ed b) 0)) ≡ drop (used_node_count ed b) w
-clear_rest ed b w h = let z = length-replicate {A = ℕ} (used_node_count ed b) 0 in splice-drop w 0 (replicate (used_node_count ed b) 0) (used_node_count ed b) (omega arith) h
 
 pub marked-rest : (ed : Edition) (b : List ℕ) → Laid (node_size ed) b (nodes_at ed b) → (w : List ℕ) → drop (used_node_count ed b) (marked ed b w) ≡ drop (used_node_count ed b) w
 unfolding marked

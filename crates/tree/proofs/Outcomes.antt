@@ -3,8 +3,7 @@ use Prim.Native.Nat.{ℕ, ◌+◌, ◌≤◌, ◌<◌}
 use native.Mathlib.Omega.{arith}
 use mathlib.Core.Path.{◌≡◌, refl, sym, ap, ◌∙◌}
 use mathlib.Core.List.{List}
-use lib.ListN.{length, drop, replicate}
-use Rattle.laws.specs.inner.Lists.{splice}
+use lib.ListN.{length, drop}
 use Rattle.verdict.specs.Checks.{first_fault}
 use Rattle.verdict.specs.Verdict.{Verdict}
 use Rattle.verdict.specs.Verdict.{Accepted, Refused}
@@ -17,12 +16,14 @@ use Rattle.nodes.specs.Node.{node_at}
 use Rattle.std.specs.Prelude.{Option}
 use Rattle.std.specs.Prelude.{Some, None}
 use Rattle.tree.specs.Chain.{ends, most_levels}
+use Rattle.tree.specs.Marks.{cleared}
 use Rattle.tree.specs.File.{node_of, tree_of, used_node_count}
 use Rattle.tree.specs.Order.{room_checks, all_range_checks, depth_checks}
 use Rattle.tree.specs.Outcome.{tree_checks, workspace_after}
 use Rattle.tree.specs.inner.Marking.{first_place}
 use Rattle.tree.proofs.Deepest.{depth_clean, depth_fault}
-use Rattle.tree.proofs.Marking.{clear_same, marked-rest}
+use Rattle.tree.proofs.Marking.{marked-rest}
+use Rattle.tree.proofs.Cleared.{cleared-same}
 
 -- the root stands behind the node segment count and the first segment's counts
 pub root-place : (ed : Edition) (b : List ℕ) (r p : ℕ) → p ≡ r + 12 → r ≡ nodes_at ed b → p ≡ node_of ed b 0
@@ -58,11 +59,11 @@ module _ (ed : Edition) (b ws : List ℕ) where
       unfolding tree_checks room_checks
       depth_left = pass _ _ _ _ _ h ∙ fault_append (all_range_checks ed b) (depth_checks ed b) (sym a ∙ q)
 
-      pub told_deep : {p : ℕ} → Laid (node_size ed) b (nodes_at ed b) → (v : List ℕ) → f ≡ Some p → v ≡ splice w 0 (replicate (used_node_count ed b) 0) → Told (Refused 22 p) v
+      pub told_deep : {p : ℕ} → Laid (node_size ed) b (nodes_at ed b) → (v : List ℕ) → f ≡ Some p → v ≡ cleared ed b w → Told (Refused 22 p) v
       unfolding workspace_after
       told_deep g v e s =
           told _ v (depth_left ∙ depth_fault ed b (sym d ∙ e))
-          (s ∙ clear_same ed b w ws (ap (drop (used_node_count ed b)) (left_is Accepted q) ∙ marked-rest ed b g ws))
+          (s ∙ cleared-same ed b w ws (ap (drop (used_node_count ed b)) (left_is Accepted q) ∙ marked-rest ed b g ws))
 
       pub told_flat : f ≡ None → Told Accepted w
       told_flat e = told _ w (depth_left ∙ depth_clean ed b (sym d ∙ e)) (left_is Accepted q)

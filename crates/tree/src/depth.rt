@@ -23,18 +23,16 @@ pub fn find_deep(
     ensures { result ≡ first_place Bits64 b.now (ends (tree_of Bits64 b.now) left a) }
 {
     if left == 0 {
-        return Found::At(p);
+        return Some(p);
     }
     let k = ranges::children_of(b, nodes, segments, p);
-    let mut j = 0;
-    while j < k.count {
+    for j in 0..k.count {
         let c = k.place + j * NODE_SIZE;
         if fields::node_name(b, c) != 0 {
-            if let Found::At(x) = find_deep(b, nodes, segments, k.first + j, c, left - 1) {
-                return Found::At(x);
+            if let Some(x) = find_deep(b, nodes, segments, k.first + j, c, left - 1) {
+                return Some(x);
             }
         }
-        j += 1;
     }
-    Found::Nothing
+    None
 }

@@ -40,17 +40,13 @@ pub fn check_tree(
     ensures workspace { ws.new ≡ workspace_after Bits64 b.now ws.old (first_fault (tree_checks Bits64 b.now (length ws.old))) }
 {
     if ws.len() < used {
-        return Verdict::Refused(20, used);
+        return Err(Refusal(Rule::Workspace, used));
     }
-    let m = marks::mark_nodes(b, nodes, segments, counts, used, ws);
-    if let Verdict::Refused(num, place) = m {
-        return Verdict::Refused(num, place);
+    marks::mark_nodes(b, nodes, segments, counts, used, ws)?;
+    let root = ranges::root_at(nodes);
+    if let Some(p) = depth::find_deep(b, nodes, segments, 0, root, MOST_LEVELS) {
+        ws[..used].fill(0);
+        return Err(Refusal(Rule::Depth, p));
     }
-    match depth::find_deep(b, nodes, segments, 0, ranges::root_at(nodes), MOST_LEVELS) {
-        Found::At(p) => {
-            marks::set_range(ws, 0, used, 0);
-            Verdict::Refused(22, p)
-        }
-        Found::Nothing => Verdict::Accepted,
-    }
+    Ok(())
 }

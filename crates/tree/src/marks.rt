@@ -1,6 +1,5 @@
 // Refusal 21: each live node's child range is marked in the workspace, and a second mark refuses.
-ghost use Rattle.std.specs.Prelude.{◌≡◌, ◌+◌, ◌≤◌, ◌<◌, length, replicate};
-ghost use Rattle.laws.specs.inner.Lists.{splice};
+ghost use Rattle.std.specs.Prelude.{◌≡◌, ◌+◌, ◌≤◌, ◌<◌, length};
 ghost use Rattle.verdict.specs.Checks.{first_fault};
 ghost use Rattle.verdict.specs.Verdict.{answer_of};
 ghost use Rattle.verdict.specs.inner.Tells.{Tells};
@@ -20,35 +19,10 @@ use verdict::{Refusal, Rule};
 
 // Whether none of the n nodes from number i on is the root or is marked.
 fn range_free(ws: &[u8], i: usize, n: usize) -> bool
-    requires { i + n ≤ length ws.now }
+    requires { (0 < n) × (i + n ≤ length ws.now) }
     ensures { Tells (Free ws.now i n) result }
 {
-    if n == 0 {
-        return true;
-    }
-    if i == 0 {
-        return false;
-    }
-    let mut j = 0;
-    while j < n {
-        if ws[i + j] != 0 {
-            return false;
-        }
-        j += 1;
-    }
-    true
-}
-
-// Sets the n bytes from i on to x.
-pub fn set_range(ws: &mut [u8], i: usize, n: usize, x: u8)
-    requires { i + n ≤ length ws.old }
-    ensures { ws.new ≡ splice ws.old i (replicate n x) }
-{
-    let mut j = 0;
-    while j < n {
-        ws[i + j] = x;
-        j += 1;
-    }
+    i != 0 && ws[i..i + n].iter().all(|mark| *mark == 0)
 }
 
 // Marks the child range of the node at p, or tells that it is not free and marks nothing.
@@ -84,7 +58,7 @@ fn mark_node(
     if !range_free(ws, i, n) {
         return false;
     }
-    set_range(ws, i, n, 1);
+    ws[i..i + n].fill(1);
     true
 }
 
@@ -102,27 +76,20 @@ pub fn mark_nodes(
     ensures answer { answer_of result ≡ first_fault (all_range_checks Bits64 b.now) }
     ensures workspace { ws.new ≡ workspace_after Bits64 b.now ws.old (first_fault (all_range_checks Bits64 b.now)) }
 {
-    set_range(ws, 0, used, 0);
-    let mut fault = Verdict::Accepted;
+    ws[..used].fill(0);
+    let mut answer = Ok(());
     let mut at = region::first_start(nodes);
-    let mut seg = 0;
-    'segments: while seg < nodes.count {
-        let n = region::used_count(b, at);
-        let mut p = at + SEGMENT_HEADER;
-        let mut el = 0;
-        while el < n {
+    'segments: for seg in 0..nodes.count {
+        let first = at + SEGMENT_HEADER;
+        for el in 0..region::used_count(b, at) {
+            let p = first + el * NODE_SIZE;
             if !mark_node(b, nodes, segments, counts, p, ws) {
-                fault = Verdict::Refused(21, p);
+                ws[..used].fill(0);
+                answer = Err(Refusal(Rule::ChildRange, p));
                 break 'segments;
             }
-            p += NODE_SIZE;
-            el += 1;
         }
         at = region::next_start(b, at, NODE_SIZE);
-        seg += 1;
     }
-    if let Verdict::Refused(_, _) = fault {
-        set_range(ws, 0, used, 0);
-    }
-    fault
+    answer
 }

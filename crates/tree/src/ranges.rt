@@ -10,7 +10,7 @@ use nodes::fields;
 use region::{Region, SAMPLES, SEGMENT_HEADER};
 
 // The number of the first, where it stands, and how many they are.
-#[derive(Clone, Copy)]
+#[derive(Clone, Copy, Debug, PartialEq, Eq)]
 pub struct Children {
     pub first: usize,
     pub place: usize,
@@ -45,7 +45,7 @@ pub fn children_of(b: &[u8], nodes: Region, segments: &[u32; SAMPLES], p: usize)
     if count == 0 {
         return none;
     }
-    let Place::At(place) = region::range_at(b, nodes, NODE_SIZE, segments, seg, el, count) else {
+    let Some(place) = region::range_at(b, nodes, NODE_SIZE, segments, seg, el, count) else {
         return none;
     };
     Children {

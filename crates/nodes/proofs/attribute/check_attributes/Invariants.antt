@@ -1,4 +1,3 @@
-use Prim.Native.Nat.{◌-◌}
 use mathlib.Core.Path.{◌≡◌}
 use Rattle.verdict.specs.Checks.{first_fault}
 use Rattle.memo.specs.inner.Memo.{Remembers}
@@ -10,6 +9,3 @@ use Rattle.nodes.proofs.attribute.check_attributes.Given as goal
 
 abbrev pub invariant-loop-i : goal.invariant-loop-i
 invariant-loop-i l = (first_fault (node_attribute_checks Bits64 l.b l.p) ≡ attributes_left Bits64 l.b l.p l.i) × Remembers (noted l.b) l.memo
-
-abbrev pub decreases-loop-i : goal.decreases-loop-i
-decreases-loop-i l = l.n - l.i

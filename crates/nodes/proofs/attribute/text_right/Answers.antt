@@ -7,34 +7,34 @@ use native.Mathlib.Omega.{arith}
 use borrow.Author.Rules.{rules}
 use Rattle.layout.specs.declared.Edition.TheVariants.{Bits64}
 use Rattle.nodes.proofs.attribute.text_right.Goals as goal
-use Rattle.nodes.proofs.attribute.text_right.Goals.{After-spot_at-a}
+use Rattle.nodes.proofs.attribute.text_right.Goals.{After-spot_at}
 
 -- the spot found is that of the attribute's text
-sought : (c : After-spot_at-a)
+sought : (c : After-spot_at)
     → let a = c.args in
-    c.spot_at-a.result ≡ spot_at a.b.now a.s.chars.at (text_segment a.b.now a.q) (text_element a.b.now a.q)
-sought c = text_sought _ _ _ c.text_segment.ensures.0 c.text_element.ensures.0 c.spot_at-a.ensures
+    c.spot_at.result ≡ spot_at a.b.now a.s.chars.at (text_segment a.b.now a.q) (text_element a.b.now a.q)
+sought c = text_sought _ _ _ c.text_segment-seg.ensures.0 c.text_element-el.ensures.0 c.spot_at.ensures
 
 pub returns-then-kind-ne3 : goal.returns-then-kind-ne3
 returns-then-kind-ne3 c = record { answer = other_type Bits64 _ _ _ _ c.type_word-word.ensures.0 c.kind.ensures.0 c.if-kind-ne3.true; memo = c.requires.5 }
 
 pub returns-in_default : goal.returns-in_default
 returns-in_default c = let p = c.requires in
-    record { answer = text-nowhere Bits64 _ _ _ _ c.type_word-word.ensures.0 c.kind.ensures.0 c.if-kind-ne3.false _ p.2 p.3 (sought (goal.at.returns-in_default c).After-spot_at-a) c.in_default.is; memo = p.5 }
+    record { answer = text-nowhere Bits64 _ _ _ _ c.type_word-word.ensures.0 c.kind.ensures.0 c.if-kind-ne3.false _ p.2 p.3 (sought (goal.at.returns-in_default c).After-spot_at) c.in_default.is; memo = p.5 }
 
 pub remembered_hash-requires : goal.remembered_hash-requires
-remembered_hash-requires c = let p = c.requires in (p.0, spot-fits _ _ _ _ p.1.laid.characters (sought (goal.at.remembered_hash-requires c).After-spot_at-a) c.in-At.is, omega (arith, p.1.small), p.5)
+remembered_hash-requires c = let p = c.requires in (p.0, spot-fits _ _ _ _ p.1.laid.characters (sought (goal.at.remembered_hash-requires c).After-spot_at) c.in-Some.is, omega (arith, p.1.small), p.5)
 
 pub returns-then-extended-remembered_hash : goal.returns-then-extended-remembered_hash
 returns-then-extended-remembered_hash c = let p = c.requires in
     record {
-      answer = text_differs Bits64 _ _ _ _ c.type_word-word.ensures.0 c.kind.ensures.0 c.if-kind-ne3.false _ p.2 p.3 (sought (goal.at.returns-then-extended-remembered_hash c).After-spot_at-a) c.in-At.is _
+      answer = text_differs Bits64 _ _ _ _ c.type_word-word.ensures.0 c.kind.ensures.0 c.if-kind-ne3.false _ p.2 p.3 (sought (goal.at.returns-then-extended-remembered_hash c).After-spot_at) c.in-Some.is _
           c.remembered_hash.ensures.answer _ c.extended.ensures c.if-extended-remembered_hash.true;
       memo = c.remembered_hash.ensures.memo;
     }
 
 pub text_hash-h-requires : goal.text_hash-h-requires
-text_hash-h-requires c = let p = c.requires in (p.0, spot-fits _ _ _ _ p.1.laid.characters (sought (goal.at.text_hash-h-requires c).After-spot_at-a) c.in-At.is, omega (arith, p.1.small), c.remembered_hash.ensures.memo)
+text_hash-h-requires c = let p = c.requires in (p.0, spot-fits _ _ _ _ p.1.laid.characters (sought (goal.at.text_hash-h-requires c).After-spot_at) c.in-Some.is, omega (arith, p.1.small), c.remembered_hash.ensures.memo)
 
 pub lower_bound-low-requires : goal.lower_bound-low-requires
 lower_bound-low-requires c = let p = c.requires in (p.1, c.bucket-k.ensures.1)
@@ -51,7 +51,7 @@ run_has-requires c = let p = c.requires in
 pub returns : goal.returns
 returns c = let p = c.requires in
     record {
-      answer = text-told Bits64 _ _ _ _ c.type_word-word.ensures.0 c.kind.ensures.0 c.if-kind-ne3.false _ p.2 p.3 (sought (goal.at.returns c).After-spot_at-a) c.in-At.is _
+      answer = text-told Bits64 _ _ _ _ c.type_word-word.ensures.0 c.kind.ensures.0 c.if-kind-ne3.false _ p.2 p.3 (sought (goal.at.returns c).After-spot_at) c.in-Some.is _
           c.remembered_hash.ensures.answer _ c.extended.ensures (λ i. search rules) refl c.if-extended-remembered_hash.false _ c.text_hash-h.ensures.answer _
           c.bucket-k.ensures _ c.value_word-address.ensures.0 c.run_has.ensures;
       memo = c.text_hash-h.ensures.memo;

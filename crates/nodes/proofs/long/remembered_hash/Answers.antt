@@ -11,9 +11,9 @@ value_run-first-requires c = let p = c.requires in
 pub returns-then-first-lt16384 : goal.returns-then-first-lt16384
 returns-then-first-lt16384 c = record { answer = value-first _ _ _ _ _ (c.worth.ensures c.if-not-worth.false).0 c.value_run-first.ensures c.if-first-lt16384.true; memo = c.requires.3 }
 
-pub returns-then-known-lt4294967296 : goal.returns-then-known-lt4294967296
-returns-then-known-lt4294967296 c = let m = c.requires.3 in
-    record { answer = c.recall-known.ensures.right _ m (omega (arith, c.if-known-lt4294967296.true)) ∙ value-noted _ _ _ (c.worth.ensures c.if-not-worth.false).1; memo = m }
+pub returns-in-Some : goal.returns-in-Some
+returns-in-Some c = let m = c.requires.3 in
+    record { answer = c.recall.ensures.right _ c.in-Some.is _ m ∙ value-noted _ _ _ (c.worth.ensures c.if-not-worth.false).1; memo = m }
 
 pub overflow_sub-n : goal.overflow_sub-n
 overflow_sub-n c = omega (arith, (c.worth.ensures c.if-not-worth.false).0)

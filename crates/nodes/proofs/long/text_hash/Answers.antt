@@ -10,9 +10,9 @@ measure-first-requires c = let p = c.requires in
 pub returns-then-first-lt64 : goal.returns-then-first-lt64
 returns-then-first-lt64 c = record { answer = short-hash _ _ _ _ (c.worth.ensures c.if-not-worth.false).0 c.measure-first.ensures c.if-first-lt64.true; memo = c.requires.3 }
 
-pub returns-then-known-lt4294967296 : goal.returns-then-known-lt4294967296
-returns-then-known-lt4294967296 c = let m = c.requires.3 in
-    record { answer = c.recall-known.ensures.right _ m (omega (arith, c.if-known-lt4294967296.true)) ∙ hash-noted _ _ _; memo = m }
+pub returns-in-Some : goal.returns-in-Some
+returns-in-Some c = let m = c.requires.3 in
+    record { answer = c.recall.ensures.right _ c.in-Some.is _ m ∙ hash-noted _ _ _; memo = m }
 
 pub remember-requires : goal.remember-requires
 remember-requires c = let p = c.requires in

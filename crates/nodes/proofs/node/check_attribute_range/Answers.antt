@@ -29,11 +29,11 @@ pub check_attributes-requires : goal.check_attributes-requires
 check_attributes-requires c = let p = c.requires.mapped in
     let n = count (goal.at.check_attributes-requires c).After-attribute_field-n in
     let f = range (goal.at.check_attributes-requires c).After-range_at-r in
-    let e = c.in-At.is in
+    let e = c.in-Some.is in
     record { tables = c.requires.tables; n_value = (n, attributes_start Bits64 _ _ _ n _ f _ e, attributes_fit Bits64 _ _ _ n _ f _ e p.0.laid, p.4, attributes-known Bits64 _ _ _ n _ f _ e (Trusted Bits64 _ _) p.5, p.6) }
 
-pub returns-in-At : goal.returns-in-At
-returns-in-At c = record { answer = range-told Bits64 _ _ _ (count (goal.at.returns-in-At c).After-attribute_field-n) _ (range (goal.at.returns-in-At c).After-range_at-r) _ c.in-At.is _ c.check_attributes.ensures.answer; memo = c.check_attributes.ensures.memo }
+pub returns : goal.returns
+returns c = record { answer = range-told Bits64 _ _ _ (count (goal.at.returns c).After-attribute_field-n) _ (range (goal.at.returns c).After-range_at-r) _ c.in-Some.is _ c.check_attributes.ensures.answer; memo = c.check_attributes.ensures.memo }
 
-pub returns-in-Nowhere : goal.returns-in-Nowhere
-returns-in-Nowhere c = record { answer = range-nowhere Bits64 _ _ _ (count (goal.at.returns-in-Nowhere c).After-attribute_field-n) _ (range (goal.at.returns-in-Nowhere c).After-range_at-r) c.if-n-eq0.false c.in-Nowhere.is; memo = c.requires.mapped.6 }
+pub returns-in_default : goal.returns-in_default
+returns-in_default c = record { answer = range-nowhere Bits64 _ _ _ (count (goal.at.returns-in_default c).After-attribute_field-n) _ (range (goal.at.returns-in_default c).After-range_at-r) c.if-n-eq0.false c.in_default.is; memo = c.requires.mapped.6 }

@@ -1,12 +1,13 @@
 use Prim.Native.Nat.{◌+◌, ◌≤◌}
 use native.Mathlib.Omega.{arith}
-use mathlib.Core.Path.{sym, ◌∙◌}
 use lib.ListN.{length}
 use Rattle.layout.specs.Edition.{node_size}
 use Rattle.layout.specs.declared.Edition.TheVariants.{Bits64}
 use Rattle.nodes.specs.inner.Held.{value_strings}
 use Rattle.nodes.specs.Node.{Live}
 use Rattle.nodes.specs.Rules.{NodeRule}
+use Rattle.std.proofs.lemmas.Result.{err_from_is_err_and}
+use Rattle.verdict.proofs.Gives.{clean_of, refused_of}
 use Rattle.nodes.proofs.Ways.{node-fits, live-node, refused_16, refused-range, refused_23, node_passes, nameless_passes}
 use Rattle.nodes.proofs.node.check_node.Goals as goal
 use Rattle.nodes.proofs.node.check_node.Goals.{Else-node_name-eq0, Else-not-node_right, Start}
@@ -34,20 +35,24 @@ pub returns-then-node_name-eq0 : goal.returns-then-node_name-eq0
 returns-then-node_name-eq0 c = let p = c.requires in
     record { answer = nameless_passes Bits64 _ _ _ _ p.3 (rule (goal.at.returns-then-node_name-eq0 c).Else-not-node_right) _ c.node_name.ensures.0 c.if-node_name-eq0.true; memo = p.6 }
 
-pub check_attribute_range-v-requires : goal.check_attribute_range-v-requires
+pub check_attribute_range-requires : goal.check_attribute_range-requires
 unfolding value_strings
-check_attribute_range-v-requires c = let p = c.requires in
+check_attribute_range-requires c = let p = c.requires in
     let y = p.1 in
-    record { tables = (p.0, y.known, y.strings, y.table, y.accepted); mapped = (y.placed.attributes, y.attributes, fits (goal.at.check_attribute_range-v-requires c).Start, live (goal.at.check_attribute_range-v-requires c).Else-node_name-eq0, p.4, p.5, p.6) }
+    record { tables = (p.0, y.known, y.strings, y.table, y.accepted); mapped = (y.placed.attributes, y.attributes, fits (goal.at.check_attribute_range-requires c).Start, live (goal.at.check_attribute_range-requires c).Else-node_name-eq0, p.4, p.5, p.6) }
 
-pub returns-in-Refused : goal.returns-in-Refused
-returns-in-Refused c = record { answer = refused-range Bits64 _ _ _ _ c.requires.3 (rule (goal.at.returns-in-Refused c).Else-not-node_right) (sym c.check_attribute_range-v.ensures.answer ∙ c.in-Refused.is); memo = c.check_attribute_range-v.ensures.memo }
+pub returns-in_err-check_attribute_range : goal.returns-in_err-check_attribute_range
+returns-in_err-check_attribute_range c = let e = err_from_is_err_and c.from_residual.result c.from_residual.ensures.1 in
+    record {
+      answer = rw (e.1, e.2) (refused-range Bits64 _ _ _ _ c.requires.3 (rule (goal.at.returns-in_err-check_attribute_range c).Else-not-node_right) (refused_of c.check_attribute_range.ensures.answer c.in_err-check_attribute_range.was));
+      memo = c.check_attribute_range.ensures.memo;
+    }
 
 pub children_right-requires : goal.children_right-requires
 children_right-requires c = record { mapped = (c.requires.1.placed.nodes, c.requires.1.nodes); node_size_in_bounds = (fits (goal.at.children_right-requires c).Start, live (goal.at.children_right-requires c).Else-node_name-eq0) }
 
 pub returns-then-not-children_right : goal.returns-then-not-children_right
-returns-then-not-children_right c = record { answer = refused_23 Bits64 _ _ _ _ c.requires.3 (rule (goal.at.returns-then-not-children_right c).Else-not-node_right) (sym c.check_attribute_range-v.ensures.answer ∙ c.in_default.is) (c.children_right.ensures.not c.if-not-children_right.true); memo = c.check_attribute_range-v.ensures.memo }
+returns-then-not-children_right c = record { answer = refused_23 Bits64 _ _ _ _ c.requires.3 (rule (goal.at.returns-then-not-children_right c).Else-not-node_right) (clean_of c.check_attribute_range.ensures.answer c.in_ok-check_attribute_range.was) (c.children_right.ensures.not c.if-not-children_right.true); memo = c.check_attribute_range.ensures.memo }
 
 pub returns : goal.returns
-returns c = record { answer = node_passes Bits64 _ _ _ _ c.requires.3 (rule (goal.at.returns c).Else-not-node_right) (sym c.check_attribute_range-v.ensures.answer ∙ c.in_default.is) (c.children_right.ensures.so c.if-not-children_right.false); memo = c.check_attribute_range-v.ensures.memo }
+returns c = record { answer = node_passes Bits64 _ _ _ _ c.requires.3 (rule (goal.at.returns c).Else-not-node_right) (clean_of c.check_attribute_range.ensures.answer c.in_ok-check_attribute_range.was) (c.children_right.ensures.so c.if-not-children_right.false); memo = c.check_attribute_range.ensures.memo }

@@ -26,10 +26,10 @@ range_at-r-requires c = let w = c.requires.mapped in
     record { mapped = lent w.0 w.1; el_bound = (c.child_element.ensures.1, c.child_field-n.ensures.1) }
 
 pub rising-requires : goal.rising-requires
-rising-requires c = children_fit Bits64 _ _ _ (count (goal.at.rising-requires c).After-child_field-n) _ (range (goal.at.rising-requires c).After-range_at-r) _ c.in-At.is c.requires.mapped.0.laid
+rising-requires c = children_fit Bits64 _ _ _ (count (goal.at.rising-requires c).After-child_field-n) _ (range (goal.at.rising-requires c).After-range_at-r) _ c.in-Some.is c.requires.mapped.0.laid
 
-pub returns-in-At : goal.returns-in-At
-returns-in-At c = children-told Bits64 _ _ _ (count (goal.at.returns-in-At c).After-child_field-n) _ (range (goal.at.returns-in-At c).After-range_at-r) _ c.in-At.is _ c.rising.ensures
+pub returns : goal.returns
+returns c = children-told Bits64 _ _ _ (count (goal.at.returns c).After-child_field-n) _ (range (goal.at.returns c).After-range_at-r) _ c.in-Some.is _ c.rising.ensures
 
-pub returns-in-Nowhere : goal.returns-in-Nowhere
-returns-in-Nowhere c = children-nowhere Bits64 _ _ _ (count (goal.at.returns-in-Nowhere c).After-child_field-n) _ (range (goal.at.returns-in-Nowhere c).After-range_at-r) c.if-n-eq0.false c.in-Nowhere.is
+pub returns-in_default : goal.returns-in_default
+returns-in_default c = children-nowhere Bits64 _ _ _ (count (goal.at.returns-in_default c).After-child_field-n) _ (range (goal.at.returns-in_default c).After-range_at-r) c.if-n-eq0.false c.in_default.is

@@ -3,11 +3,11 @@ use mir.Facts.{to_z-of_z}
 use mir.Syntax.{w32}
 use borrow.Author.Rules.{sfits_of}
 use Rattle.nodes.specs.declared.value.Value.TheVariants.{Whole, Float}
-use Rattle.nodes.proofs.Values.{value-whole, value_truth, value_float, value-text}
+use Rattle.nodes.proofs.Values.{signed_is, value-whole, value_truth, value_float, value-text}
 use Rattle.nodes.proofs.value.value_at.Goals as goal
 
 pub returns-then-extended-eq0 : goal.returns-then-extended-eq0
-returns-then-extended-eq0 c = ap Whole (to_z-of_z {w = w32} (sfits_of c.signed.type_inv) ∙ c.signed.ensures)
+returns-then-extended-eq0 c = ap Whole (to_z-of_z {w = w32} (sfits_of c.cast_signed.type_inv) ∙ c.cast_signed.ensures ∙ signed_is _)
     ∙ value-whole _ _ _ _ c.type_word-word.ensures.0 c.kind-kind.ensures.0 c.if-kind-eq1.true _ c.extended.ensures _ c.value_word-w.ensures.0 c.if-extended-eq0.true
 
 pub returns-then-kind-eq1 : goal.returns-then-kind-eq1

@@ -1,4 +1,4 @@
-use Prim.Native.Nat.{◌+◌, ◌-◌, ◌≤◌}
+use Prim.Native.Nat.{◌+◌, ◌-◌}
 use mathlib.Core.Path.{◌≡◌}
 use Rattle.layout.specs.declared.Edition.TheVariants.{Bits64}
 use Rattle.tree.specs.Chain.{ends}
@@ -11,7 +11,4 @@ abbrev pub decreases-find_deep : goal.decreases-find_deep
 decreases-find_deep l = l.left
 
 abbrev pub invariant-loop-j : goal.invariant-loop-j
-invariant-loop-j l = (l.j ≤ l.k.count) × (first_place Bits64 l.b (ends (tree_of Bits64 l.b) l.left l.a) ≡ deep_from Bits64 l.b (l.left - 1) (l.k.first + l.j) (l.k.count - l.j))
-
-abbrev pub decreases-loop-j : goal.decreases-loop-j
-decreases-loop-j l = l.k.count - l.j
+invariant-loop-j l = first_place Bits64 l.b (ends (tree_of Bits64 l.b) l.left l.a) ≡ deep_from Bits64 l.b (l.left - 1) (l.k.first + l.j) (l.k.count - l.j)

@@ -1,3 +1,5 @@
+use Prim.Native.Nat.{◌+◌, ◌≤◌}
+use lib.ListN.{length}
 use mathlib.Core.Path.{◌≡◌, sym, ◌∙◌}
 use native.Mathlib.Omega.{arith}
 use borrow.Author.Rules.{rules}
@@ -5,6 +7,7 @@ use Rattle.layout.specs.declared.Edition.TheVariants.{Bits64}
 use Rattle.nodes.specs.Node.{child_count}
 use Rattle.tree.specs.inner.Marking.{first_number}
 use Rattle.nodes.proofs.Ways.{nameless_children, child-count, live-node}
+use Rattle.tree.proofs.Fills.{filled}
 use Rattle.tree.proofs.OneRange.{own_counts, marked-none, segment_there, first-number, range_there, marked_now, marked-not}
 use Rattle.tree.proofs.marks.mark_node.Goals as goal
 use Rattle.tree.proofs.marks.mark_node.Goals.{After-child_field-n, After-number-i}
@@ -17,6 +20,10 @@ numbered : (c : After-number-i) → c.number-i.result ≡ first_number Bits64 c.
 numbered c =
     first-number Bits64 _ _ _ _ _ _ c.requires.tree_ready.0.nodes.at_is c.child_segment.ensures.0 c.child_element.ensures.0 c.number-i.ensures
 
+-- the range lies in the workspace
+fits : (c : After-number-i) → c.child_field-n.result ≡ child_count c.args.b.now c.args.p → c.number-i.result + c.child_field-n.result ≤ length c.args.ws.now
+fits c k = range_there Bits64 c.args.b.now c.args.p _ _ c.args.ws.now (numbered c) k c.if-n-eq0.false c.requires.reached c.requires.tree_ready.3
+
 pub returns-then-node_name-eq0 : goal.returns-then-node_name-eq0
 returns-then-node_name-eq0 c = marked-none Bits64 _ _ _ (nameless_children _ _ (sym c.node_name.ensures.0 ∙ c.if-node_name-eq0.true))
 
@@ -28,13 +35,17 @@ number-i-requires c = let seg = segment_there Bits64 c.args.b.now c.args.p _ _ (
     record { mapped = own_counts c.requires.tree_ready.0 c.requires.tree_ready.1; seg_lt_count = (omega (arith, c.requires.tree_ready.0.nodes.count_is), search rules) }
 
 pub range_free-requires : goal.range_free-requires
-range_free-requires c = range_there Bits64 c.args.b.now c.args.p _ _ c.args.ws.now (numbered (goal.at.range_free-requires c).After-number-i) (counted (goal.at.range_free-requires c).After-child_field-n) c.if-n-eq0.false c.requires.reached c.requires.tree_ready.3
+range_free-requires c = let p = fits (goal.at.range_free-requires c).After-number-i (counted (goal.at.range_free-requires c).After-child_field-n) in (omega (arith, c.if-n-eq0.false), p)
 
 pub returns-then-not-range_free : goal.returns-then-not-range_free
 returns-then-not-range_free c = marked-not Bits64 _ _ _ _ _ (numbered (goal.at.returns-then-not-range_free c).After-number-i) (counted (goal.at.returns-then-not-range_free c).After-child_field-n) c.range_free.ensures c.if-not-range_free.true
 
-pub set_range-requires : goal.set_range-requires
-set_range-requires c = range_there Bits64 c.args.b.now c.args.p _ _ c.args.ws.now (numbered (goal.at.set_range-requires c).After-number-i) (counted (goal.at.set_range-requires c).After-child_field-n) c.if-n-eq0.false c.requires.reached c.requires.tree_ready.3
+pub overflow_add-i : goal.overflow_add-i
+overflow_add-i c = let h = fits (goal.at.overflow_add-i c).After-number-i (counted (goal.at.overflow_add-i c).After-child_field-n) in search rules
+
+pub slice_bounds-fill-end : goal.slice_bounds-fill-end
+slice_bounds-fill-end c = fits (goal.at.slice_bounds-fill-end c).After-number-i (counted (goal.at.slice_bounds-fill-end c).After-child_field-n)
 
 pub returns : goal.returns
-returns c = marked_now Bits64 _ _ _ _ _ (numbered (goal.at.returns c).After-number-i) (counted (goal.at.returns c).After-child_field-n) c.range_free.ensures _ c.if-not-range_free.false c.set_range.ensures
+returns c = let e = filled c.args.ws.now c.fill.new.self c.number-i.result _ c.child_field-n.result 1 (omega arith) (search rules) in
+    marked_now Bits64 _ _ _ _ _ (numbered (goal.at.returns c).After-number-i) (counted (goal.at.returns c).After-child_field-n) c.range_free.ensures _ c.if-not-range_free.false e

@@ -28,4 +28,4 @@ returns-in_default c = absurd
 
 pub returns : goal.returns
 returns c = children-at c.requires.0 _ c.child_segment-seg.ensures c.child_element-el.ensures (counted (goal.at.returns c).After-child_field-count) c.child_field-count.ensures.1
-    (sym c.range_at.ensures ∙ c.in-At.is)
+    (sym c.range_at.ensures ∙ c.in-Some.is)
