@@ -17,7 +17,8 @@ use region::SAMPLES;
 use tree::{DEEPEST_LEVEL, ranges};
 use verdict::{Refusal, Rule};
 
-// Writes the root's block: refusal 26, or the outline's length in bytes; the first pass, with an empty buffer, tells its length, so nothing is written unless all of it fits.
+// Writes the root's block: its length in bytes, or refusal 26. The first pass, with an empty buffer, tells the length, so nothing is written
+// unless all of it fits.
 pub fn write_outline(
     b: &[u8],
     p: Places,
@@ -48,12 +49,9 @@ pub fn write_outline(
         0,
     );
     if out.len() < n {
-        return Outlined {
-            answer: Verdict::Refused(26, n),
-            length: 0,
-        };
+        return Err(Refusal(Rule::OutlineRoom, n));
     }
-    let m = blocks::write_node(
+    Ok(blocks::write_node(
         b,
         p,
         attribute_segments,
@@ -66,9 +64,5 @@ pub fn write_outline(
         DEEPEST_LEVEL,
         out,
         0,
-    );
-    Outlined {
-        answer: Verdict::Accepted,
-        length: m,
-    }
+    ))
 }
