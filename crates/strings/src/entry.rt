@@ -62,10 +62,12 @@ pub fn entry_count(
     ensures { result ≡ entries (held_table b.now s buckets.now) k }
 {
     let at = le::wide(buckets[k]);
-    if k + 1 < buckets.len() {
-        return (le::wide(buckets[k + 1]) - at - BUCKET_COUNT_SIZE) / ENTRY_SIZE;
-    }
-    (s.list - at - BUCKET_COUNT_SIZE) / ENTRY_SIZE
+    let end = if k + 1 < buckets.len() {
+        le::wide(buckets[k + 1])
+    } else {
+        s.list
+    };
+    (end - at - BUCKET_COUNT_SIZE) / ENTRY_SIZE
 }
 
 // Where list position i stands.

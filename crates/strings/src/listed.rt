@@ -14,12 +14,7 @@ fn bucket_listed(b: &[u8], s: Strings, segments: &[u32; SAMPLES], buckets: &[u32
     ensures { Sure (BucketIndexed (held_table b.now s buckets.now) k) result }
 {
     let n = entry::entry_count(b, s, segments, buckets, k);
-    for j in 0..n {
-        if !entry::indexed(b, s, segments, buckets, k, j) {
-            return false;
-        }
-    }
-    true
+    (0..n).all(|j| entry::indexed(b, s, segments, buckets, k, j))
 }
 
 // Whether those of every bucket are. False tells only that some entry is at fault, and not which fault comes first.
@@ -27,10 +22,5 @@ pub fn all_listed(b: &[u8], s: Strings, segments: &[u32; SAMPLES], buckets: &[u3
     requires { Held b.now s segments.now buckets.now }
     ensures { Sure (AllIndexed (held_table b.now s buckets.now)) result }
 {
-    for k in 0..buckets.len() {
-        if !bucket_listed(b, s, segments, buckets, k) {
-            return false;
-        }
-    }
-    true
+    (0..buckets.len()).all(|k| bucket_listed(b, s, segments, buckets, k))
 }
