@@ -4,7 +4,6 @@ use mathlib.Core.Path.{◌≡◌, refl, ap, sym, ◌∙◌}
 use mathlib.Core.List.{List, ◌++◌}
 use lib.ListN.{length}
 use Rattle.verdict.specs.Checks.{Check, first_fault}
-use Rattle.verdict.specs.Verdict.{Verdict}
 use Rattle.verdict.specs.Verdict.{Refused}
 use Rattle.verdict.proofs.Laws.{Clean, fault_append, fault_keep}
 use Rattle.layout.specs.Layout.{layout_checks, values, names}
@@ -39,9 +38,9 @@ from_values ed b room = string_checks (values ed b) ++ from_names ed b room
 abbrev pub Left : Edition → List ℕ → ℕ → List Check → Type 0
 Left ed b room cs = verdict_of ed b room ≡ first_fault cs
 
--- an answer and a workspace are what the verdict says
-abbrev pub Settled : Edition → List ℕ → List ℕ → Verdict → List ℕ → Type 0
-Settled ed b ws v ws' = (v ≡ verdict_of ed b (length ws)) × (ws' ≡ workspace_after ed b ws (verdict_of ed b (length ws)))
+-- the verdict is that refusal, which leaves the workspace as it was
+abbrev pub Settled : Edition → List ℕ → List ℕ → ℕ → ℕ → Type 0
+Settled ed b ws n p = (verdict_of ed b (length ws) ≡ Refused n p) × (ws ≡ workspace_after ed b ws (verdict_of ed b (length ws)))
 
 module _ (ed : Edition) (b : List ℕ) (room : ℕ) where
   after_layout : Clean (layout_checks ed b) → Left ed b room (from_values ed b room)
@@ -75,16 +74,14 @@ module _ (ed : Edition) (b : List ℕ) (v : View) (f : Fits ed b v) (room : ℕ)
           pub left_tree : Clean (all_node_checks ed b) → Left ed b room (tree_checks ed b room)
           left_tree e = next ed b room _ _ left_nodes e
 
--- a group refuses, and leaves the workspace
+-- so it is where a group refuses
 pub settled : (ed : Edition) (b ws : List ℕ) (xs ys : List Check) {n p : ℕ} → Left ed b (length ws) (xs ++ ys) → Calm xs → first_fault xs ≡ Refused n p
-    → Settled ed b ws (Refused n p) ws
+    → Settled ed b ws n p
 settled ed b ws xs ys {n} {p} l c e =
     let q = l ∙ fault_keep xs ys e in
-    (sym q, sym (ap (workspace_after ed b ws) q ∙ calm_stays ed b ws xs c e))
+    (q, sym (ap (workspace_after ed b ws) q ∙ calm_stays ed b ws xs c e))
 
--- so does the layout
-pub layout_refused : (ed : Edition) (b ws : List ℕ) {v : Verdict} {n p : ℕ} → v ≡ first_fault (layout_checks ed b) → v ≡ Refused n p → Settled ed b ws v ws
+-- and where the layout does
+pub layout_refused : (ed : Edition) (b ws : List ℕ) {n p : ℕ} → first_fault (layout_checks ed b) ≡ Refused n p → Settled ed b ws n p
 unfolding verdict_of accept_checks
-layout_refused ed b ws q r =
-    let s = settled ed b ws (layout_checks ed b) (from_values ed b (length ws)) refl (calm_layout ed b) (sym q ∙ r) in
-    (r ∙ s.0, s.1)
+layout_refused ed b ws e = settled ed b ws (layout_checks ed b) (from_values ed b (length ws)) refl (calm_layout ed b) e

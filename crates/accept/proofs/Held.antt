@@ -6,12 +6,14 @@ use mathlib.Core.Bool.{Bool}
 use mathlib.Core.List.{List}
 use lib.ListN.{length}
 use Rattle.verdict.specs.Checks.{first_fault}
+use Rattle.std.specs.Prelude.{Result}
+use Rattle.verdict.specs.inner.Gives.{Gives}
 use Rattle.verdict.specs.inner.Tells.{Sure}
-use Rattle.verdict.specs.Verdict.{Verdict}
 use Rattle.verdict.specs.Verdict.{Accepted}
+use Rattle.verdict.specs.declared.Refusal.{Refusal}
 use Rattle.region.specs.inner.Samples.{Mapped, Starts}
 use Rattle.layout.specs.Table.{Table, table, list_at, TableLaid, BucketStarts}
-use Rattle.layout.specs.Layout.{values, names, values_most, names_most, value_bucket_count, name_bucket_count}
+use Rattle.layout.specs.Layout.{values, names, values_most, names_most}
 use Rattle.layout.specs.inner.View.{Fits}
 use Rattle.layout.specs.declared.View.{View}
 use Rattle.layout.specs.declared.Edition.{Edition}
@@ -52,6 +54,11 @@ module _ (b : List ℕ) (at n most : ℕ) (s : Strings) (segments buckets : List
     list = l ∙ ap list_at (sym held-table);
   }
 
+-- what a check of a held table answers is what one of the table does
+pub table_answer : {t u : Table} {r : Result Bool Refusal} → t ≡ u → Gives (first_fault (string_checks t)) (Sure (Packed t)) r
+    → Gives (first_fault (string_checks u)) (Sure (Packed u)) r
+table_answer {r = r} e g = subst (λ (x : Table). Gives (first_fault (string_checks x)) (Sure (Packed x)) r) e g
+
 module _ (ed : Edition) (b : List ℕ) (v : View) (f : Fits ed b v) where
   pub values-table : held_table b (value_strings v.places) v.value_buckets ≡ values ed b
   unfolding values value_strings
@@ -72,27 +79,6 @@ module _ (ed : Edition) (b : List ℕ) (v : View) (f : Fits ed b v) where
   names_held =
       held b _ _ names_most (name_strings v.places) v.name_segments v.name_buckets f.places.name_chars f.name_buckets
       f.laid.small f.laid.names (omega arith) (omega arith) f.name_segments f.places.name_list
-
-  -- what a check of the held tables answers
-  pub values-told : {r w : Verdict} → r ≡ first_fault (string_checks (held_table b (value_strings v.places) v.value_buckets)) → r ≡ w
-      → first_fault (string_checks (values ed b)) ≡ w
-  values-told p q = sym (p ∙ ap (λ (t : Table). first_fault (string_checks t)) values-table) ∙ q
-
-  pub values_packed : {r : Bool} → Sure (Packed (held_table b (value_strings v.places) v.value_buckets)) r → Sure (Packed (values ed b)) r
-  values_packed p z = subst (λ (t : Table). Packed t) values-table (p z)
-
-  pub names-told : {r w : Verdict} → r ≡ first_fault (string_checks (held_table b (name_strings v.places) v.name_buckets)) → r ≡ w
-      → first_fault (string_checks (names ed b)) ≡ w
-  names-told p q = sym (p ∙ ap (λ (t : Table). first_fault (string_checks t)) names_table) ∙ q
-
-  -- the arrays have a place for each bucket
-  pub values-long : value_bucket_count ≡ length v.value_buckets
-  unfolding values
-  values-long = sym f.value_buckets.long
-
-  pub names-long : name_bucket_count ≡ length v.name_buckets
-  unfolding names
-  names-long = sym f.name_buckets.long
 
   pub nodes_ready : (n : Names) → Known ed b n → first_fault (string_checks (values ed b)) ≡ Accepted
       → Ready ed b v.places n v.attribute_segments v.node_segments v.value_segments v.value_buckets

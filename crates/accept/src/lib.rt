@@ -24,37 +24,19 @@ fn check_contents(b: &[u8], v: &View, ws: &mut [u8]) -> Result<(), Refusal>
 {
     let t = HashTables::new();
     let p = v.places;
-    let value_chars = p.value_chars;
-    let name_chars = p.name_chars;
     let values = Strings {
-        chars: value_chars,
+        chars: p.value_chars,
         list: p.value_list,
     };
     let names = Strings {
-        chars: name_chars,
+        chars: p.name_chars,
         list: p.name_list,
     };
-    let found = positions::check_table(b, &t, values, &v.value_segments, &v.value_buckets);
-    let a = found.answer;
-    if let Verdict::Refused(num, place) = a {
-        return Verdict::Refused(num, place);
-    }
-    let named = positions::check_table(b, &t, names, &v.name_segments, &v.name_buckets);
-    let c = named.answer;
-    if let Verdict::Refused(num, place) = c {
-        return Verdict::Refused(num, place);
-    }
-    let known = keys::special::check_special(b, names, &v.name_segments, &v.name_buckets);
-    let d = known.answer;
-    if let Verdict::Refused(num, place) = d {
-        return Verdict::Refused(num, place);
-    }
-    let special = known.names;
-    let e = keys::list::check_keys(b, special);
-    if let Verdict::Refused(num, place) = e {
-        return Verdict::Refused(num, place);
-    }
-    let f = prefetch::all::check_nodes_in_batches(
+    let packed = positions::check_table(b, &t, values, &v.value_segments, &v.value_buckets)?;
+    positions::check_table(b, &t, names, &v.name_segments, &v.name_buckets)?;
+    let special = keys::special::check_special(b, names, &v.name_segments, &v.name_buckets)?;
+    keys::list::check_keys(b, special)?;
+    prefetch::all::check_nodes_in_batches(
         b,
         &t,
         p,
@@ -63,13 +45,16 @@ fn check_contents(b: &[u8], v: &View, ws: &mut [u8]) -> Result<(), Refusal>
         &v.node_segments,
         &v.value_segments,
         &v.value_buckets,
-        found.packed,
-    );
-    if let Verdict::Refused(num, place) = f {
-        return Verdict::Refused(num, place);
-    }
-    let nodes = p.nodes;
-    tree::check_tree(b, nodes, &v.node_segments, &v.node_counts, p.used_nodes, ws)
+        packed,
+    )?;
+    tree::check_tree(
+        b,
+        p.nodes,
+        &v.node_segments,
+        &v.node_counts,
+        p.used_nodes,
+        ws,
+    )
 }
 
 // Accepts a file, with its view, or refuses it.
@@ -77,16 +62,7 @@ pub fn accept(b: &[u8], ws: &mut [u8]) -> Result<View, Refusal>
     ensures answer { Judged Bits64 b.now ws.old result }
     ensures workspace { ws.new ≡ workspace_after Bits64 b.now ws.old (verdict_of Bits64 b.now (length ws.old)) }
 {
-    let c = layout::whole::check_layout(b);
-    let laid = c.answer;
-    if let Verdict::Refused(_, _) = laid {
-        return Acceptance {
-            answer: laid,
-            view: c.view,
-        };
-    }
-    Acceptance {
-        answer: check_contents(b, &c.view, ws),
-        view: c.view,
-    }
+    let v = layout::whole::check_layout(b)?;
+    check_contents(b, &v, ws)?;
+    Ok(v)
 }

@@ -8,7 +8,6 @@ use mathlib.Core.Logic.{by_cases}
 use mathlib.Core.List.{List}
 use native.Mathlib.Decide.{ℕ_discrete}
 use Rattle.std.specs.Prelude.{Option, None, IfSome}
-use Rattle.std.proofs.lemmas.Option.{IfSome_then}
 use borrow.Author.Count.{below_none, below_more}
 use lib.ListN.{length, get_or, set, length-set}
 use lib.Seq.{get_or-set_same, get_or-set_other}
@@ -23,11 +22,11 @@ use Rattle.search.specs.inner.Group.{LowerBounds}
 use Rattle.strings.specs.inner.Held.{Held, held_table}
 use Rattle.strings.specs.declared.Strings.{Strings}
 use Rattle.strings.proofs.Places.{few-entries}
-use Rattle.strings.proofs.Filling.{set_at, fill_both}
+use Rattle.strings.proofs.Filling.{fill_both}
 use Rattle.lookup.specs.inner.PickedEntry.{PickedEntry}
 use Rattle.lookup.specs.declared.Kind.{Kind}
 use Rattle.lookup.specs.declared.first.Candidate.{Candidate}
-use Rattle.batch.specs.inner.Groups.{TextRead, stands_at, Group, PackedBounds, Texts, Picked, SameLow}
+use Rattle.batch.specs.inner.Groups.{TextRead, stands_at, Group, PackedBounds, Picked, SameLow}
 
 -- ---- where the texts of a group stand
 
@@ -129,13 +128,6 @@ near_same a s = record { long = s.long ∙ a.long; each = λ j l. rw (s.each j) 
 pub same_start : (low : List ℕ) → SameLow low low
 same_start low = record { long = refl; each = λ j. refl }
 
-pub same_more : {a b : List ℕ} {j x : ℕ} (r : ℕ) → SameLow a b → j < length b → x ≡ get_or b j 0 → r % 4294967296 ≡ x % 4294967296 → SameLow a (set b j r)
-same_more {a} {b} {j} {x} r s l e f = record {
-  long = length-set b j r ∙ s.long;
-  each = λ i.
-      set_at (λ (i y z : ℕ). y % 4294967296 ≡ get_or b i 0 % 4294967296) b b j r r l l (f ∙ ap (λ (y : ℕ). y % 4294967296) e) i (λ d. refl) ∙ s.each i;
-}
-
 -- ---- entries picked
 
 -- one slot more
@@ -156,10 +148,6 @@ module _ {kind : Kind} {t : Table} {lengths : List ℕ} where
       long = length-set picked n x ∙ w.long;
       each = fill_next (λ (i : ℕ) (y : Option Candidate). IfSome y (PickedEntry kind t (get_or lengths i 0))) picked n x None (omega (arith, w.long)) w.each (rw (sym e) f);
     }
-
-    -- where their texts stand
-    pub picked-texts : Texts t.bytes n picked
-    picked-texts = record { long = w.long; each = λ j l. IfSome_then (get_or picked j None) (w.each j l) (λ c e. (omega (arith, e.ends, e.fits), e.fits)) }
 
     pub picked_read : (j : ℕ) → j < n → {k : ℕ} {x : Option Candidate} → k ≡ get_or lengths j 0 → x ≡ get_or picked j None → IfSome x (PickedEntry kind t k)
     picked_read j l e f = rw (e, f) (w.each j l)

@@ -1,4 +1,3 @@
-pub mod Counts
 pub mod Cut
 pub mod Lengths
 pub mod Written

@@ -10,6 +10,7 @@ ghost use Rattle.outline.specs.Outlined.{outline_checks};
 ghost use Rattle.dcdump.specs.Messages.{accepted_line};
 ghost use Rattle.dcdump.specs.Output.{report_accepted, report_file, output_of};
 
+use crate::buffers::{FILE, OUTLINE, WORKSPACE};
 use crate::{buffers, messages};
 use frames::Frames;
 use layout::View;
@@ -35,7 +36,7 @@ fn show(b: &[u8], v: View, out: &mut [u8]) -> usize
     let node_segments = v.node_segments;
     let value_segments = v.value_segments;
     let name_segments = v.name_segments;
-    let mut text = buffers::text();
+    let mut text = buffers::zeros::<OUTLINE>();
     let o = outline::write_outline(
         b,
         p,
@@ -56,7 +57,7 @@ fn show(b: &[u8], v: View, out: &mut [u8]) -> usize
 fn judge(b: &[u8], out: &mut [u8]) -> usize
     ensures { Put out.old 0 (report_file b.now (verdict_of Bits64 b.now 2048)) result out.new }
 {
-    let mut ws = buffers::workspace();
+    let mut ws = buffers::zeros::<WORKSPACE>();
     let r = accept::accept(b, &mut ws);
     let a = r.answer;
     match a {
@@ -74,7 +75,7 @@ pub fn dump(input: &[u8], out: &mut [u8]) -> usize
     ensures long { result ≡ length (output_of input.now) }
     ensures bytes { out.new ≡ output_of input.now ++ drop (length (output_of input.now)) out.old }
 {
-    let mut file = buffers::file();
+    let mut file = buffers::zeros::<FILE>();
     match frames::read_frames(input, &mut file) {
         Frames::Bytes(n) => judge(&file[..n], out),
         Frames::Bad(n) => messages::put_line(out, 0, b"bad line ", n),

@@ -5,7 +5,7 @@ pub mod list;
 pub mod special;
 
 // The name count, and the indices of `__root__` and `__value__`.
-#[derive(Clone, Copy)]
+#[derive(Clone, Copy, Debug, PartialEq, Eq)]
 pub struct Names {
     pub count: usize,
     pub root: usize,

@@ -50,12 +50,6 @@ module _ {ed : Edition} {b : List ℕ} {w : Walk} {vs ns : List ℕ} (g : WalkFi
     unfolding names
     names-mapped m = rw g.names-at at m
 
-  pub attributes-laid : Laid (attribute_size ed) b w.attributes
-  attributes-laid = rw g.attributes-at walk_laid.attributes
-
-  pub nodes-laid : Laid (node_size ed) b w.nodes
-  nodes-laid = rw g.nodes-at walk_laid.nodes
-
   pub values-laid : Laid 2 b w.values
   unfolding values
   values-laid = rw g.values-at walk_laid.values.characters

@@ -26,7 +26,7 @@ use Rattle.layout.proofs.Laws.{position-fits}
 use Rattle.layout.proofs.Seen.{own_mapped}
 use Rattle.strings.specs.Texts.{text_to, listed_text, spot_at}
 use Rattle.strings.specs.declared.spot.Spot.{Spot}
-use Rattle.strings.specs.Texts.{At, Nowhere}
+use Rattle.strings.specs.Texts.{At}
 use Rattle.strings.proofs.Spots.{spot_out, spot-text}
 use Rattle.strings.proofs.Accepted.{strings_iff}
 use Rattle.keys.specs.Names.{name_count, name_text}
@@ -36,7 +36,8 @@ use Rattle.nodes.specs.Rules.{TextRule}
 use Rattle.nodes.specs.declared.value.Value.TheVariants.{Whole, Truth, Float, Text}
 use Rattle.accept.specs.Rules.{FileRules}
 use Rattle.outline.specs.inner.Ready.{ValueStarts, NameStarts, AttributeReady, TextHeld}
-use Rattle.std.specs.Prelude.{Option}
+use Rattle.std.specs.Prelude.{Option, IsSome}
+use Rattle.outline.proofs.Parts.{is_there}
 
 -- the code's region is that of a table, where an address resolves
 own : {b : List ℕ} {at seg el : ℕ} {r : Region} {xs : List ℕ} → Mapped 2 b at r → Starts 2 b at r.shift xs → Resolves 2 b at seg el
@@ -151,8 +152,8 @@ module _ {b : List ℕ} {r : Region} {xs : List ℕ} {seg el : ℕ} (t : TextHel
       omega (arith, t.resolved.el_in, t.mapped.laid.used seg h, t.mapped.laid.full seg h)
 
   module _ {s : Option Spot} (f : s ≡ spot_at b r.at seg el) where
-    pub never_lost : s ≡ Nowhere → ⊥
-    never_lost e = spot_out b r.at seg el (sym f ∙ e) t.resolved
+    pub is_found : IsSome s
+    is_found = is_there s (λ e. spot_out b r.at seg el (sym f ∙ e) t.resolved)
 
     pub found_at : {q n : ℕ} → s ≡ At q n → (q + 2 * n ≤ length b) × (text_in b q n ≡ text_at b r.at seg el)
     unfolding text_to

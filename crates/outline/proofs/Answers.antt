@@ -4,8 +4,12 @@ use native.Mathlib.Omega.{arith}
 use mathlib.Core.Path.{◌≡◌, refl, ap, sym, ◌∙◌}
 use mathlib.Core.List.{List, ◌++◌}
 use lib.ListN.{length, drop}
-use Rattle.verdict.specs.Verdict.{Accepted, Refused}
-use Rattle.verdict.proofs.Laws.{never, pass, stop, fault_none}
+use Rattle.std.specs.Prelude.{Result, Ok, Err}
+use Rattle.verdict.specs.Verdict.{Refused, answer_of}
+use Rattle.verdict.specs.declared.Rule.TheVariants.{OutlineRoom}
+use Rattle.verdict.specs.declared.Refusal.{Refusal}
+use Rattle.verdict.proofs.Laws.{pass, stop, fault_none}
+use Rattle.verdict.proofs.Gives.{gives_ok, gives_err}
 use Rattle.layout.specs.declared.Places.{Places}
 use Rattle.layout.specs.declared.Edition.{Edition}
 use Rattle.nodes.specs.Node.{Live, node_name}
@@ -18,7 +22,6 @@ use Rattle.outline.specs.Outline.{block, outline_of}
 use Rattle.outline.specs.Outlined.{outline_checks, outline_after}
 use Rattle.outline.specs.inner.Answer.{OutlineWritten}
 use Rattle.outline.specs.inner.Ready.{OutlineReady}
-use Rattle.outline.specs.declared.Outlined.{Outlined}
 use Rattle.outline.proofs.Fits.{outline-fits}
 
 -- ---- the root is live
@@ -36,8 +39,8 @@ module _ {ed : Edition} {b : List ℕ} {p : Places} {xs ns vs ms : List ℕ} (r 
 -- ---- the ways out
 
 -- the answer, and what is left in the buffer
-abbrev pub Answered : Edition → List ℕ → List ℕ → Outlined → List ℕ → Type 0
-Answered ed b out r out' = OutlineWritten ed b (length out) r × (out' ≡ outline_after ed b out r.answer)
+abbrev pub Answered : Edition → List ℕ → List ℕ → Result ℕ Refusal → List ℕ → Type 0
+Answered ed b out r out' = OutlineWritten ed b (length out) r × (out' ≡ outline_after ed b out (answer_of r))
 
 module _ {ed : Edition} {b : List ℕ} (g : FileRules ed b) where
   pub length-told : {d d' : List ℕ} {n : ℕ} → Put d 0 (block ed b deepest_level 0 0) n d' → n ≡ length (outline_of ed b)
@@ -49,25 +52,11 @@ module _ {ed : Edition} {b : List ℕ} (g : FileRules ed b) where
     unfolding outline_of
     whole v l = put_front v l
 
-    pub too_long : {n : ℕ} → n ≡ length (outline_of ed b) → length out < n → Answered ed b out (record { answer = Refused 26 n; length = 0 }) out
+    pub too_long : {n : ℕ} → n ≡ length (outline_of ed b) → length out < n → Answered ed b out (Err (record { 0 = OutlineRoom; 1 = n })) out
     unfolding outline_after outline_checks
-    too_long {n} e h = (
-      record {
-        answer = ap (Refused 26) e ∙ sym (stop _ _ _ _ _ (λ z. omega arith));
-        long = λ z. absurd (never refl z);
-        none = λ m q z. refl;
-      },
-      refl,
-    )
+    too_long {n} e h = (gives_err (stop _ _ _ _ _ (λ z. omega arith) ∙ ap (Refused 26) (sym e)), refl)
 
     pub all_written : {n m : ℕ} {out' : List ℕ} → n ≡ length (outline_of ed b) → n ≤ length out → Put out 0 (block ed b deepest_level 0 0) m out'
-        → Answered ed b out (record { answer = Accepted; length = m }) out'
+        → Answered ed b out (Ok m) out'
     unfolding outline_after outline_checks
-    all_written {n} e h w = (
-      record {
-        answer = sym (pass _ _ _ _ _ (omega arith) ∙ fault_none);
-        long = λ z. length-told w;
-        none = λ k q z. absurd (never z refl);
-      },
-      whole w (omega arith),
-    )
+    all_written e h w = (gives_ok (pass _ _ _ _ _ (omega arith) ∙ fault_none) (length-told w), whole w (omega arith))

@@ -8,8 +8,7 @@ use mathlib.Core.List.{List, [], ◌++◌}
 use borrow.Author.Tests.{eq-eqb, ne_eqb}
 use Rattle.region.specs.Region.{range_at}
 use Rattle.region.specs.inner.Samples.{Mapped, Starts}
-use Rattle.std.specs.Prelude.{Option}
-use Rattle.std.specs.Prelude.{Some, None}
+use Rattle.std.specs.Prelude.{Option, Some, None, IsSome}
 use Rattle.layout.specs.Edition.{attribute_size}
 use Rattle.layout.specs.Layout.{attributes_at}
 use Rattle.layout.specs.declared.Places.{Places}
@@ -31,6 +30,11 @@ use Rattle.outline.specs.inner.Ready.{AttributeReady, NodeReady, LineReady}
 pub left_same : {d d' d'' : List ℕ} {i p q : ℕ} {s t : List ℕ} → Left d i s p t d' → q ≡ p → d'' ≡ d' → Left d i s q t d''
 left_same l e f = rw (e, f) l
 
+-- what is not nowhere is somewhere
+pub is_there : {A : Type 0} (o : Option A) → (o ≡ None → ⊥) → IsSome o
+is_there None h = absurd (h refl)
+is_there (Some x) h = refl
+
 -- ---- attributes
 
 -- the attributes of the node at x: how many, and where each stands
@@ -50,8 +54,8 @@ module _ {ed : Edition} {b : List ℕ} {p : Places} {xs vs ns : List ℕ} (g : L
     sought : r ≡ range_at (attribute_size ed) b (attributes_at b) (attribute_segment b x) (attribute_element b x) n
     sought = attributes_sought ed b x n p.attributes g.placed.attributes seg el s l r f
 
-    pub attributes_lost : (n ≡ 0 → ⊥) → r ≡ None → ⊥
-    attributes_lost z e = attributes-nowhere ed b x n (attributes-count c) r sought (omega arith) e k.attributes
+    pub attributes_there : (n ≡ 0 → ⊥) → IsSome r
+    attributes_there z = is_there r (λ e. attributes-nowhere ed b x n (attributes-count c) r sought (omega arith) e k.attributes)
 
     pub attributes-at : {q : ℕ} → r ≡ Some q → Attributes ed b x n q
     attributes-at {q} e = record {

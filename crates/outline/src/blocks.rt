@@ -117,8 +117,7 @@ fn write_range(
 {
     let k = ranges::children_of(b, p.nodes, node_segments, x);
     let mut e = at;
-    let mut j = 0;
-    while j < k.count {
+    for j in 0..k.count {
         let c = k.place + j * NODE_SIZE;
         if fields::node_name(b, c) != 0 {
             e = write_node(
@@ -136,7 +135,6 @@ fn write_range(
                 e,
             );
         }
-        j += 1;
     }
     e
 }

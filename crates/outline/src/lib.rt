@@ -15,7 +15,8 @@ use accept::file::AcceptedFile;
 use tree::{DEEPEST_LEVEL, ranges};
 use verdict::{Refusal, Rule};
 
-// Writes the root's block: refusal 26, or the outline's length in bytes; the first pass, with an empty buffer, tells its length, so nothing is written unless all of it fits.
+// Writes the root's block: its length in bytes, or refusal 26. The first pass, with an empty buffer, tells the length, so nothing is written
+// unless all of it fits.
 pub fn write_outline(accepted: &AcceptedFile, out: &mut [u8]) -> Result<usize, Refusal>
     ensures answer { OutlineWritten Bits64 accepted.now.file.now (length out.old) result }
     ensures buffer { out.new ≡ outline_after Bits64 accepted.now.file.now out.old (answer_of result) }
@@ -37,12 +38,9 @@ pub fn write_outline(accepted: &AcceptedFile, out: &mut [u8]) -> Result<usize, R
         0,
     );
     if out.len() < n {
-        return Outlined {
-            answer: Verdict::Refused(26, n),
-            length: 0,
-        };
+        return Err(Refusal(Rule::OutlineRoom, n));
     }
-    let m = blocks::write_node(
+    Ok(blocks::write_node(
         b,
         p,
         attribute_segments,
@@ -55,9 +53,5 @@ pub fn write_outline(accepted: &AcceptedFile, out: &mut [u8]) -> Result<usize, R
         DEEPEST_LEVEL,
         out,
         0,
-    );
-    Outlined {
-        answer: Verdict::Accepted,
-        length: m,
-    }
+    ))
 }

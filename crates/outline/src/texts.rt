@@ -12,7 +12,6 @@ ghost use Rattle.outline.specs.inner.Ready.{NameStarts, TextHeld};
 use layout::Places;
 use region::{Region, SAMPLES};
 use strings::spot;
-use strings::spot::Spot;
 
 // The text at offset q, of at most n characters.
 fn put_chars(b: &[u8], q: usize, n: usize, out: &mut [u8], at: usize) -> usize
@@ -20,14 +19,12 @@ fn put_chars(b: &[u8], q: usize, n: usize, out: &mut [u8], at: usize) -> usize
     ensures { Put out.old at (escaped (text_in b.now q n)) result out.new }
 {
     let mut p = at;
-    let mut i = 0;
-    while i < n {
+    for i in 0..n {
         let c = le::u16_at(b, q + 2 * i);
         if c == 0 {
             return p;
         }
         p = print::put_char(out, p, c);
-        i += 1;
     }
     p
 }
@@ -45,10 +42,8 @@ pub fn put_text(
     requires { TextHeld b.now chars segments.now seg el }
     ensures { Put out.old at (escaped (text_at b.now chars.at seg el)) result out.new }
 {
-    let Spot::At(q, n) = spot::spot_at(b, chars, segments, seg, el) else {
-        return at;
-    };
-    put_chars(b, q, n, out, at)
+    let spot = spot::spot_at(b, chars, segments, seg, el).unwrap();
+    put_chars(b, spot.at, spot.left, out, at)
 }
 
 // The text of a name index.

@@ -95,7 +95,7 @@ pub fn put_attributes(
     }
     let seg = fields::attribute_segment(b, x);
     let el = fields::attribute_element(b, x);
-    let Place::At(q) = region::range_at(
+    let q = region::range_at(
         b,
         p.attributes,
         ATTRIBUTE_SIZE,
@@ -103,12 +103,10 @@ pub fn put_attributes(
         seg,
         el,
         n,
-    ) else {
-        return at;
-    };
+    )
+    .unwrap();
     let mut e = at;
-    let mut i = 0;
-    while i < n {
+    for i in 0..n {
         e = put_attribute(
             b,
             p,
@@ -118,7 +116,6 @@ pub fn put_attributes(
             out,
             e,
         );
-        i += 1;
     }
     e
 }

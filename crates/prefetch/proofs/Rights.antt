@@ -1,21 +1,20 @@
 -- What the steps of a batch find out, and 19 of its attributes from that. Assumes nothing.
-use Prim.Native.Nat.{ℕ, ◌+◌, ◌-◌, ◌*◌, ◌%◌, ◌≤◌, ◌<◌}
+use Prim.Native.Nat.{ℕ, ◌+◌, ◌*◌, ◌≤◌, ◌<◌}
 use native.Mathlib.Nat.{mul-le-mul_right}
 use native.Mathlib.Omega.{arith}
 use mathlib.Core.Path.{◌≡◌, ap, sym, subst, ◌∙◌}
-use mathlib.Core.Logic.{inl, inr, ⊎_elim}
+use mathlib.Core.Logic.{⊎_elim}
 use mathlib.Core.Bool.{Bool}
 use mathlib.Core.List.{List}
 use borrow.Author.Count.{below_none, below_more}
 use lib.ListN.{length, get_or}
-use Rattle.le.specs.Le.{u16_at, u32_at}
+use Rattle.le.specs.Le.{u32_at}
 use Rattle.words.specs.Words.{extended_of}
 use Rattle.hash.specs.Fold.{value_hash}
 use Rattle.region.specs.Region.{Laid, count_of, start_of, full_of, used_of, place_of}
 use Rattle.region.specs.inner.Samples.{Mapped}
 use Rattle.region.specs.declared.Region.{Region}
 use Rattle.region.proofs.Samples.{segment-fits, used-at}
-use Rattle.text.specs.Text.{text_in}
 use Rattle.text.proofs.Laws.{room-some}
 use Rattle.layout.specs.Table.{Table, entries}
 use Rattle.layout.specs.Edition.{attribute_size}
@@ -29,7 +28,7 @@ use Rattle.strings.proofs.Begun.{begins-first, begins_behind}
 use Rattle.positions.specs.inner.Packed.{Packed}
 use Rattle.nodes.specs.Attribute.{type_word, value_word, text_segment, text_element}
 use Rattle.strings.specs.Rules.{EntryAddress}
-use Rattle.nodes.specs.inner.Doubts.{Trusted, AllTrusted}
+use Rattle.nodes.specs.inner.Doubts.{Trusted}
 use Rattle.prefetch.specs.inner.Examined.{Kept}
 use Rattle.prefetch.proofs.Doubting.{still}
 use Rattle.verdict.specs.Checks.{SomeBelow}
@@ -37,8 +36,7 @@ use Rattle.verdict.specs.inner.Tells.{Sure}
 use Rattle.nodes.proofs.Addresses.{text_sought, spot-fits, address-of}
 use Rattle.le.proofs.Numbers.{Bytes}
 use Rattle.search.specs.inner.Run.{word_of}
-use Rattle.nodes.proofs.Types.{extended_is}
-use Rattle.prefetch.specs.inner.Batch.{TextSpot, SpotFits, Behind, AllSpots, AllBehind, AllHashed, AllFound, AllRight}
+use Rattle.prefetch.specs.inner.Batch.{TextSpot, SpotFits, AllSpots, AllBehind, AllHashed, AllFound, AllRight}
 use Rattle.std.specs.Prelude.{Option}
 use Rattle.std.specs.Bool.{MatchBool}
 use Rattle.std.specs.List.{AllWithin, range_with_len}
@@ -75,30 +73,6 @@ fits-of {b} {r} seg el laid e f =
       past = omega (arith, w.1);
       inside = spot-fits b r seg el laid e f;
     }
-
--- the extended code of one attribute is the value hash of its text, as they are read
-pub hashed-here : (b : List ℕ) (q x n w v h : ℕ) → w ≡ type_word b q → v ≡ extended_of w → h ≡ value_hash (text_in b x n) → v ≡ h
-    → extended_of (type_word b q) ≡ value_hash (text_in b x n)
-hashed-here b q x n w v h e f s z = extended_is b q w e v f ∙ z ∙ s
-
--- a text can begin where it does, as that is read
-pub behind_first : (b : List ℕ) (q x w : ℕ) → w ≡ text_element b q → w ≡ 0 → Behind b x (text_element b q)
-behind_first b q x w e z = inl (sym e ∙ z)
-
-pub behind_zero : (b : List ℕ) (q x c : ℕ) → c % 65536 ≡ u16_at b (x - 2) → c % 65536 ≡ 0 → Behind b x (text_element b q)
-behind_zero b q x c e z = inr (sym e ∙ z)
-
--- what is told of one slot, as it is read
-abbrev Passed : List ℕ → Bool → ℕ → ℕ → ℕ → Type 0
-Passed b packed q x n = (extended_of (type_word b q) ≡ value_hash (text_in b x n)) × Sure (Behind b x (text_element b q)) packed
-
--- one slot more
-pub passed_more : (b : List ℕ) (packed : Bool) (slots at left : List ℕ) (j : ℕ) {q x n : ℕ} → q ≡ get_or slots j 0 → x ≡ get_or at j 0 → n ≡ get_or left j 0
-    → AllHashed b slots j at left × Sure (AllBehind b slots j at) packed → Passed b packed q x n
-    → AllHashed b slots (j + 1) at left × Sure (AllBehind b slots (j + 1) at) packed
-passed_more b packed slots at left j {q} {x} {n} e f g h p =
-    let w : Passed b packed (get_or slots j 0) (get_or at j 0) (get_or left j 0) = rw (sym e, sym f, sym g) p in
-    (below_more _ _ h.0 w.0, λ z. below_more _ _ (h.1 z) (w.1 z))
 
 -- in a packed table each is at an entry's address
 pub all_found : (b : List ℕ) (t : Table) (slots at left : List ℕ) (n : ℕ) → t.bytes ≡ b → Packed t
@@ -155,6 +129,3 @@ unfolding place_of
 rows_more ed b d seg at used el r p q l h =
     below_more (λ (s : ℕ). (e : ℕ) → e < used_of (attribute_size ed) b (attributes_at b) s → Trusted ed b d (place_of (attribute_size ed) b (attributes_at b) s e)) seg r
     (λ e g. subst (λ (x : ℕ). Trusted ed b d (x + 8 + e * attribute_size ed)) p (h e (omega (arith, q, l))))
-
-pub rows_all : (ed : Edition) (b d : List ℕ) (seg : ℕ) → RowsTrusted ed b d seg → count_of b (attributes_at b) ≤ seg → AllTrusted ed b d
-rows_all ed b d seg r l s e h = r s (omega (arith, h.seg_in)) e h.el_in

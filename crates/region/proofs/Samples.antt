@@ -1,6 +1,6 @@
 -- Laws of specs/inner/Samples.antt. Assumes nothing.
 use Prim.Native.Nat.{ℕ, zero, suc, ◌+◌, ◌-◌, ◌*◌, ◌/◌, ◌%◌, ◌^◌, ◌≤◌, ◌<◌}
-use native.Mathlib.Nat.{mul-mod_left, div-add-mod', mul-div_cancel, div-lt_iff_lt-mul, mod-le, mul-le-mul, not-suc-le-zero, lt_of_le_of_lt, pow-suc, pow-le-pow_right}
+use native.Mathlib.Nat.{mul-mod_left, div-add-mod', mul-div_cancel, div-lt_iff_lt-mul, mod-le, not-suc-le-zero, pow-suc, pow-le-pow_right}
 use native.Mathlib.Numerals.{add-one}
 use mathlib.Core.Path.{◌≡◌, refl, ap, sym, ◌∙◌}
 use mathlib.Core.List.{List}
@@ -87,9 +87,6 @@ module _ {count shift mask : ℕ} (t : Stride count shift mask) where
       let i = sample_in s h in
       rw w.1 (sampled-set f _ s x xs (pow_pos shift) (sym (mask_rem s) ∙ w.0) q (omega arith) g, length-set xs (s / 2 ^ shift) x ∙ l)
   sample_turn f s x xs ys h q l g (inr w) = rw w.1 (sampled_skip f _ s xs (positive (s % 2 ^ shift) (λ e. w.0 (mask_rem s ∙ e))) g, l)
-
-pub product_small : (a c : ℕ) → a ≤ 65535 → c ≤ 24 → a * c < 2 ^ 64
-product_small a c h l = lt_of_le_of_lt (mul-le-mul h l) (lit< tt)
 
 module _ (size : ℕ) (b : List ℕ) where
   -- the segment that starts at p lies in the file

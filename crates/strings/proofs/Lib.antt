@@ -7,6 +7,7 @@ pub mod Begun
 pub mod Checks
 pub mod Runs
 pub mod Differing
+pub mod Every
 pub mod Left
 pub mod Only
 pub mod Agree

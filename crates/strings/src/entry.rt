@@ -42,10 +42,12 @@ pub fn entry_count(table: &StringTable, k: usize) -> usize
     ensures { result ≡ entries (lent_table table.now) k }
 {
     let at = le::wide(table.buckets[k]);
-    if k + 1 < table.buckets.len() {
-        return (le::wide(table.buckets[k + 1]) - at - BUCKET_COUNT_SIZE) / ENTRY_SIZE;
-    }
-    (table.parts.list - at - BUCKET_COUNT_SIZE) / ENTRY_SIZE
+    let end = if k + 1 < table.buckets.len() {
+        le::wide(table.buckets[k + 1])
+    } else {
+        table.parts.list
+    };
+    (end - at - BUCKET_COUNT_SIZE) / ENTRY_SIZE
 }
 
 // Where list position i stands.

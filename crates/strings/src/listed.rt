@@ -13,22 +13,12 @@ fn bucket_listed(table: &StringTable, k: usize) -> bool
     ensures { Sure (BucketIndexed (lent_table table.now) k) result }
 {
     let n = entry::entry_count(table, k);
-    for j in 0..n {
-        if !entry::indexed(table, k, j) {
-            return false;
-        }
-    }
-    true
+    (0..n).all(|j| entry::indexed(table, k, j))
 }
 
 // Whether those of every bucket are. False tells only that some entry is at fault, and not which fault comes first.
 pub fn all_listed(table: &StringTable) -> bool
     ensures { Sure (AllIndexed (lent_table table.now)) result }
 {
-    for k in 0..buckets.len() {
-        if !bucket_listed(table, k) {
-            return false;
-        }
-    }
-    true
+    (0..table.buckets.len()).all(|k| bucket_listed(table, k))
 }

@@ -13,7 +13,7 @@ use region::{Region, SAMPLES};
 pub const ELEMENT_AT: usize = 2;
 
 // Where an address stands and how many characters of its segment's used part are left there.
-#[derive(Clone, Copy)]
+#[derive(Clone, Copy, Debug, PartialEq, Eq)]
 pub struct Spot {
     pub at: usize,
     pub left: usize,

@@ -5,7 +5,7 @@ use mathlib.Core.Path.{◌≡◌, ap, ◌∙◌}
 use mathlib.Core.List.{List, [], ◌∷◌, ◌++◌}
 use lib.ListN.{length, get_or, get_or-append, length-append}
 use Rattle.le.specs.Le.{u16_at}
-use Rattle.hash.specs.Hash.{hash_bytes, hash_on}
+use Rattle.hash.specs.Hash.{hash_on}
 use Rattle.hash.specs.Fold.{value_hash}
 use Rattle.hash.proofs.Parts.{hash_laws}
 use Rattle.text.specs.Text.{chars}
@@ -13,11 +13,6 @@ use Rattle.text.proofs.OneByOne.{chars-same}
 use Rattle.text.proofs.AsBytes.{bytes-chars, bytes_over}
 use Rattle.lookup.specs.Lookup.{text_from}
 use Rattle.taplinen.specs.Hashes.{hash_answer, value_hash_answer, HashAnswers}
-
--- a start is the number that it was
-pub from_start : (start h r : ℕ) (text : List ℕ) → h ≡ start → r ≡ hash_bytes h text → r ≡ hash_answer start text
-unfolding hash_answer
-from_start start h r text e q = q ∙ ap (λ (x : ℕ). hash_bytes x text) e
 
 whole-text : (h : ℕ) (p : List ℕ) → ((k : ℕ) → get_or p k 0 < 256) → length p % 2 ≡ 0 → hash_answer h p ≡ hash_on h (text_from p)
 unfolding hash_answer text_from

@@ -30,7 +30,6 @@ use Rattle.outline.specs.Outlined.{outline_checks, outline_after}
 use Rattle.accept.specs.Verdict.{accept_checks, verdict_of}
 use Rattle.accept.proofs.Accepted.{accepted_iff}
 use Rattle.accept.proofs.Late.{late_room}
-use Rattle.taplinen.specs.Answers.{answered}
 use Rattle.taplinen.specs.Questions.{workspace_left, accept_answer, path_verdict, path_listing, outline_verdict, outline_buffer}
 use Rattle.taplinen.specs.Batches.{batch_verdict, name_places, value_places}
 use Rattle.taplinen.specs.Demands.{SameLength, Workspace}

@@ -32,7 +32,7 @@ use Rattle.taplinen.specs.Answers.{answered}
 use Rattle.taplinen.specs.Questions.{text_verdict, text_answer, name_answer, value_answer, path_verdict, path_answer, path_listing, outline_verdict, outline_answer, outline_buffer}
 use Rattle.taplinen.specs.Batches.{batch_verdict, batch_answer, batch_places, name_places, value_places}
 use Rattle.taplinen.proofs.Laws.{text-even}
-use Rattle.taplinen.proofs.Tables.{name-table, value-table}
+use Rattle.taplinen.proofs.Tables.{table_is}
 use Rattle.taplinen.proofs.Filled.{own_answer, own_told}
 
 -- an accepted file asked for a text of an even number of bytes
@@ -52,12 +52,12 @@ module _ (ed : Edition) (b : List ℕ) (room : ℕ) (v : View) (f : Fits ed b v)
     pub held_name : {l : Lookup} → l ≡ told_in Name (held_table b (name_strings v.places) v.name_buckets) (text_from q)
         → name_answer ed b room q ≡ answered Accepted (kind_of l) (told_number l)
     unfolding name_answer text_answer told_in table_of
-    held_name h = told-by Name (name-table ed b v f refl) h
+    held_name h = told-by Name (table_is ed b v f Name) h
 
     pub held_value : {l : Lookup} → l ≡ told_in Value (held_table b (value_strings v.places) v.value_buckets) (text_from q)
         → value_answer ed b room q ≡ answered Accepted (kind_of l) (told_number l)
     unfolding value_answer text_answer told_in table_of
-    held_value h = told-by Value (value-table ed b v f refl) h
+    held_value h = told-by Value (table_is ed b v f Value) h
 
   -- path::listing::list_path
   pub held_path : (path list : List ℕ) {r : Listing} → PathListed ed b path (length list) r
@@ -83,9 +83,9 @@ module _ (ed : Edition) (b : List ℕ) (room : ℕ) (v : View) (f : Fits ed b v)
     pub held_names : (batch_answer ed b room texts (length d) ≡ answered r.answer 0 r.texts)
         × (name_places ed b room texts d ≡ answers_after (told_in Name (held_table b (name_strings v.places) v.name_buckets)) texts d r.answer)
     unfolding name_places batch_places told_in table_of
-    held_names = each_by Name (name-table ed b v f refl)
+    held_names = each_by Name (table_is ed b v f Name)
 
     pub held_values : (batch_answer ed b room texts (length d) ≡ answered r.answer 0 r.texts)
         × (value_places ed b room texts d ≡ answers_after (told_in Value (held_table b (value_strings v.places) v.value_buckets)) texts d r.answer)
     unfolding value_places batch_places told_in table_of
-    held_values = each_by Value (value-table ed b v f refl)
+    held_values = each_by Value (table_is ed b v f Value)

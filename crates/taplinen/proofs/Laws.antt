@@ -17,10 +17,6 @@ use Rattle.taplinen.specs.Questions.{header_answer}
 use Rattle.taplinen.specs.declared.answer.Answer.{Answer}
 use Rattle.taplinen.specs.declared.header.HeaderReport.{HeaderReport}
 
--- what a lookup tells
-pub told-numbers : {k v j n : ℕ} → k ≡ j → v ≡ n → answered Accepted k v ≡ answered Accepted j n
-told-numbers e f = cc
-
 -- a refusal leaves out the kind and the value
 answer-same : (w : Verdict) {k m j n : ℕ} → (w ≡ Accepted → (k ≡ j) × (m ≡ n)) → answered w k m ≡ answered w j n
 unfolding answered

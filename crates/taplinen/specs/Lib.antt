@@ -4,3 +4,4 @@ pub mod Batches
 pub mod Hashes
 pub mod Version
 pub mod Demands
+pub mod inner

@@ -5,9 +5,8 @@ ghost use Rattle.taplinen.specs.Questions.{workspace_left};
 ghost use Rattle.taplinen.specs.Batches.{batch_answer, batch_places, name_places, value_places};
 
 use crate::answer::Answer;
-use crate::{answer, lookups};
+use crate::lookups;
 use lookup::Kind;
-use verdict::Verdict;
 
 // Asks for many texts in either table.
 fn ask_each(file: &[u8], ws: &mut [u8], kind: Kind, texts: &[u8], answers: &mut [u8]) -> Answer
@@ -15,15 +14,10 @@ fn ask_each(file: &[u8], ws: &mut [u8], kind: Kind, texts: &[u8], answers: &mut 
     ensures workspace { ws.new ≡ workspace_left Bits64 file.now ws.old }
     ensures answers { answers.new ≡ batch_places Bits64 kind file.now (length ws.old) texts.now answers.old }
 {
-    let a = accept::accept(file, ws);
-    let v = a.answer;
-    if let Verdict::Refused(_, _) = v {
-        return answer::answered(v, 0, 0);
+    match &accept::accept(file, ws) {
+        Ok(view) => lookups::find_texts(file, view, kind, texts, answers).into(),
+        Err(refusal) => (*refusal).into(),
     }
-    let view = a.view;
-    let r = lookups::find_texts(file, view, kind, texts, answers);
-    let w = r.answer;
-    answer::answered(w, 0, r.texts)
 }
 
 // The indices of many names.

@@ -6,7 +6,7 @@ ghost use Rattle.taplinen.specs.Hashes.{hash_answer, value_hash_answer};
 pub fn taplinen_hash(start: u32, text: &[u8]) -> u32
     ensures { result ≡ hash_answer start text.now }
 {
-    text::parts::hash_bytes(text, le::wide(start)) as u32
+    text::parts::hash_bytes(text, start as usize) as u32
 }
 
 // The value hash of a text.

@@ -4,23 +4,20 @@ ghost use Rattle.layout.specs.declared.Edition.TheVariants.{Bits64};
 ghost use Rattle.taplinen.specs.Questions.{accept_answer, text_answer, name_answer, value_answer, path_answer, path_listing, workspace_left};
 
 use crate::answer::Answer;
-use crate::{answer, lookups};
+use crate::lookups;
 use hash::HashTables;
 use lookup::Kind;
 use strings::Strings;
-use verdict::Verdict;
+use verdict::{Refusal, Rule};
 
-// Accepts a file: the number of used nodes, which is the workspace that every question needs. Where the file is refused, the view means
-// nothing, and the answer leaves its number out.
+// Accepts a file: the number of used nodes, which is the workspace that every question needs.
 pub fn taplinen_accept(file: &[u8], ws: &mut [u8]) -> Answer
     ensures answer { result ≡ accept_answer Bits64 file.now (length ws.old) }
     ensures workspace { ws.new ≡ workspace_left Bits64 file.now ws.old }
 {
-    let a = accept::accept(file, ws);
-    let v = a.answer;
-    let view = a.view;
-    let p = view.places;
-    answer::answered(v, 0, p.used_nodes)
+    accept::accept(file, ws)
+        .map(|view| view.places.used_nodes)
+        .into()
 }
 
 // Asks for a text in either table.
@@ -28,17 +25,11 @@ fn ask(file: &[u8], ws: &mut [u8], kind: Kind, text: &[u8]) -> Answer
     ensures answer { result ≡ text_answer Bits64 kind file.now (length ws.old) text.now }
     ensures workspace { ws.new ≡ workspace_left Bits64 file.now ws.old }
 {
-    let a = accept::accept(file, ws);
-    let v = a.answer;
-    if let Verdict::Refused(_, _) = v {
-        return answer::answered(v, 0, 0);
+    match &accept::accept(file, ws) {
+        Ok(_) if text.len() % 2 != 0 => Refusal(Rule::AskedText, text.len()).into(),
+        Ok(view) => lookups::find(file, view, kind, text).into(),
+        Err(refusal) => (*refusal).into(),
     }
-    let n = text.len();
-    if n % 2 != 0 {
-        return answer::answered(Verdict::Refused(24, n), 0, 0);
-    }
-    let view = a.view;
-    answer::told(lookups::find(file, view, kind, text))
 }
 
 // The index of a name.
@@ -63,33 +54,26 @@ pub fn taplinen_path(file: &[u8], ws: &mut [u8], path: &[u8], list: &mut [u8]) -
     ensures workspace { ws.new ≡ workspace_left Bits64 file.now ws.old }
     ensures listing { list.new ≡ path_listing Bits64 file.now (length ws.old) path.now list.old }
 {
-    let a = accept::accept(file, ws);
-    let v = a.answer;
-    if let Verdict::Refused(_, _) = v {
-        return answer::answered(v, 0, 0);
+    match &accept::accept(file, ws) {
+        Ok(view) => {
+            let t = HashTables::new();
+            let names = Strings {
+                chars: view.places.name_chars,
+                list: view.places.name_list,
+            };
+            path::listing::list_path(
+                file,
+                &t,
+                names,
+                &view.name_segments,
+                &view.name_buckets,
+                view.places.nodes,
+                &view.node_segments,
+                path,
+                list,
+            )
+            .into()
+        }
+        Err(refusal) => (*refusal).into(),
     }
-    let view = a.view;
-    let p = view.places;
-    let name_segments = view.name_segments;
-    let name_buckets = view.name_buckets;
-    let node_segments = view.node_segments;
-    let chars = p.name_chars;
-    let s = Strings {
-        chars,
-        list: p.name_list,
-    };
-    let t = HashTables::new();
-    let r = path::listing::list_path(
-        file,
-        &t,
-        s,
-        &name_segments,
-        &name_buckets,
-        p.nodes,
-        &node_segments,
-        path,
-        list,
-    );
-    let w = r.answer;
-    answer::answered(w, 0, r.matches)
 }

@@ -2,106 +2,104 @@
 use mathlib.Core.Path.{◌≡◌, ap, sym, ◌∙◌}
 use lib.ListN.{length}
 use Rattle.verdict.specs.Checks.{first_fault}
-use Rattle.verdict.specs.declared.Verdict.TheVariants.{Accepted}
+use Rattle.verdict.specs.Verdict.{Accepted}
+use Rattle.verdict.specs.inner.Tells.{Sure}
+use Rattle.verdict.proofs.Gives.{says_exit, given, refuses, clean_of, refused_of}
 use Rattle.layout.specs.Table.{Table}
 use Rattle.layout.specs.Layout.{values, names}
 use Rattle.layout.specs.declared.Edition.TheVariants.{Bits64}
 use Rattle.strings.specs.Order.{string_checks}
+use Rattle.positions.specs.inner.Packed.{Packed}
 use Rattle.keys.specs.Order.{special_checks, all_key_checks}
+use Rattle.keys.specs.inner.Known.{Known}
 use Rattle.nodes.specs.Order.{all_node_checks}
 use Rattle.tree.specs.Outcome.{workspace_after}
 use Rattle.nodes.specs.inner.Held.{value_strings}
 use Rattle.accept.specs.inner.Held.{name_strings}
 use Rattle.accept.proofs.Numbers.{calm_strings, calm_special, calm_keys, calm_nodes}
 use Rattle.accept.proofs.Groups.{left_values, left_names, left_special, left_keys, left_nodes, left_tree, settled}
-use Rattle.accept.proofs.Held.{values_held, values-long, values-told, values_packed, names_table, names_held, names-long, names-told, nodes_ready, tree_ready, used-told}
+use Rattle.accept.proofs.Held.{table_answer, values-table, values_held, names_table, names_held, nodes_ready, tree_ready, used-told}
 use Rattle.accept.proofs.check_contents.Goals as goal
-use Rattle.accept.proofs.check_contents.Goals.{In_default, In_default-c, In_default-d, In_default-e, In_default-f}
+use Rattle.accept.proofs.check_contents.Goals.{After-check_table, In_ok-packed, After-check_table-2, In_ok-check_table, In_ok-special, In_ok-check_keys, In_ok-check_nodes_in_batches}
 
--- each group that refuses nothing is clean
-values_done : (c : In_default) → first_fault (string_checks (values Bits64 c.args.b.now)) ≡ Accepted
+-- what each group answers that refuses nothing
+values_done : (c : In_ok-packed) → (first_fault (string_checks (values Bits64 c.args.b.now)) ≡ Accepted) × Sure (Packed (values Bits64 c.args.b.now)) c.in_ok-packed.packed
 unfolding value_strings
-values_done c =
-    values-told Bits64 c.args.b.now c.args.v.now c.requires c.check_table-found.ensures.answer c.in_default.is
+values_done c = given (table_answer (values-table Bits64 _ _ c.requires) c.check_table.ensures) c.in_ok-packed.was
 
-names_done : (c : In_default-c) → first_fault (string_checks (names Bits64 c.args.b.now)) ≡ Accepted
+names_done : (c : In_ok-check_table) → first_fault (string_checks (names Bits64 c.args.b.now)) ≡ Accepted
 unfolding name_strings
-names_done c =
-    names-told Bits64 c.args.b.now c.args.v.now c.requires c.check_table-named.ensures.answer c.in_default-c.is
+names_done c = (given (table_answer (names_table Bits64 _ _ c.requires) c.check_table-2.ensures) c.in_ok-check_table.was).0
 
-special_done : (c : In_default-d) → first_fault (special_checks Bits64 c.args.b.now) ≡ Accepted
-special_done c = sym c.check_special-known.ensures.answer ∙ c.in_default-d.is
+special_done : (c : In_ok-special) → (first_fault (special_checks Bits64 c.args.b.now) ≡ Accepted) × Known Bits64 c.args.b.now c.in_ok-special.special
+special_done c = given c.check_special.ensures c.in_ok-special.was
 
-keys_done : (c : In_default-e) → first_fault (all_key_checks Bits64 c.args.b.now) ≡ Accepted
-keys_done c = sym c.check_keys-e.ensures ∙ c.in_default-e.is
+keys_done : (c : In_ok-check_keys) → first_fault (all_key_checks Bits64 c.args.b.now) ≡ Accepted
+keys_done c = clean_of c.check_keys.ensures c.in_ok-check_keys.was
 
-nodes_done : (c : In_default-f) → first_fault (all_node_checks Bits64 c.args.b.now) ≡ Accepted
-nodes_done c = sym c.check_nodes_in_batches-f.ensures ∙ c.in_default-f.is
+nodes_done : (c : In_ok-check_nodes_in_batches) → first_fault (all_node_checks Bits64 c.args.b.now) ≡ Accepted
+nodes_done c = clean_of c.check_nodes_in_batches.ensures c.in_ok-check_nodes_in_batches.was
 
-pub slice_bounds-check_table-end : goal.slice_bounds-check_table-end
-slice_bounds-check_table-end c = values-long Bits64 c.args.b.now c.args.v.now c.requires
-
-pub check_table-found-requires : goal.check_table-found-requires
+pub check_table-requires : goal.check_table-requires
 unfolding value_strings
-check_table-found-requires c = (c.tables-t.ensures, values_held Bits64 c.args.b.now c.args.v.now c.requires)
+check_table-requires c = (c.tables-t.ensures, values_held Bits64 _ _ c.requires)
 
-pub returns-in-Refused : goal.returns-in-Refused
+pub returns-in_err-packed : goal.returns-in_err-packed
 unfolding value_strings
-returns-in-Refused c = let both = settled Bits64 _ _ _ _ (left_values Bits64 _ c.args.v.now c.requires _) (calm_strings _)
-    (values-told Bits64 c.args.b.now c.args.v.now c.requires c.check_table-found.ensures.answer c.in-Refused.is) in record { answer = both.0; workspace = both.1 }
+returns-in_err-packed c =
+    let s = settled Bits64 _ _ _ _ (left_values Bits64 _ _ c.requires _) (calm_strings _) (refuses (table_answer (values-table Bits64 _ _ c.requires) c.check_table.ensures) c.in_err-packed.was) in
+    record { answer = says_exit _ _ c.from_residual.ensures.1 s.0; workspace = s.1 }
 
-pub slice_bounds-check_table-end-2 : goal.slice_bounds-check_table-end-2
-slice_bounds-check_table-end-2 c = names-long Bits64 c.args.b.now c.args.v.now c.requires
-
-pub check_table-named-requires : goal.check_table-named-requires
+pub check_table-requires-2 : goal.check_table-requires-2
 unfolding name_strings
-check_table-named-requires c = (c.tables-t.ensures, names_held Bits64 c.args.b.now c.args.v.now c.requires)
+check_table-requires-2 c = (c.tables-t.ensures, names_held Bits64 _ _ c.requires)
 
-pub returns-in-Refused-c : goal.returns-in-Refused-c
+pub returns-in_err-check_table : goal.returns-in_err-check_table
 unfolding name_strings
-returns-in-Refused-c c = let both = settled Bits64 _ _ _ _ (left_names Bits64 _ c.args.v.now c.requires _ (values_done (goal.at.returns-in-Refused-c c).In_default)) (calm_strings _)
-    (names-told Bits64 c.args.b.now c.args.v.now c.requires c.check_table-named.ensures.answer c.in-Refused-c.is) in record { answer = both.0; workspace = both.1 }
+returns-in_err-check_table c =
+    let at = goal.at.returns-in_err-check_table c in
+    let s = settled Bits64 _ _ _ _ (left_names Bits64 _ _ c.requires _ (values_done at.In_ok-packed).0) (calm_strings _) (refuses (table_answer (names_table Bits64 _ _ c.requires) c.check_table-2.ensures) c.in_err-check_table.was) in
+    record { answer = says_exit _ _ c.from_residual-in_err-check_table.ensures.1 s.0; workspace = s.1 }
 
-pub slice_bounds-check_special-end : goal.slice_bounds-check_special-end
-slice_bounds-check_special-end c = names-long Bits64 c.args.b.now c.args.v.now c.requires
-
-pub check_special-known-requires : goal.check_special-known-requires
+pub check_special-requires : goal.check_special-requires
 unfolding name_strings
-check_special-known-requires c = let t = names_table Bits64 c.args.b.now c.args.v.now c.requires in
-    (names_held Bits64 c.args.b.now c.args.v.now c.requires, t, ap (λ (x : Table). first_fault (string_checks x)) t ∙ names_done (goal.at.check_special-known-requires c).In_default-c)
+check_special-requires c = let t = names_table Bits64 _ _ c.requires in
+    (names_held Bits64 _ _ c.requires, t, ap (λ (x : Table). first_fault (string_checks x)) t ∙ names_done (goal.at.check_special-requires c).In_ok-check_table)
 
-pub returns-in-Refused-d : goal.returns-in-Refused-d
-returns-in-Refused-d c = let both = settled Bits64 _ _ _ _ (left_special Bits64 _ c.args.v.now c.requires _ (values_done (goal.at.returns-in-Refused-d c).In_default) (names_done (goal.at.returns-in-Refused-d c).In_default-c)) (calm_special Bits64 _)
-    (sym c.check_special-known.ensures.answer ∙ c.in-Refused-d.is) in record { answer = both.0; workspace = both.1 }
+pub returns-in_err-special : goal.returns-in_err-special
+returns-in_err-special c =
+    let at = goal.at.returns-in_err-special c in
+    let s = settled Bits64 _ _ _ _ (left_special Bits64 _ _ c.requires _ (values_done at.In_ok-packed).0 (names_done at.In_ok-check_table)) (calm_special Bits64 _) (refuses c.check_special.ensures c.in_err-special.was) in
+    record { answer = says_exit _ _ c.from_residual-in_err-special.ensures.1 s.0; workspace = s.1 }
 
-pub check_keys-e-requires : goal.check_keys-e-requires
-check_keys-e-requires c = (c.requires.laid, c.check_special-known.ensures.names c.in_default-d.is)
+pub check_keys-requires : goal.check_keys-requires
+check_keys-requires c = (c.requires.laid, (special_done (goal.at.check_keys-requires c).In_ok-special).1)
 
-pub returns-in-Refused-e : goal.returns-in-Refused-e
-returns-in-Refused-e c = let both = settled Bits64 _ _ _ _
-    (left_keys Bits64 _ c.args.v.now c.requires _ (values_done (goal.at.returns-in-Refused-e c).In_default) (names_done (goal.at.returns-in-Refused-e c).In_default-c) (special_done (goal.at.returns-in-Refused-e c).In_default-d)) (calm_keys Bits64 _)
-    (sym c.check_keys-e.ensures ∙ c.in-Refused-e.is) in record { answer = both.0; workspace = both.1 }
+pub returns-in_err-check_keys : goal.returns-in_err-check_keys
+returns-in_err-check_keys c =
+    let at = goal.at.returns-in_err-check_keys c in
+    let s = settled Bits64 _ _ _ _ (left_keys Bits64 _ _ c.requires _ (values_done at.In_ok-packed).0 (names_done at.In_ok-check_table) (special_done at.In_ok-special).0) (calm_keys Bits64 _) (refused_of c.check_keys.ensures c.in_err-check_keys.was) in
+    record { answer = says_exit _ _ c.from_residual-in_err-check_keys.ensures.1 s.0; workspace = s.1 }
 
-pub slice_bounds-check_nodes_in_batches-end : goal.slice_bounds-check_nodes_in_batches-end
-slice_bounds-check_nodes_in_batches-end c = values-long Bits64 c.args.b.now c.args.v.now c.requires
-
-pub check_nodes_in_batches-f-requires : goal.check_nodes_in_batches-f-requires
+pub check_nodes_in_batches-requires : goal.check_nodes_in_batches-requires
 unfolding value_strings
-check_nodes_in_batches-f-requires c = (
-  c.tables-t.ensures,
-  nodes_ready Bits64 c.args.b.now c.args.v.now c.requires _ (c.check_special-known.ensures.names c.in_default-d.is) (values_done (goal.at.check_nodes_in_batches-f-requires c).In_default),
-  values_packed Bits64 c.args.b.now c.args.v.now c.requires c.check_table-found.ensures.packed,
-)
+check_nodes_in_batches-requires c =
+    let at = goal.at.check_nodes_in_batches-requires c in
+    let d = values_done at.In_ok-packed in
+    (c.tables-t.ensures, nodes_ready Bits64 _ _ c.requires _ (special_done at.In_ok-special).1 d.0, d.1)
 
-pub returns-in-Refused-f : goal.returns-in-Refused-f
-returns-in-Refused-f c = let both = settled Bits64 _ _ _ _
-    (left_nodes Bits64 _ c.args.v.now c.requires _ (values_done (goal.at.returns-in-Refused-f c).In_default) (names_done (goal.at.returns-in-Refused-f c).In_default-c) (special_done (goal.at.returns-in-Refused-f c).In_default-d) (keys_done (goal.at.returns-in-Refused-f c).In_default-e)) (calm_nodes Bits64 _)
-    (sym c.check_nodes_in_batches-f.ensures ∙ c.in-Refused-f.is) in record { answer = both.0; workspace = both.1 }
+pub returns-in_err-check_nodes_in_batches : goal.returns-in_err-check_nodes_in_batches
+returns-in_err-check_nodes_in_batches c =
+    let at = goal.at.returns-in_err-check_nodes_in_batches c in
+    let s = settled Bits64 _ _ _ _ (left_nodes Bits64 _ _ c.requires _ (values_done at.In_ok-packed).0 (names_done at.In_ok-check_table) (special_done at.In_ok-special).0 (keys_done at.In_ok-check_keys)) (calm_nodes Bits64 _)
+    (refused_of c.check_nodes_in_batches.ensures c.in_err-check_nodes_in_batches.was) in
+    record { answer = says_exit _ _ c.from_residual-in_err-check_nodes_in_batches.ensures.1 s.0; workspace = s.1 }
 
 pub check_tree-requires : goal.check_tree-requires
-check_tree-requires c = (tree_ready Bits64 c.args.b.now c.args.v.now c.requires (nodes_done (goal.at.check_tree-requires c).In_default-f), c.requires.node_counts, used-told Bits64 c.args.b.now c.args.v.now c.requires)
+check_tree-requires c = (tree_ready Bits64 _ _ c.requires (nodes_done (goal.at.check_tree-requires c).In_ok-check_nodes_in_batches), c.requires.node_counts, used-told Bits64 _ _ c.requires)
 
 pub returns : goal.returns
-returns c = let l = left_tree Bits64 c.args.b.now c.args.v.now c.requires (length c.args.ws.now)
-    (values_done (goal.at.returns c).In_default) (names_done (goal.at.returns c).In_default-c) (special_done (goal.at.returns c).In_default-d) (keys_done (goal.at.returns c).In_default-e) (nodes_done (goal.at.returns c).In_default-f) in
+returns c =
+    let at = goal.at.returns c in
+    let l = left_tree Bits64 _ _ c.requires (length c.args.ws.now) (values_done at.In_ok-packed).0 (names_done at.In_ok-check_table) (special_done at.In_ok-special).0 (keys_done at.In_ok-check_keys) (nodes_done at.In_ok-check_nodes_in_batches) in
     record { answer = c.check_tree.ensures.answer ∙ sym l; workspace = c.check_tree.ensures.workspace ∙ ap (workspace_after Bits64 c.args.b.now c.args.ws.now) (sym l) }

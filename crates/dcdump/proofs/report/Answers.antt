@@ -1,7 +1,6 @@
 use Prim.Native.Nat.{◌≤◌}
 use native.Mathlib.Omega.{arith}
 use lib.ListN.{length}
-use Rattle.dcdump.proofs.Counts.{part_long}
 use Rattle.dcdump.proofs.Lengths.{output_long}
 use Rattle.dcdump.proofs.report.Goals as goal
 use Rattle.dcdump.proofs.report.Goals.{After-dump-n}
@@ -10,10 +9,7 @@ use Rattle.dcdump.proofs.report.Goals.{After-dump-n}
 fits : (c : After-dump-n) → c.dump-n.result ≤ length c.dump-n.new.out
 fits c =
     let k = c.dump-n in
-    omega (arith, output_long c.args.input.now, k.ensures.long, k.auto.out, c.output-out.ensures)
+    omega (arith, output_long c.args.input.now, k.ensures.long, k.auto.out, c.zeros-out.ensures)
 
 pub slice_bounds-out-end : goal.slice_bounds-out-end
 slice_bounds-out-end c = fits (goal.at.slice_bounds-out-end c).After-dump-n
-
-pub slice_bounds-write_all-end : goal.slice_bounds-write_all-end
-slice_bounds-write_all-end c = part_long _ _ (fits (goal.at.slice_bounds-write_all-end c).After-dump-n)

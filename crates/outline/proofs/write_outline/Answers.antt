@@ -16,11 +16,11 @@ pub returns-then-out-n : goal.returns-then-out-n
 returns-then-out-n c = let p = c.requires in
     let both = too_long p.line.rules _ (length-told p.line.rules c.write_node-n.ensures) c.if-out-n.true in record { answer = both.0; buffer = both.1 }
 
-pub write_node-m-requires : goal.write_node-m-requires
-write_node-m-requires c = let p = c.requires in
+pub write_node-requires : goal.write_node-requires
+write_node-requires c = let p = c.requires in
     let e = root-place Bits64 _ _ _ c.root_at-root.ensures p.line.placed.nodes.at_is in
     record { outline_ready = p; used = (root-used p, e, root_live p e, omega arith) }
 
 pub returns : goal.returns
 returns c = let p = c.requires in
-    let both = all_written p.line.rules _ (length-told p.line.rules c.write_node-n.ensures) (omega (arith, c.if-out-n.false)) c.write_node-m.ensures in record { answer = both.0; buffer = both.1 }
+    let both = all_written p.line.rules _ (length-told p.line.rules c.write_node-n.ensures) (omega (arith, c.if-out-n.false)) c.write_node.ensures in record { answer = both.0; buffer = both.1 }

@@ -1,7 +1,6 @@
 use Prim.Native.Nat.{◌≤◌}
-use lib.ListN.{length}
+use lib.ListN.{length, length-take}
 use Rattle.dcdump.specs.Messages.{bad_line}
-use Rattle.dcdump.proofs.Counts.{part_long}
 use Rattle.dcdump.proofs.Written.{file_inside, framed_file, framed_bad, output_whole}
 use native.Mathlib.Omega.{arith}
 use Rattle.dcdump.proofs.dump.dump.Goals as goal
@@ -11,13 +10,13 @@ use Rattle.dcdump.proofs.dump.dump.Goals.{In-Bytes}
 fits : (c : In-Bytes) → c.in-Bytes.n ≤ length c.read_frames.new.out
 fits c =
     let k = c.read_frames in
-    omega (arith, file_inside c.args.input.now _ k.ensures.answer c.in-Bytes.is, k.auto.out, c.file-file.ensures)
+    omega (arith, file_inside c.args.input.now _ k.ensures.answer c.in-Bytes.is, k.auto.out, c.zeros-file.ensures)
 
 pub slice_bounds-file-end : goal.slice_bounds-file-end
 slice_bounds-file-end c = fits (goal.at.slice_bounds-file-end c).In-Bytes
 
 pub slice_bounds-judge-end : goal.slice_bounds-judge-end
-slice_bounds-judge-end c = part_long _ _ (fits (goal.at.slice_bounds-judge-end c).In-Bytes)
+slice_bounds-judge-end c = rw length-take (omega (arith, fits (goal.at.slice_bounds-judge-end c).In-Bytes))
 
 pub returns-in-Bytes : goal.returns-in-Bytes
 returns-in-Bytes c = let x = c.args.input.now in

@@ -14,8 +14,8 @@ show-requires c = let k = c.accept-r.ensures.answer in
 
 pub returns-in-Refused : goal.returns-in-Refused
 unfolding report_file
-returns-in-Refused c = put_same (reported (report_file _) (verdict_of Bits64 _) c.accept-r.ensures.answer.answer c.workspace-ws.ensures c.in-Refused.is) c.put_refused.ensures
+returns-in-Refused c = put_same (reported (report_file _) (verdict_of Bits64 _) c.accept-r.ensures.answer.answer c.zeros-ws.ensures c.in-Refused.is) c.put_refused.ensures
 
 pub returns-in-Accepted : goal.returns-in-Accepted
 unfolding report_file
-returns-in-Accepted c = put_same (reported (report_file _) (verdict_of Bits64 _) c.accept-r.ensures.answer.answer c.workspace-ws.ensures c.in-Accepted.is) c.show.ensures
+returns-in-Accepted c = put_same (reported (report_file _) (verdict_of Bits64 _) c.accept-r.ensures.answer.answer c.zeros-ws.ensures c.in-Accepted.is) c.show.ensures

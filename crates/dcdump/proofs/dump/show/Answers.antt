@@ -10,14 +10,14 @@ use Rattle.dcdump.proofs.dump.show.Goals as goal
 pub put_outline-requires : goal.put_outline-requires
 put_outline-requires c = let o = c.write_outline-o in
     let a = c.in-Accepted.is in
-    shown-fits _ _ o.ensures.answer.answer c.text-text.ensures a _ (o.ensures.answer.long a) o.new.out o.auto.out
+    shown-fits _ _ o.ensures.answer.answer c.zeros-text.ensures a _ (o.ensures.answer.long a) o.new.out o.auto.out
 
 pub returns-in-Refused : goal.returns-in-Refused
 unfolding report_accepted
 returns-in-Refused c = let x = c.args.b.now in
-    put_same (reported (report_accepted x) (λ (r : ℕ). first_fault (outline_checks Bits64 x r)) c.write_outline-o.ensures.answer.answer c.text-text.ensures c.in-Refused.is)
+    put_same (reported (report_accepted x) (λ (r : ℕ). first_fault (outline_checks Bits64 x r)) c.write_outline-o.ensures.answer.answer c.zeros-text.ensures c.in-Refused.is)
     c.put_refused.ensures
 
 pub returns-in-Accepted : goal.returns-in-Accepted
 returns-in-Accepted c = let a = c.in-Accepted.is in
-    put_same (shown-accepted _ _ c.write_outline-o.ensures.answer.answer c.text-text.ensures a _ (c.write_outline-o.ensures.answer.long a) _ _ c.write_outline-o.ensures.buffer) c.put_outline.ensures
+    put_same (shown-accepted _ _ c.write_outline-o.ensures.answer.answer c.zeros-text.ensures a _ (c.write_outline-o.ensures.answer.long a) _ _ c.write_outline-o.ensures.buffer) c.put_outline.ensures

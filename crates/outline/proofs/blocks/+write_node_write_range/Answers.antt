@@ -32,7 +32,7 @@ write_range-children_of-k-requires t c =
 pub write_range-loop-j-init : goal.write_range-loop-j-init
 write_range-loop-j-init t c =
     let e = range_is _ c.requires.used.1 c.children_of-k.ensures in
-    (omega arith, left_start (omega arith) (omega arith) (ranged_start _ _ _ ∙ e _))
+    left_start (omega arith) (omega arith) (ranged_start _ _ _ ∙ e _)
 
 -- the child lies in the file, here and in the next answer
 pub write_range-overflow_add-c : goal.write_range-overflow_add-c
@@ -43,16 +43,14 @@ write_range-node_name-requires t c = child_fits (tree_held c.requires.outline_re
 
 pub write_range-loop-j-preserved : goal.write_range-loop-j-preserved
 write_range-loop-j-preserved t c =
-    let v = c.loop-j.invariant.1 in
+    let v = c.loop-j.invariant in
     let h : c.loop-j.j < c.children_of-k.result.count = omega arith in
     let n = child-name (tree_held c.requires.outline_ready) c.children_of-k.ensures c.loop-j.j h c.node_name.ensures.0 in
-    let g = ranged_next _ _ _ c.loop-j.j h in (
-      omega arith,
-      elim c.if-node_name-ne0.branch [
-        | write_range-then-node_name-ne0 w ↦ left_same (left_more v (put_same (shown-live Bits64 _ _ _ (λ z. w.if-node_name-ne0.true (n ∙ z))) w.write_node-e.ensures) g) w.e-is w.out-is
-        | write_range-else-node_name-ne0 w ↦ left_same (left_more v (put_same (shown-not Bits64 _ _ _ (sym n ∙ w.if-node_name-ne0.false)) (put_none _ _ v.low)) g) w.e-is w.out-is
-      ],
-    )
+    let g = ranged_next _ _ _ c.loop-j.j h in
+    elim c.if-node_name-ne0.branch [
+      | write_range-then-node_name-ne0 w ↦ left_same (left_more v (put_same (shown-live Bits64 _ _ _ (λ z. w.if-node_name-ne0.true (n ∙ z))) w.write_node-e.ensures) g) w.e-is w.out-is
+      | write_range-else-node_name-ne0 w ↦ left_same (left_more v (put_same (shown-not Bits64 _ _ _ (sym n ∙ w.if-node_name-ne0.false)) (put_none _ _ v.low)) g) w.e-is w.out-is
+    ]
 
 pub write_range-returns : goal.write_range-returns
-write_range-returns t c = left_end c.loop-j.invariant.1 (ranged-past _ _ _ c.loop-j.j (omega arith))
+write_range-returns t c = left_end c.loop-j.invariant (ranged-past _ _ _ c.loop-j.j (omega arith))

@@ -1,4 +1,4 @@
-use Prim.Native.Nat.{◌+◌, ◌-◌, ◌*◌, ◌≤◌}
+use Prim.Native.Nat.{◌+◌, ◌*◌}
 use Rattle.layout.specs.declared.Edition.TheVariants.{Bits64}
 use Rattle.tree.specs.Chain.{ranged}
 use Rattle.tree.specs.File.{tree_of}
@@ -15,9 +15,5 @@ decreases-write_range l = 2 * l.left + 1
 
 abbrev pub invariant-write_range-loop-j : goal.invariant-write_range-loop-j
 invariant-write_range-loop-j l =
-    (l.j ≤ l.k.count)
-    × Left l.initial.out l.at (ranged (shown Bits64 l.b (block Bits64 l.b l.left l.level)) ((tree_of Bits64 l.b).first l.a) ((tree_of Bits64 l.b).count l.a)) l.e
+    Left l.initial.out l.at (ranged (shown Bits64 l.b (block Bits64 l.b l.left l.level)) ((tree_of Bits64 l.b).first l.a) ((tree_of Bits64 l.b).count l.a)) l.e
     (ranged_from (shown Bits64 l.b (block Bits64 l.b l.left l.level)) l.k.first l.k.count l.j) l.out
-
-abbrev pub decreases-write_range-loop-j : goal.decreases-write_range-loop-j
-decreases-write_range-loop-j l = l.k.count - l.j

@@ -12,9 +12,6 @@ node_name-requires c = omega (arith, c.requires.1.fits)
 pub put_name-d-requires : goal.put_name-d-requires
 put_name-d-requires c = let p = c.requires in let n = node-named Bits64 _ _ c.node_name.ensures.0 p.1 in (p.0.rules, p.0.placed, p.0.names, n.0, n.1)
 
-pub put_attributes-e-requires : goal.put_attributes-e-requires
-put_attributes-e-requires c = let p = c.requires in (p.0, p.1)
-
 -- a buffer's length is a number of 64 bits
 pub returns : goal.returns
 returns c = put_four (omega arith) c.put_spaces-c.ensures c.put_name-d.ensures c.put_attributes-e.ensures c.put.ensures (line_is Bits64 _ _ c.node_name.ensures.0 c.args.level)

@@ -4,20 +4,14 @@ use Rattle.outline.proofs.Written.{text-start, text_next, text-zero, text-past}
 use Rattle.outline.proofs.texts.put_chars.Goals as goal
 
 pub loop-i-init : goal.loop-i-init
-loop-i-init c = (omega arith, left_start (omega arith) (omega arith) (text-start _ _ _))
-
-pub shape_of-out-then-c-eq0 : goal.shape_of-out-then-c-eq0
-shape_of-out-then-c-eq0 c = c.loop-i.invariant.1.size
+loop-i-init c = left_start (omega arith) (omega arith) (text-start _ _ _)
 
 pub returns-then-c-eq0 : goal.returns-then-c-eq0
-returns-then-c-eq0 c = let l = c.loop-i in left_end l.invariant.1 (text-zero _ _ _ l.i c.u16_at-c.ensures.0 c.if-c-eq0.true)
+returns-then-c-eq0 c = let l = c.loop-i in left_end l.invariant (text-zero _ _ _ l.i c.u16_at-c.ensures.0 c.if-c-eq0.true)
 
 pub loop-i-preserved : goal.loop-i-preserved
 loop-i-preserved c = let l = c.loop-i in
-    (omega arith, left_more l.invariant.1 c.put_char-p.ensures (text_next _ _ _ l.i c.u16_at-c.ensures.0 (omega arith) c.if-c-eq0.false))
-
-pub shape_of-out : goal.shape_of-out
-shape_of-out c = c.loop-i.invariant.1.size
+    left_more l.invariant c.put_char-p.ensures (text_next _ _ _ l.i c.u16_at-c.ensures.0 (omega arith) c.if-c-eq0.false)
 
 pub returns : goal.returns
-returns c = left_end c.loop-i.invariant.1 (text-past _ _ _ c.loop-i.i (omega arith))
+returns c = left_end c.loop-i.invariant (text-past _ _ _ c.loop-i.i (omega arith))

@@ -7,12 +7,12 @@ use Rattle.tree.specs.Chain.{ranged}
 use Rattle.tree.proofs.Ranged.{ranged-none}
 use Rattle.print.proofs.Puts.{left_start, left_more, left_end, put_none, put_same}
 use Rattle.outline.proofs.Written.{ranged_start, ranged_next, ranged-past}
-use Rattle.outline.proofs.Parts.{regions, attributes-count, attributes_lost, attributes-at, attribute_ready, attribute-text}
+use Rattle.outline.proofs.Parts.{regions, attributes-count, attributes_there, attributes-at, attribute_ready, attribute-text}
 use Rattle.outline.proofs.values.put_attributes.Goals as goal
 use Rattle.outline.proofs.values.put_attributes.Goals.{In-loop-i}
 
 -- the attribute lies in the file
-there : (c : In-loop-i) → c.in-At.q + c.loop-i.i * attribute_size Bits64 + attribute_size Bits64 ≤ 1073741824
+there : (c : In-loop-i) → c.unwrap-q.result + c.loop-i.i * attribute_size Bits64 + attribute_size Bits64 ≤ 1073741824
 there c =
     let p = c.requires in
     let l = c.loop-i in
@@ -26,14 +26,15 @@ pub range_at-requires : goal.range_at-requires
 range_at-requires c = let p = c.requires in
     record { mapped = regions p.0; el_bound = (c.attribute_element-el.ensures.1, c.attribute_field-n.ensures.1) }
 
-pub returns-in_default : goal.returns-in_default
-returns-in_default c = let p = c.requires in absurd (attributes_lost p.0 p.1 c.attribute_field-n.ensures.0 c.attribute_segment-seg.ensures.0 c.attribute_element-el.ensures.0 c.range_at.ensures c.if-n-eq0.false c.in_default.is)
+pub unwrap-q-requires : goal.unwrap-q-requires
+unwrap-q-requires c = let p = c.requires in
+    attributes_there p.0 p.1 c.attribute_field-n.ensures.0 c.attribute_segment-seg.ensures.0 c.attribute_element-el.ensures.0 c.range_at.ensures c.if-n-eq0.false
 
 -- a buffer's length is a number of 64 bits
 pub loop-i-init : goal.loop-i-init
 loop-i-init c = let p = c.requires in
-    let t = attributes-at p.0 p.1 c.attribute_field-n.ensures.0 c.attribute_segment-seg.ensures.0 c.attribute_element-el.ensures.0 c.range_at.ensures c.in-At.is in
-    (t, (omega arith, left_start (omega arith) (omega arith) (ranged_start _ 0 _ ∙ ap (ranged _ 0) t.count)))
+    let t = attributes-at p.0 p.1 c.attribute_field-n.ensures.0 c.attribute_segment-seg.ensures.0 c.attribute_element-el.ensures.0 c.range_at.ensures c.unwrap-q.ensures in
+    (t, left_start (omega arith) (omega arith) (ranged_start _ 0 _ ∙ ap (ranged _ 0) t.count))
 
 pub overflow_mul-i : goal.overflow_mul-i
 overflow_mul-i c = omega (arith, there (goal.at.overflow_mul-i c).In-loop-i)
@@ -48,10 +49,7 @@ put_attribute-e-requires c = let p = c.requires in
 
 pub loop-i-preserved : goal.loop-i-preserved
 loop-i-preserved c = let l = c.loop-i in
-    (l.invariant.0, (omega arith, left_more l.invariant.1.1 (put_same (attribute-text l.invariant.0 l.i) c.put_attribute-e.ensures) (ranged_next _ 0 _ l.i (omega arith))))
-
-pub shape_of-out : goal.shape_of-out
-shape_of-out c = c.loop-i.invariant.1.1.size
+    (l.invariant.0, left_more l.invariant.1 (put_same (attribute-text l.invariant.0 l.i) c.put_attribute-e.ensures) (ranged_next _ 0 _ l.i (omega arith)))
 
 pub returns : goal.returns
-returns c = left_end c.loop-i.invariant.1.1 (ranged-past _ 0 _ c.loop-i.i (omega arith))
+returns c = left_end c.loop-i.invariant.1 (ranged-past _ 0 _ c.loop-i.i (omega arith))

@@ -1,4 +1,3 @@
-use Prim.Native.Nat.{◌-◌, ◌≤◌}
 use Rattle.layout.specs.declared.Edition.TheVariants.{Bits64}
 use Rattle.nodes.specs.Node.{attribute_count, attribute_at}
 use Rattle.tree.specs.Chain.{ranged}
@@ -9,7 +8,4 @@ use Rattle.outline.proofs.Parts.{Attributes}
 use Rattle.outline.proofs.values.put_attributes.Given as goal
 
 abbrev pub invariant-loop-i : goal.invariant-loop-i
-invariant-loop-i l = Attributes Bits64 l.b l.x l.n l.q × ((l.i ≤ l.n) × Left l.initial.out l.at (ranged (λ k. attribute_text Bits64 l.b (attribute_at Bits64 l.b l.x k)) 0 (attribute_count l.b l.x)) l.e (ranged_from (λ k. attribute_text Bits64 l.b (attribute_at Bits64 l.b l.x k)) 0 l.n l.i) l.out)
-
-abbrev pub decreases-loop-i : goal.decreases-loop-i
-decreases-loop-i l = l.n - l.i
+invariant-loop-i l = Attributes Bits64 l.b l.x l.n l.q × Left l.initial.out l.at (ranged (λ k. attribute_text Bits64 l.b (attribute_at Bits64 l.b l.x k)) 0 (attribute_count l.b l.x)) l.e (ranged_from (λ k. attribute_text Bits64 l.b (attribute_at Bits64 l.b l.x k)) 0 l.n l.i) l.out

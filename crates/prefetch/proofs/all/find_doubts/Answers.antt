@@ -1,7 +1,6 @@
-use borrow.Author.Count.{below_none}
 use Rattle.le.specs.Le.{u32_at}
 use Rattle.region.proofs.Samples.{start_more, used-at}
-use Rattle.prefetch.proofs.Rights.{rows_start, segment_in, row_in, rows_none, rows_still, rows_more, rows_all}
+use Rattle.prefetch.proofs.Rights.{rows_start, segment_in, row_in, rows_none, rows_still, rows_more}
 use Rattle.prefetch.proofs.Doubting.{still}
 use Prim.Native.Nat.{◌+◌, ◌*◌, ◌≤◌}
 use mathlib.Core.Path.{refl, ◌∙◌}
@@ -20,32 +19,11 @@ turn c = segment_in Bits64 _ c.requires.tables.5 _ _ c.loop-seg-test.true c.loop
 row : (c : After-used_count-used) → c.loop-seg.at + 8 + c.used_count-used.result * attribute_size Bits64 ≤ length c.args.b.now
 row c = row_in Bits64 _ c.requires.tables.5 _ _ c.loop-seg-test.true c.loop-seg.invariant.0 _ c.used_count-used.ensures.0
 
-pub first_start-at-requires : goal.first_start-at-requires
-first_start-at-requires c = let w = c.requires.tables.5 in omega (arith, w.laid.head, w.at_is, w.short)
-
 pub loop-seg-init : goal.loop-seg-init
 loop-seg-init c = (rows_start Bits64 _ c.requires.tables.5 _ c.first_start-at.ensures, refl, c.requires.doubts_len.0, λ z. c.requires.doubts_len.1, rows_none Bits64 _ _, c.requires.tables.6)
 
-pub used_count-used-requires : goal.used_count-used-requires
-used_count-used-requires c = omega (arith, turn (goal.at.used_count-used-requires c).In-loop-seg)
-
-pub loop-el-init : goal.loop-el-init
-loop-el-init c = let i = c.loop-seg.invariant in (omega arith, i.1, i.2, i.3, i.4, below_none _, i.5)
-
-pub overflow_add-at : goal.overflow_add-at
-overflow_add-at c = record { fits = omega (arith, turn (goal.at.overflow_add-at c).In-loop-seg) }
-
 pub take_texts-taken-requires : goal.take_texts-taken-requires
 take_texts-taken-requires c = (row (goal.at.take_texts-taken-requires c).After-used_count-used, omega (arith, c.requires.tables.1.small), c.loop-el.invariant.0, c.loop-el.invariant.1)
-
-pub examine_batch-known-requires : goal.examine_batch-known-requires
-examine_batch-known-requires c = let p = c.requires.tables in
-    let t = c.take_texts-taken.ensures.slotted in
-    let i = c.loop-el.invariant in
-    record { tables = (p.0, p.1, p.2, p.3, t.long, t.within, t.few, p.4, i.6); doubts_len = (i.2, i.3) }
-
-pub loop-el-smaller : goal.loop-el-smaller
-loop-el-smaller c = let t = c.take_texts-taken.ensures in omega (arith, t.on c.loop-el-test.true, t.upto)
 
 pub loop-el-preserved : goal.loop-el-preserved
 loop-el-preserved c = let t = c.take_texts-taken.ensures in
@@ -60,7 +38,3 @@ pub loop-seg-preserved : goal.loop-seg-preserved
 loop-seg-preserved c = let i = c.loop-seg.invariant in
     let j = c.loop-el.invariant in
     (start_more (attribute_size Bits64) _ _ _ _ _ _ refl i.0 c.next_start-at.ensures, j.1, j.2, j.3, rows_more Bits64 _ _ _ _ _ _ j.4 i.0 (used-at _ _ _ _ _ _ i.0 c.used_count-used.ensures.0) c.loop-el-test.false j.5, j.6)
-
-pub returns : goal.returns
-returns c = let i = c.loop-seg.invariant in
-    record { answer = i.3; doubts = rows_all Bits64 _ _ _ i.4 (omega (arith, c.loop-seg-test.false, c.requires.tables.5.count_is)); memo = i.5 }

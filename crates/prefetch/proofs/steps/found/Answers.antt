@@ -1,12 +1,7 @@
 use Rattle.prefetch.proofs.Rights.{entry_in}
 use mathlib.Core.Path.{refl}
-use native.Mathlib.Omega.{arith}
 use borrow.Author.Rules.{rules}
 use Rattle.prefetch.proofs.steps.found.Goals as goal
-
-pub run_has-requires : goal.run_has-requires
-run_has-requires c = let p = c.requires in
-    (p.0, c.bucket-k.ensures.1, p.1, rw c.bucket-k.ensures.0 p.2, omega arith)
 
 pub returns : goal.returns
 returns c = let p = c.requires in

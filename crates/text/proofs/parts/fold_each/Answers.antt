@@ -1,6 +1,5 @@
 use mathlib.Core.Path.{refl, sym, ◌∙◌}
 use Rattle.text.proofs.AsBytes.{char_bytes, folded_start, folded_next, folded_over}
-use native.Mathlib.Omega.{arith}
 use Rattle.text.proofs.parts.fold_each.Goals as goal
 
 pub loop-i-init : goal.loop-i-init
