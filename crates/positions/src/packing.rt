@@ -12,7 +12,7 @@ ghost use Rattle.positions.specs.inner.Packed.{Packed, begun_in, all_begun};
 
 use layout::CHARACTER_SIZE;
 use region::Region;
-use strings::{StringTable, StringTable};
+use strings::StringTable;
 
 // At how many of the n characters at p a text can begin, which are a segment's first.
 fn begun_in(b: &[u8], p: usize, n: usize) -> usize

@@ -32,7 +32,7 @@ fn count_carrying(table: &StringTable, m: usize) -> usize
         × (result ≤ all_entries (lent_table table.now)) }
 {
     let mut c = 0usize;
-    for k in 0..buckets.len() {
+    for k in 0..table.buckets.len() {
         c += count_carrying_in(table, k, m);
     }
     c

@@ -5,7 +5,7 @@ ghost use Rattle.verdict.specs.Verdict.{Accepted};
 ghost use Rattle.strings.specs.Order.{string_checks};
 ghost use Rattle.strings.specs.inner.Lent.{lent_table};
 
-use crate::{StringTable, StringTable};
+use crate::StringTable;
 
 #[derive(Clone, Copy)]
 pub struct CheckedTable<'a> {

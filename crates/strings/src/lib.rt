@@ -12,7 +12,6 @@ mod listed;
 pub mod spot;
 pub mod table;
 
-use crate::StringTable;
 use region::{Region, SAMPLES};
 
 // Where the parts of a string table are: its characters, and its address count.

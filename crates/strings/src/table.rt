@@ -39,7 +39,7 @@ pub fn check_entries(table: &StringTable, t: &HashTables) -> Result<bool, Refusa
     let mut spots = [None; 64];
     let mut seen = [0usize; 64];
     let mut begun = true;
-    'table.buckets: for k in 0..buckets.len() {
+    'buckets: for k in 0..table.buckets.len() {
         let n = entry::entry_count(table, k);
         let mut span = Span { start: 0, end: 0 };
         'entries: for j in 0..n {
