@@ -10,7 +10,7 @@ use strings::{Strings, entry, fields};
 
 // How many of the m entries of bucket k from entry w on, one to eight, have hashes below h. Where hashes ascend these come first. Eight are
 // read and counted, the last one as often as it takes: a loop whose length differs from bucket to bucket would be mispredicted, and so would
-// a branch for each. Inlined, since of eight none is the last one more than once.
+// a branch for each. Inlined: where there are eight, none is read twice, and nothing is tested for that.
 #[inline(always)]
 fn count_few(
     b: &[u8],
