@@ -7,7 +7,7 @@ use mathlib.Core.List.{List}
 use lib.ListN.{length}
 use Rattle.verdict.specs.Checks.{SomeBelow}
 use Rattle.verdict.specs.inner.Tells.{Tells}
-use Rattle.verdict.proofs.Laws.{Clean, tells_yes, tells_no}
+use Rattle.verdict.proofs.Laws.{Clean, tells_no}
 use Rattle.le.specs.Le.{u16_at}
 use Rattle.le.proofs.Numbers.{Bytes, pairs, halves}
 use Rattle.search.specs.inner.Run.{word_of, Meets}
@@ -106,9 +106,6 @@ pub clean_entries : (ed : Edition) (b : List ℕ) (t : Table) → t ≡ values e
 clean_entries ed b t same ok = subst (λ (u : Table). Clean (all_entry_checks u)) (sym same) (strings_parts (values ed b) ok).0
 
 module _ (ed : Edition) (b : List ℕ) (q w y : ℕ) (e : w ≡ type_word b q) (f : y ≡ type_of w) where
-  pub other_type : (y ≡ 3 → ⊥) → Tells (TextRight ed b q) true
-  other_type d = tells_yes (λ z. absurd (d (sym (kind_is b q w e y f) ∙ z)))
-
   module _ (three : y ≡ 3) (t : Table) (same : t ≡ values ed b) (ok : Clean (string_checks (values ed b))) where
     abbrev seg : ℕ
     seg = text_segment b q

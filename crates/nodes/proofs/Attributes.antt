@@ -56,12 +56,6 @@ module _ (ed : Edition) (b : List ℕ) (n : Names) (g : Known ed b n) (p i q : �
   name_is : attribute_name b (attribute_at ed b p i) ≡ x
   name_is = ap (attribute_name b) (sym e) ∙ sym f
 
-  pub name-zero : x ≡ 0 → Tells (AttributeRule ed b p i) false
-  name-zero z = tells_no (λ r. omega (arith, r.low, name_is))
-
-  pub name-past : n.count < x → Tells (AttributeRule ed b p i) false
-  name-past l = tells_no (λ r. omega (arith, r.high, name_is, g.count))
-
   -- the one before
   module _ (h : 0 < i) (y : ℕ) (d : y ≡ attribute_name b (q - attribute_size ed)) where
     before_is : attribute_name b (attribute_at ed b p (i - 1)) ≡ y
@@ -77,9 +71,6 @@ module _ (ed : Edition) (b : List ℕ) (n : Names) (g : Known ed b n) (p i q : �
 
   pub name-first : i ≤ 0 → Above ed b p i
   name-first h = inl (omega arith)
-
-  pub not-typed : (Typed b q → ⊥) → Tells (AttributeRule ed b p i) false
-  not-typed d = tells_no (λ r. d (subst (Typed b) (sym e) r.typed))
 
   module _ (l : x ≡ 0 → ⊥) (h : x ≤ n.count) (a : Above ed b p i) (t : Typed b q) where
     right : (x ≡ n.value → type_of (type_word b q) ≡ 3) → AttributeRule ed b p i

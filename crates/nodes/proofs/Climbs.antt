@@ -2,12 +2,12 @@
 use Prim.Native.Nat.{ℕ, ◌+◌, ◌*◌, ◌≤◌, ◌<◌}
 use native.Mathlib.Nat.{not-suc-le-zero}
 use native.Mathlib.Omega.{arith}
-use mathlib.Core.Path.{◌≡◌, refl, ap, sym, subst, ◌∙◌}
+use mathlib.Core.Path.{◌≡◌, ap, sym, subst, ◌∙◌}
 use mathlib.Core.Bool.{Bool, true, false}
 use mathlib.Core.Logic.{◌⊎◌, inl, inr, ⊎_elim}
 use mathlib.Core.List.{List}
 use lib.ListN.{length}
-use borrow.Author.Count.{below_none, below_more}
+use borrow.Author.Count.{below_more}
 use Rattle.verdict.specs.Checks.{SomeBelow}
 use Rattle.verdict.specs.inner.Tells.{Tells}
 use Rattle.verdict.proofs.Laws.{tells_yes, tells_no}
@@ -32,9 +32,6 @@ pub record Climbed (ed : Edition) (b : List ℕ) (q i last : ℕ) : Type 0 where
   pub own : (last ≡ 0) ⊎ SomeBelow i (λ k. node_name b (q + k * node_size ed) ≡ last)
 
 module _ (ed : Edition) (b : List ℕ) (q : ℕ) where
-  pub climb_none : Climbed ed b q 0 0
-  climb_none = record { rising = below_none _; most = below_none _; own = inl refl }
-
   module _ (i last : ℕ) (h : Climbed ed b q i last) (name : ℕ) (e : name ≡ node_name b (q + i * node_size ed)) where
     pub climb_skip : name ≡ 0 → Climbed ed b q (i + 1) last
     climb_skip z = record {

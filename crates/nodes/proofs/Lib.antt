@@ -1,6 +1,5 @@
 pub mod Accepted
 pub mod Sought
-pub mod Named
 pub mod Climbs
 pub mod Ways
 pub mod Rows

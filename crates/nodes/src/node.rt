@@ -35,7 +35,7 @@ fn node_right(b: &[u8], names: Names, keys: usize, seg: usize, el: usize, p: usi
     ensures { Tells (NodeRule Bits64 b.now seg el) result }
 {
     let name = fields::node_name(b, p);
-    if seg + el == 0 {
+    if seg == 0 && el == 0 {
         if name != names.root {
             return false;
         }

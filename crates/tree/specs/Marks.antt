@@ -1,5 +1,5 @@
 -- What acceptance leaves in the workspace (FORMAT, "Workspace").
-use Rattle.std.specs.Prelude.{ℕ, ◌+◌, ◌≡◌, List, [], ◌∷◌, ◌++◌, drop, replicate}
+use Rattle.std.specs.Prelude.{ℕ, ◌≡◌, List, [], ◌∷◌, ◌++◌, drop, replicate}
 use Rattle.std.proofs.Math.Decide.{ℕ_discrete}
 use Rattle.verdict.specs.Checks.{SomeBelow}
 use Rattle.verdict.specs.Decide.{some_below?}

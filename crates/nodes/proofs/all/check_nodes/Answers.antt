@@ -80,11 +80,11 @@ segments-preserved c = let q = c.segments.invariant.at_is in
       memo = i.memo;
     }
 
-pub returns-after-segments : goal.returns-after-segments
-returns-after-segments c = let i = c.segments.invariant in
-    record { answer = i.none ∙ sym (i.left ∙ left_none _ _ _ _ (omega (arith, c.segments-test.false, c.requires.1.placed.nodes.count_is))); memo = i.memo }
+pub returns-after-segments-clause-answer : goal.returns-after-segments-clause-answer
+returns-after-segments-clause-answer c = let i = c.segments.invariant in
+    i.none ∙ sym (i.left ∙ left_none _ _ _ _ (omega (arith, c.segments-test.false, c.requires.1.placed.nodes.count_is)))
 
-pub returns-then-is_err : goal.returns-then-is_err
-returns-then-is_err c = let w = c.check_node-answer.ensures in
+pub returns-then-is_err-clause-answer : goal.returns-then-is_err-clause-answer
+returns-then-is_err-clause-answer c = let w = c.check_node-answer.ensures in
     let e = stops _ (cc) in
-    record { answer = e.1 ∙ sym (c.loop-el.invariant.left ∙ left_stop _ _ _ _ _ (here (goal.at.returns-then-is_err c).In-loop-el).el_in w.answer e.1); memo = w.memo }
+    e.1 ∙ sym (c.loop-el.invariant.left ∙ left_stop _ _ _ _ _ (here (goal.at.returns-then-is_err-clause-answer c).In-loop-el).el_in w.answer e.1)

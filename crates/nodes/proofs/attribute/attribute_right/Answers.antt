@@ -1,22 +1,13 @@
 use Rattle.layout.specs.declared.Edition.TheVariants.{Bits64}
-use Rattle.nodes.proofs.Attributes.{Above, before_in, name-zero, name-past, name_falls, name_rises, name-first, not-typed, right_other, right-value}
+use Rattle.nodes.proofs.Attributes.{Above, before_in, name_falls, name_rises, name-first, right_other, right-value}
 use Rattle.nodes.proofs.attribute.attribute_right.Goals as goal
 use Rattle.nodes.proofs.attribute.attribute_right.Goals.{Joined-i-gt0, then-i-gt0+else-name-attribute_name, else-i-gt0}
-
-pub returns-then-name-eq0 : goal.returns-then-name-eq0
-returns-then-name-eq0 c = name-zero Bits64 _ _ c.requires.0 _ _ _ c.requires.1 _ c.attribute_name-name.ensures.0 c.if-name-eq0.true
-
-pub returns-then-name-names : goal.returns-then-name-names
-returns-then-name-names c = name-past Bits64 _ _ c.requires.0 _ _ _ c.requires.1 _ c.attribute_name-name.ensures.0 c.if-name-names.true
 
 pub overflow_sub-q : goal.overflow_sub-q
 overflow_sub-q c = before_in Bits64 _ _ _ _ c.requires.1 c.if-i-gt0.true
 
 pub returns-then-name-attribute_name : goal.returns-then-name-attribute_name
 returns-then-name-attribute_name c = name_falls Bits64 _ _ c.requires.0 _ _ _ c.requires.1 _ c.attribute_name-name.ensures.0 c.if-i-gt0.true _ c.attribute_name.ensures.0 c.if-name-attribute_name.true
-
-pub returns-then-not-typed : goal.returns-then-not-typed
-returns-then-not-typed c = not-typed Bits64 _ _ c.requires.0 _ _ _ c.requires.1 _ c.attribute_name-name.ensures.0 (c.typed.ensures.not c.if-not-typed.true)
 
 -- the name is above that of the attribute before
 above : (c : Joined-i-gt0) → let a = c.args in Above Bits64 a.b.now a.p a.i

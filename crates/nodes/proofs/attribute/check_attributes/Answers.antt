@@ -11,23 +11,23 @@ loop-i-init c = (attributes_start Bits64 _ _, c.requires.n_value.5)
 pub attribute_right-requires : goal.attribute_right-requires
 attribute_right-requires c = (c.requires.tables.1, attribute_is Bits64 _ _ _ _ c.requires.n_value.1, omega arith)
 
-pub returns-then-not-attribute_right : goal.returns-then-not-attribute_right
-returns-then-not-attribute_right c = let i = c.loop-i.invariant in
+pub returns-then-not-attribute_right-clause-answer : goal.returns-then-not-attribute_right-clause-answer
+returns-then-not-attribute_right-clause-answer c = let i = c.loop-i.invariant in
     let p = c.requires.n_value in
-    record { answer = sym (i.0 ∙ refused_18 Bits64 _ _ _ _ p.0 c.loop-i-test.true _ (attribute_is Bits64 _ _ _ _ p.1) (c.attribute_right.ensures.not c.if-not-attribute_right.true)); memo = i.1 }
+    sym (i.0 ∙ refused_18 Bits64 _ _ _ _ p.0 c.loop-i-test.true _ (attribute_is Bits64 _ _ _ _ p.1) (c.attribute_right.ensures.not c.if-not-attribute_right.true))
 
 pub text_passes-requires : goal.text_passes-requires
 text_passes-requires c = let p = c.requires.tables in
     (p.0, p.2, p.3, p.4, omega arith, c.requires.n_value.3, subst (Trusted Bits64 _ _) (sym (attribute_is Bits64 _ _ _ _ c.requires.n_value.1)) (c.requires.n_value.4 _ c.loop-i-test.true), c.loop-i.invariant.1)
 
-pub returns-then-not-text_passes : goal.returns-then-not-text_passes
-returns-then-not-text_passes c = let p = c.requires.n_value in
-    record { answer = sym (c.loop-i.invariant.0 ∙ refused_19 Bits64 _ _ _ _ p.0 c.loop-i-test.true _ (attribute_is Bits64 _ _ _ _ p.1) (c.attribute_right.ensures.so c.if-not-attribute_right.false) (c.text_passes.ensures.answer.not c.if-not-text_passes.true)); memo = c.text_passes.ensures.memo }
+pub returns-then-not-text_passes-clause-answer : goal.returns-then-not-text_passes-clause-answer
+returns-then-not-text_passes-clause-answer c = let p = c.requires.n_value in
+    sym (c.loop-i.invariant.0 ∙ refused_19 Bits64 _ _ _ _ p.0 c.loop-i-test.true _ (attribute_is Bits64 _ _ _ _ p.1) (c.attribute_right.ensures.so c.if-not-attribute_right.false) (c.text_passes.ensures.answer.not c.if-not-text_passes.true))
 
 pub loop-i-preserved : goal.loop-i-preserved
 loop-i-preserved c = let p = c.requires.n_value in
     (c.loop-i.invariant.0 ∙ attributes_more Bits64 _ _ _ _ p.0 c.loop-i-test.true _ (attribute_is Bits64 _ _ _ _ p.1) (c.attribute_right.ensures.so c.if-not-attribute_right.false) (c.text_passes.ensures.answer.so c.if-not-text_passes.false), c.text_passes.ensures.memo)
 
-pub returns : goal.returns
-returns c = let i = c.loop-i.invariant in
-    record { answer = sym (i.0 ∙ attributes-none Bits64 _ _ _ _ c.requires.n_value.0 c.loop-i-test.false); memo = i.1 }
+pub returns-clause-answer : goal.returns-clause-answer
+returns-clause-answer c = let i = c.loop-i.invariant in
+    sym (i.0 ∙ attributes-none Bits64 _ _ _ _ c.requires.n_value.0 c.loop-i-test.false)

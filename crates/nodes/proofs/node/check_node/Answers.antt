@@ -24,16 +24,16 @@ live c = live-node _ _ _ c.node_name.ensures.0 c.if-node_name-eq0.false
 pub node_right-requires : goal.node_right-requires
 node_right-requires c = (c.requires.1.known, c.requires.1.placed.keys, c.requires.3, fits (goal.at.node_right-requires c).Start)
 
-pub returns-then-not-node_right : goal.returns-then-not-node_right
-returns-then-not-node_right c = let p = c.requires in
-    record { answer = refused_16 Bits64 _ _ _ _ p.3 (c.node_right.ensures.not c.if-not-node_right.true); memo = p.6 }
+pub returns-then-not-node_right-clause-answer : goal.returns-then-not-node_right-clause-answer
+returns-then-not-node_right-clause-answer c = let p = c.requires in
+    refused_16 Bits64 _ _ _ _ p.3 (c.node_right.ensures.not c.if-not-node_right.true)
 
 pub node_name-requires : goal.node_name-requires
 node_name-requires c = omega (arith, fits (goal.at.node_name-requires c).Start)
 
-pub returns-then-node_name-eq0 : goal.returns-then-node_name-eq0
-returns-then-node_name-eq0 c = let p = c.requires in
-    record { answer = nameless_passes Bits64 _ _ _ _ p.3 (rule (goal.at.returns-then-node_name-eq0 c).Else-not-node_right) _ c.node_name.ensures.0 c.if-node_name-eq0.true; memo = p.6 }
+pub returns-then-node_name-eq0-clause-answer : goal.returns-then-node_name-eq0-clause-answer
+returns-then-node_name-eq0-clause-answer c = let p = c.requires in
+    nameless_passes Bits64 _ _ _ _ p.3 (rule (goal.at.returns-then-node_name-eq0-clause-answer c).Else-not-node_right) _ c.node_name.ensures.0 c.if-node_name-eq0.true
 
 pub check_attribute_range-requires : goal.check_attribute_range-requires
 unfolding value_strings
@@ -41,18 +41,15 @@ check_attribute_range-requires c = let p = c.requires in
     let y = p.1 in
     record { tables = (p.0, y.known, y.strings, y.table, y.accepted); mapped = (y.placed.attributes, y.attributes, fits (goal.at.check_attribute_range-requires c).Start, live (goal.at.check_attribute_range-requires c).Else-node_name-eq0, p.4, p.5, p.6) }
 
-pub returns-in_err-check_attribute_range : goal.returns-in_err-check_attribute_range
-returns-in_err-check_attribute_range c = let e = err_from_is_err_and c.from_residual.result c.from_residual.ensures.1 in
-    record {
-      answer = rw (e.1, e.2) (refused-range Bits64 _ _ _ _ c.requires.3 (rule (goal.at.returns-in_err-check_attribute_range c).Else-not-node_right) (refused_of c.check_attribute_range.ensures.answer c.in_err-check_attribute_range.was));
-      memo = c.check_attribute_range.ensures.memo;
-    }
+pub returns-in_err-check_attribute_range-clause-answer : goal.returns-in_err-check_attribute_range-clause-answer
+returns-in_err-check_attribute_range-clause-answer c = let e = err_from_is_err_and c.from_residual.result c.from_residual.ensures.1 in
+    rw (e.1, e.2) (refused-range Bits64 _ _ _ _ c.requires.3 (rule (goal.at.returns-in_err-check_attribute_range-clause-answer c).Else-not-node_right) (refused_of c.check_attribute_range.ensures.answer c.in_err-check_attribute_range.was))
 
-pub children_right-requires : goal.children_right-requires
-children_right-requires c = record { mapped = (c.requires.1.placed.nodes, c.requires.1.nodes); node_size_in_bounds = (fits (goal.at.children_right-requires c).Start, live (goal.at.children_right-requires c).Else-node_name-eq0) }
+pub children_right-requires-clause-node_size_in_bounds : goal.children_right-requires-clause-node_size_in_bounds
+children_right-requires-clause-node_size_in_bounds c = (fits (goal.at.children_right-requires-clause-node_size_in_bounds c).Start, live (goal.at.children_right-requires-clause-node_size_in_bounds c).Else-node_name-eq0)
 
-pub returns-then-not-children_right : goal.returns-then-not-children_right
-returns-then-not-children_right c = record { answer = refused_23 Bits64 _ _ _ _ c.requires.3 (rule (goal.at.returns-then-not-children_right c).Else-not-node_right) (clean_of c.check_attribute_range.ensures.answer c.in_ok-check_attribute_range.was) (c.children_right.ensures.not c.if-not-children_right.true); memo = c.check_attribute_range.ensures.memo }
+pub returns-then-not-children_right-clause-answer : goal.returns-then-not-children_right-clause-answer
+returns-then-not-children_right-clause-answer c = refused_23 Bits64 _ _ _ _ c.requires.3 (rule (goal.at.returns-then-not-children_right-clause-answer c).Else-not-node_right) (clean_of c.check_attribute_range.ensures.answer c.in_ok-check_attribute_range.was) (c.children_right.ensures.not c.if-not-children_right.true)
 
-pub returns : goal.returns
-returns c = record { answer = node_passes Bits64 _ _ _ _ c.requires.3 (rule (goal.at.returns c).Else-not-node_right) (clean_of c.check_attribute_range.ensures.answer c.in_ok-check_attribute_range.was) (c.children_right.ensures.so c.if-not-children_right.false); memo = c.check_attribute_range.ensures.memo }
+pub returns-clause-answer : goal.returns-clause-answer
+returns-clause-answer c = node_passes Bits64 _ _ _ _ c.requires.3 (rule (goal.at.returns-clause-answer c).Else-not-node_right) (clean_of c.check_attribute_range.ensures.answer c.in_ok-check_attribute_range.was) (c.children_right.ensures.so c.if-not-children_right.false)

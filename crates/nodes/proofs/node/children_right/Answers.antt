@@ -5,7 +5,6 @@ use Rattle.layout.specs.Layout.{nodes_at}
 use Rattle.layout.specs.declared.Edition.TheVariants.{Bits64}
 use Rattle.nodes.specs.Node.{child_segment, child_element, child_count}
 use Rattle.nodes.proofs.Climbs.{children_sought, children-none, children-nowhere, children_fit, children-told}
-use Rattle.nodes.proofs.Sought.{lent}
 use Rattle.nodes.proofs.Ways.{child-count}
 use Rattle.nodes.proofs.node.children_right.Goals as goal
 use Rattle.nodes.proofs.node.children_right.Goals.{After-child_field-n, After-range_at-r}
@@ -20,10 +19,6 @@ range c = children_sought Bits64 _ _ _ _ c.requires.mapped.0 _ _ c.child_segment
 
 pub returns-then-n-eq0 : goal.returns-then-n-eq0
 returns-then-n-eq0 c = children-none Bits64 _ _ _ (count (goal.at.returns-then-n-eq0 c).After-child_field-n) c.if-n-eq0.true
-
-pub range_at-r-requires : goal.range_at-r-requires
-range_at-r-requires c = let w = c.requires.mapped in
-    record { mapped = lent w.0 w.1; el_bound = (c.child_element.ensures.1, c.child_field-n.ensures.1) }
 
 pub rising-requires : goal.rising-requires
 rising-requires c = children_fit Bits64 _ _ _ (count (goal.at.rising-requires c).After-child_field-n) _ (range (goal.at.rising-requires c).After-range_at-r) _ c.in-Some.is c.requires.mapped.0.laid

@@ -1,11 +1,8 @@
 use native.Mathlib.Omega.{arith}
 use Rattle.layout.specs.declared.Edition.TheVariants.{Bits64}
-use Rattle.nodes.proofs.Climbs.{climb_none, climb_skip, climb_more, climb_falls, climb_whole}
+use Rattle.nodes.proofs.Climbs.{climb_skip, climb_more, climb_falls, climb_whole}
 use Rattle.nodes.proofs.node.rising.Goals as goal
 use Rattle.nodes.proofs.node.rising.Goals.{then-name-ne0+else-name-last, else-name-ne0}
-
-pub loop-i-init : goal.loop-i-init
-loop-i-init c = climb_none Bits64 _ _
 
 pub returns-then-name-last : goal.returns-then-name-last
 returns-then-name-last c = climb_falls Bits64 _ _ _ _ c.loop-i.invariant _ c.node_name-name.ensures.0 _ c.loop-i-test.true c.if-name-ne0.true c.if-name-last.true

@@ -8,7 +8,7 @@ use Rattle.nodes.specs.Node.{child_count}
 use Rattle.tree.specs.inner.Marking.{first_number}
 use Rattle.nodes.proofs.Ways.{nameless_children, child-count, live-node}
 use Rattle.tree.proofs.Fills.{filled}
-use Rattle.tree.proofs.OneRange.{own_counts, marked-none, segment_there, first-number, range_there, marked_now, marked-not}
+use Rattle.tree.proofs.OneRange.{marked-none, segment_there, first-number, range_there, marked_now, marked-not}
 use Rattle.tree.proofs.marks.mark_node.Goals as goal
 use Rattle.tree.proofs.marks.mark_node.Goals.{After-child_field-n, After-number-i}
 
@@ -30,9 +30,9 @@ returns-then-node_name-eq0 c = marked-none Bits64 _ _ _ (nameless_children _ _ (
 pub returns-then-n-eq0 : goal.returns-then-n-eq0
 returns-then-n-eq0 c = marked-none Bits64 _ _ _ (sym (counted (goal.at.returns-then-n-eq0 c).After-child_field-n) ∙ c.if-n-eq0.true)
 
-pub number-i-requires : goal.number-i-requires
-number-i-requires c = let seg = segment_there Bits64 c.args.b.now c.args.p _ _ (counted (goal.at.number-i-requires c).After-child_field-n) c.child_segment.ensures.0 c.if-n-eq0.false c.requires.reached in
-    record { mapped = own_counts c.requires.tree_ready.0 c.requires.tree_ready.1; seg_lt_count = (omega (arith, c.requires.tree_ready.0.nodes.count_is), search rules) }
+pub number-i-requires-clause-seg_lt_count : goal.number-i-requires-clause-seg_lt_count
+number-i-requires-clause-seg_lt_count c = let seg = segment_there Bits64 c.args.b.now c.args.p _ _ (counted (goal.at.number-i-requires-clause-seg_lt_count c).After-child_field-n) c.child_segment.ensures.0 c.if-n-eq0.false c.requires.reached in
+    (omega (arith, c.requires.tree_ready.0.nodes.count_is), search rules)
 
 pub range_free-requires : goal.range_free-requires
 range_free-requires c = let p = fits (goal.at.range_free-requires c).After-number-i (counted (goal.at.range_free-requires c).After-child_field-n) in (omega (arith, c.if-n-eq0.false), p)

@@ -1,7 +1,7 @@
 use mathlib.Core.Path.{◌≡◌, refl, sym, ◌∙◌}
 use Rattle.nodes.specs.Node.{child_count}
 use Rattle.nodes.proofs.Ways.{nameless_children, child-count, live-node}
-use Rattle.tree.proofs.Children.{own_region, no_children, found-range, children-at}
+use Rattle.tree.proofs.Children.{no_children, found-range, children-at}
 use Rattle.tree.proofs.ranges.children_of.Goals as goal
 use Rattle.tree.proofs.ranges.children_of.Goals.{After-child_field-count}
 
@@ -17,9 +17,6 @@ returns-then-node_name-eq0 c = no_children c.requires.0 _ c.child_segment-seg.en
 
 pub returns-then-count-eq0 : goal.returns-then-count-eq0
 returns-then-count-eq0 c = no_children c.requires.0 _ c.child_segment-seg.ensures c.child_element-el.ensures (sym c.if-count-eq0.true ∙ counted (goal.at.returns-then-count-eq0 c).After-child_field-count) refl
-
-pub range_at-requires : goal.range_at-requires
-range_at-requires c = record { mapped = own_region c.requires.0; el_bound = (c.child_element-el.ensures.1, c.child_field-count.ensures.1) }
 
 pub returns-in_default : goal.returns-in_default
 returns-in_default c = absurd
