@@ -60,7 +60,13 @@ pub fn find(file: &[u8], v: &View, kind: Kind, text: &[u8]) -> Lookup
 }
 
 // What each of many texts is told.
-pub fn find_texts(file: &[u8], v: &View, kind: Kind, texts: &[u8], answers: &mut [u8]) -> Result<usize, Refusal>
+pub fn find_texts(
+    file: &[u8],
+    v: &View,
+    kind: Kind,
+    texts: &[u8],
+    answers: &mut [u8],
+) -> Result<usize, Refusal>
     requires { Fits Bits64 file.now v.now × FileRules Bits64 file.now }
     ensures answer { Answered texts.now (length answers.old) result }
     ensures answers { answers.new
@@ -68,5 +74,7 @@ pub fn find_texts(file: &[u8], v: &View, kind: Kind, texts: &[u8], answers: &mut
 {
     let t = hash::tables();
     let s = asked_table(v, kind);
-    batch::find_each(file, &t, s.strings, s.segments, s.buckets, kind, texts, answers)
+    batch::find_each(
+        file, &t, s.strings, s.segments, s.buckets, kind, texts, answers,
+    )
 }

@@ -14,7 +14,10 @@ pub fn taplinen_accept(file: &[u8], ws: &mut [u8]) -> Answer
     ensures answer { result ≡ accept_answer Bits64 file.now (length ws.old) }
     ensures workspace { ws.new ≡ workspace_left Bits64 file.now ws.old }
 {
-    accept::accept(file, ws).map(|view| view.places.used_nodes).into()
+    match &accept::accept(file, ws) {
+        Ok(view) => Answer::new(0, view.places.used_nodes),
+        Err(refusal) => (*refusal).into(),
+    }
 }
 
 // Asks for a text in either table.
