@@ -5,7 +5,7 @@ use native.Mathlib.Omega.{arith}
 use Rattle.text.proofs.value_run_few.Goals as goal
 
 pub loop-i-init : goal.loop-i-init
-loop-i-init c = folded_start _ _ _ _ c.requires.2
+loop-i-init c = folded_start _ _ _ _ c.requires.1
 
 pub returns-then-c-eq0 : goal.returns-then-c-eq0
 returns-then-c-eq0 c = let l = c.loop-i-test.true in
