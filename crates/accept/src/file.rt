@@ -65,7 +65,6 @@ impl<'a> AcceptedFile<'a> {
             file: self.file,
             region: self.view.places.nodes,
             segments: &self.view.node_segments,
-            counts: &self.view.node_counts,
         }
     }
 }

@@ -14,12 +14,12 @@ ghost use Rattle.nodes.specs.inner.Doubts.{Trusted, NoDoubt};
 ghost use Rattle.nodes.specs.Order.{node_attribute_checks};
 ghost use Rattle.nodes.specs.inner.Noted.{noted};
 
-use crate::prepared::PreparedFile;
 use crate::{fields, long};
 use hash::HashTables;
 use keys::Names;
 use layout::ATTRIBUTE_SIZE;
 use search::run;
+use strings::checked::ValuesTable;
 use strings::spot;
 use verdict::{Refusal, Rule};
 
@@ -71,12 +71,12 @@ fn attribute_right(b: &[u8], names: Names, p: usize, i: usize, q: usize) -> bool
 }
 
 // Whether refusal 19 is not due to the attribute at q. An entry with its address would stand in the bucket of the text there.
-pub fn text_right(prepared: &PreparedFile, t: &HashTables, q: usize, memo: &mut [u32; 3072]) -> bool
-    requires { (q + attribute_size Bits64 ≤ length prepared.now.file.now) × Remembers (noted prepared.now.file.now) memo.old }
-    ensures answer { Tells (TextRight Bits64 prepared.now.file.now q) result }
-    ensures memo { Remembers (noted prepared.now.file.now) memo.new }
+pub fn text_right(values: &ValuesTable, t: &HashTables, q: usize, memo: &mut [u32; 3072]) -> bool
+    requires { (q + attribute_size Bits64 ≤ length values.now.checked.table.file.now) × Remembers (noted values.now.checked.table.file.now) memo.old }
+    ensures answer { Tells (TextRight Bits64 values.now.checked.table.file.now q) result }
+    ensures memo { Remembers (noted values.now.checked.table.file.now) memo.new }
 {
-    let table = &prepared.values().table;
+    let table = &values.checked.table;
     let word = fields::type_word(table.file, q);
     if words::kind(word) != 3 {
         return true;
@@ -98,16 +98,16 @@ pub fn text_right(prepared: &PreparedFile, t: &HashTables, q: usize, memo: &mut 
 
 // The same where it may be known of the attribute already: that nothing is doubted saves a look at its place.
 fn text_passes(
-    prepared: &PreparedFile,
+    values: &ValuesTable,
     t: &HashTables,
     q: usize,
     known: bool,
     doubts: &[u32; 4096],
     memo: &mut [u32; 3072],
 ) -> bool
-    requires { (q + attribute_size Bits64 ≤ length prepared.now.file.now) × Sure (NoDoubt doubts.now) known × Trusted Bits64 prepared.now.file.now doubts.now q × Remembers (noted prepared.now.file.now) memo.old }
-    ensures answer { Tells (TextRight Bits64 prepared.now.file.now q) result }
-    ensures memo { Remembers (noted prepared.now.file.now) memo.new }
+    requires { (q + attribute_size Bits64 ≤ length values.now.checked.table.file.now) × Sure (NoDoubt doubts.now) known × Trusted Bits64 values.now.checked.table.file.now doubts.now q × Remembers (noted values.now.checked.table.file.now) memo.old }
+    ensures answer { Tells (TextRight Bits64 values.now.checked.table.file.now q) result }
+    ensures memo { Remembers (noted values.now.checked.table.file.now) memo.new }
 {
     if known {
         return true;
@@ -115,13 +115,14 @@ fn text_passes(
     if doubts[q / 4 % 4096] == 0 {
         return true;
     }
-    text_right(prepared, t, q, memo)
+    text_right(values, t, q, memo)
 }
 
 // Refusals 18 and 19 of the attributes of the node at p, the first of which stands at a; 19 is due only to those that are doubted.
 pub fn check_attributes(
-    prepared: &PreparedFile,
+    values: &ValuesTable,
     t: &HashTables,
+    names: Names,
     p: usize,
     a: usize,
     n: usize,
@@ -129,19 +130,19 @@ pub fn check_attributes(
     doubts: &[u32; 4096],
     memo: &mut [u32; 3072],
 ) -> Result<(), Refusal>
-    requires attributes { (n ≡ attribute_count prepared.now.file.now p) × (a ≡ attribute_at Bits64 prepared.now.file.now p 0)
-        × (a + n * attribute_size Bits64 ≤ length prepared.now.file.now) }
-    requires doubts { Sure (NoDoubt doubts.now) known × ((i : ℕ) → i < n → Trusted Bits64 prepared.now.file.now doubts.now (attribute_at Bits64 prepared.now.file.now p i))
-        × Remembers (noted prepared.now.file.now) memo.old }
-    ensures answer { answer_of result ≡ first_fault (node_attribute_checks Bits64 prepared.now.file.now p) }
-    ensures memo { Remembers (noted prepared.now.file.now) memo.new }
+    requires attributes { Known Bits64 values.now.checked.table.file.now names × (n ≡ attribute_count values.now.checked.table.file.now p) × (a ≡ attribute_at Bits64 values.now.checked.table.file.now p 0)
+        × (a + n * attribute_size Bits64 ≤ length values.now.checked.table.file.now) }
+    requires doubts { Sure (NoDoubt doubts.now) known × ((i : ℕ) → i < n → Trusted Bits64 values.now.checked.table.file.now doubts.now (attribute_at Bits64 values.now.checked.table.file.now p i))
+        × Remembers (noted values.now.checked.table.file.now) memo.old }
+    ensures answer { answer_of result ≡ first_fault (node_attribute_checks Bits64 values.now.checked.table.file.now p) }
+    ensures memo { Remembers (noted values.now.checked.table.file.now) memo.new }
 {
     for i in 0..n {
         let q = a + i * ATTRIBUTE_SIZE;
-        if !attribute_right(prepared.file, prepared.names, p, i, q) {
+        if !attribute_right(values.checked.table.file, names, p, i, q) {
             return Err(Refusal(Rule::Attribute, q));
         }
-        if !text_passes(prepared, t, q, known, doubts, memo) {
+        if !text_passes(values, t, q, known, doubts, memo) {
             return Err(Refusal(Rule::AttributeText, q));
         }
     }

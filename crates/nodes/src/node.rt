@@ -125,7 +125,17 @@ fn check_attribute_range(
     let Some(a) = r else {
         return Err(Refusal(Rule::AttributeRange, x));
     };
-    attribute::check_attributes(prepared, t, x, a, n, known, doubts, memo)
+    attribute::check_attributes(
+        &prepared.values(),
+        t,
+        prepared.names,
+        x,
+        a,
+        n,
+        known,
+        doubts,
+        memo,
+    )
 }
 
 // Refusals 16 to 19 and 23 of node seg:el, which stands at x; 19 is due only to attributes that are doubted.

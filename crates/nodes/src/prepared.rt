@@ -1,13 +1,11 @@
 // What the checks of nodes go by: a file that is laid out, whose values table passed 7 to 13, and whose special names are known.
 ghost use Rattle.std.specs.Prelude.{◌≡◌};
-ghost use Rattle.layout.specs.Layout.{values};
 ghost use Rattle.layout.specs.declared.Edition.TheVariants.{Bits64};
-ghost use Rattle.strings.specs.inner.Lent.{lent_table};
 ghost use Rattle.nodes.specs.inner.Held.{Ready};
 
 use keys::Names;
 use layout::View;
-use strings::checked::CheckedTable;
+use strings::checked::{CheckedTable, ValuesTable};
 use strings::{StringTable, Strings};
 
 #[derive(Clone, Copy)]
@@ -21,19 +19,20 @@ pub struct PreparedFile<'a> {
 
 impl<'a> PreparedFile<'a> {
     // Its values table.
-    pub fn values(&self) -> CheckedTable<'a>
-        ensures { (lent_table result.table ≡ values Bits64 self.now.file.now) × (result.table.file.now ≡ self.now.file.now) }
+    pub fn values(&self) -> ValuesTable<'a>
+        ensures { result.checked.table.file.now ≡ self.now.file.now }
     {
-        CheckedTable {
-            table: StringTable {
-                file: self.file,
-                parts: Strings {
-                    chars: self.view.places.value_chars,
-                    list: self.view.places.value_list,
-                },
-                segments: &self.view.value_segments,
-                buckets: &self.view.value_buckets,
+        let table = StringTable {
+            file: self.file,
+            parts: Strings {
+                chars: self.view.places.value_chars,
+                list: self.view.places.value_list,
             },
+            segments: &self.view.value_segments,
+            buckets: &self.view.value_buckets,
+        };
+        ValuesTable {
+            checked: CheckedTable { table },
         }
     }
 }

@@ -8,18 +8,19 @@ ghost use Rattle.outline.specs.Outlined.{outline_after};
 ghost use Rattle.outline.specs.inner.Answer.{OutlineWritten};
 
 mod blocks;
+pub mod source;
 mod texts;
 mod values;
 
-use accept::file::AcceptedFile;
+use source::Source;
 use tree::{DEEPEST_LEVEL, ranges};
 use verdict::{Refusal, Rule};
 
 // Writes the root's block: its length in bytes, or refusal 26. The first pass, with an empty buffer, tells the length, so nothing is written
 // unless all of it fits.
-pub fn write_outline(accepted: &AcceptedFile, out: &mut [u8]) -> Result<usize, Refusal>
-    ensures answer { OutlineWritten Bits64 accepted.now.file.now (length out.old) result }
-    ensures buffer { out.new ≡ outline_after Bits64 accepted.now.file.now out.old (answer_of result) }
+pub fn write_outline(source: &Source, out: &mut [u8]) -> Result<usize, Refusal>
+    ensures answer { OutlineWritten Bits64 source.now.file.now (length out.old) result }
+    ensures buffer { out.new ≡ outline_after Bits64 source.now.file.now out.old (answer_of result) }
 {
     let root = ranges::root_at(p.nodes);
     let mut none = [0u8; 0];

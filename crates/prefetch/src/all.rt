@@ -20,21 +20,22 @@ use layout::ATTRIBUTE_SIZE;
 use nodes::attribute;
 use nodes::prepared::PreparedFile;
 use region::SEGMENT_HEADER;
+use strings::checked::ValuesTable;
 use verdict::Refusal;
 
 // Doubts the attribute at q, unless 19 holds of it.
 fn doubt(
-    prepared: &PreparedFile,
+    values: &ValuesTable,
     t: &HashTables,
     q: usize,
     doubts: &mut [u32; 4096],
     memo: &mut [u32; 3072],
 )
-    requires { (q + attribute_size Bits64 ≤ length prepared.now.file.now) × (length doubts.old ≡ 4096) × Remembers (noted prepared.now.file.now) memo.old }
-    ensures doubts { Trusted Bits64 prepared.now.file.now doubts.new q × Kept doubts.old doubts.new }
-    ensures memo { Remembers (noted prepared.now.file.now) memo.new }
+    requires { (q + attribute_size Bits64 ≤ length values.now.checked.table.file.now) × (length doubts.old ≡ 4096) × Remembers (noted values.now.checked.table.file.now) memo.old }
+    ensures doubts { Trusted Bits64 values.now.checked.table.file.now doubts.new q × Kept doubts.old doubts.new }
+    ensures memo { Remembers (noted values.now.checked.table.file.now) memo.new }
 {
-    if attribute::text_right(prepared, t, q, memo) {
+    if attribute::text_right(values, t, q, memo) {
         return;
     }
     doubts[q / 4 % 4096] = 1;
@@ -42,26 +43,26 @@ fn doubt(
 
 // Doubts those of the attributes in the first n slots of which 19 does not hold.
 fn doubt_wrong(
-    prepared: &PreparedFile,
+    values: &ValuesTable,
     t: &HashTables,
     slots: &[u32; 64],
     n: usize,
     doubts: &mut [u32; 4096],
     memo: &mut [u32; 3072],
 )
-    requires { (length slots.now ≡ 64) × SlotsIn Bits64 prepared.now.file.now slots.now n × (n ≤ 64) × (length doubts.old ≡ 4096) × Remembers (noted prepared.now.file.now) memo.old }
-    ensures doubts { Examined Bits64 prepared.now.file.now slots.now n doubts.old doubts.new }
-    ensures memo { Remembers (noted prepared.now.file.now) memo.new }
+    requires { (length slots.now ≡ 64) × SlotsIn Bits64 values.now.checked.table.file.now slots.now n × (n ≤ 64) × (length doubts.old ≡ 4096) × Remembers (noted values.now.checked.table.file.now) memo.old }
+    ensures doubts { Examined Bits64 values.now.checked.table.file.now slots.now n doubts.old doubts.new }
+    ensures memo { Remembers (noted values.now.checked.table.file.now) memo.new }
 {
     for j in 0..n {
-        doubt(prepared, t, le::wide(slots[j]), doubts, memo);
+        doubt(values, t, le::wide(slots[j]), doubts, memo);
     }
 }
 
 // Doubts those of the attributes in the first n slots of which 19 does not hold, one by one unless it is known to hold of all. Whether nothing is
 // doubted.
 fn examine_batch(
-    prepared: &PreparedFile,
+    values: &ValuesTable,
     t: &HashTables,
     packed: bool,
     slots: &[u32; 64],
@@ -70,16 +71,16 @@ fn examine_batch(
     doubts: &mut [u32; 4096],
     memo: &mut [u32; 3072],
 ) -> bool
-    requires batch { (length slots.now ≡ 64) × SlotsIn Bits64 prepared.now.file.now slots.now n × (n ≤ 64) × Sure (Packed (values Bits64 prepared.now.file.now)) packed × Remembers (noted prepared.now.file.now) memo.old }
+    requires batch { (length slots.now ≡ 64) × SlotsIn Bits64 values.now.checked.table.file.now slots.now n × (n ≤ 64) × Sure (Packed (values Bits64 values.now.checked.table.file.now)) packed × Remembers (noted values.now.checked.table.file.now) memo.old }
     requires doubts_len { (length doubts.old ≡ 4096) × Sure (NoDoubt doubts.old) known }
     ensures answer { Sure (NoDoubt doubts.new) result }
-    ensures doubts { Examined Bits64 prepared.now.file.now slots.now n doubts.old doubts.new }
-    ensures memo { Remembers (noted prepared.now.file.now) memo.new }
+    ensures doubts { Examined Bits64 values.now.checked.table.file.now slots.now n doubts.old doubts.new }
+    ensures memo { Remembers (noted values.now.checked.table.file.now) memo.new }
 {
-    if steps::batch_right(prepared, t, slots, n, packed, memo) {
+    if steps::batch_right(values, t, slots, n, packed, memo) {
         return known;
     }
-    doubt_wrong(prepared, t, slots, n, doubts, memo);
+    doubt_wrong(values, t, slots, n, doubts, memo);
     false
 }
 
@@ -100,6 +101,7 @@ fn find_doubts(
 {
     let b = prepared.file;
     let attributes = prepared.view.places.attributes;
+    let values = prepared.values();
     let mut slots = [0u32; 64];
     let mut known = true;
     let mut at = region::first_start(attributes);

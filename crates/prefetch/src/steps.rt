@@ -25,11 +25,10 @@ ghost use Rattle.prefetch.specs.inner.Slots.{SlotsIn};
 ghost use Rattle.prefetch.specs.inner.Batch.{SpotFits, Behind, AllSpots, AllFit, AllSeen, AllBehind, AllHashed, AllFound, AllRight};
 
 use hash::HashTables;
-use nodes::prepared::PreparedFile;
 use nodes::{fields, long};
 use region::{Region, SAMPLES};
 use search::{group, run};
-use strings::checked::CheckedTable;
+use strings::checked::{CheckedTable, ValuesTable};
 use strings::{StringTable, ahead, spot};
 
 // Where the texts stand, and how many characters are left there.
@@ -193,18 +192,18 @@ fn find_entries(
 // Whether 19 holds of the attributes in the first n slots. In a packed table the character before a text tells that its address is an
 // entry's; in another the entry is looked for.
 pub fn batch_right(
-    prepared: &PreparedFile,
+    values: &ValuesTable,
     t: &HashTables,
     slots: &[u32; 64],
     n: usize,
     packed: bool,
     memo: &mut [u32; 3072],
 ) -> bool
-    requires { (length slots.now ≡ 64) × SlotsIn Bits64 prepared.now.file.now slots.now n × (n ≤ 64) × Sure (Packed (values Bits64 prepared.now.file.now)) packed × Remembers (noted prepared.now.file.now) memo.old }
-    ensures answer { Sure (AllRight Bits64 prepared.now.file.now slots.now n) result }
-    ensures memo { Remembers (noted prepared.now.file.now) memo.new }
+    requires { (length slots.now ≡ 64) × SlotsIn Bits64 values.now.checked.table.file.now slots.now n × (n ≤ 64) × Sure (Packed (values Bits64 values.now.checked.table.file.now)) packed × Remembers (noted values.now.checked.table.file.now) memo.old }
+    ensures answer { Sure (AllRight Bits64 values.now.checked.table.file.now slots.now n) result }
+    ensures memo { Remembers (noted values.now.checked.table.file.now) memo.new }
 {
-    let table = &prepared.values().table;
+    let table = &values.checked.table;
     let mut at = [0u32; 64];
     let mut left = [0u32; 64];
     if !find_spots(

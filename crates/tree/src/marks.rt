@@ -3,7 +3,9 @@ ghost use Rattle.std.specs.Prelude.{◌≡◌, ◌+◌, ◌≤◌, ◌<◌, leng
 ghost use Rattle.verdict.specs.Checks.{first_fault};
 ghost use Rattle.verdict.specs.Verdict.{answer_of};
 ghost use Rattle.verdict.specs.inner.Tells.{Tells};
+ghost use Rattle.region.specs.inner.Samples.{Counts};
 ghost use Rattle.layout.specs.Edition.{node_size};
+ghost use Rattle.layout.specs.Layout.{nodes_at};
 ghost use Rattle.layout.specs.declared.Edition.TheVariants.{Bits64};
 ghost use Rattle.tree.specs.File.{used_node_count};
 ghost use Rattle.tree.specs.Order.{all_range_checks};
@@ -13,7 +15,7 @@ ghost use Rattle.tree.specs.inner.Marking.{Free, Reached, MarkedOne};
 use crate::Nodes;
 use layout::NODE_SIZE;
 use nodes::fields;
-use region::SEGMENT_HEADER;
+use region::{SAMPLES, SEGMENT_HEADER};
 use verdict::{Refusal, Rule};
 
 // Whether none of the n nodes from number i on is the root or is marked.
@@ -25,8 +27,9 @@ fn range_free(ws: &[u8], i: usize, n: usize) -> bool
 }
 
 // Marks the child range of the node at p, or tells that it is not free and marks nothing.
-fn mark_node(nodes: &Nodes, p: usize, ws: &mut [u8]) -> bool
-    requires within { (p + node_size Bits64 ≤ length nodes.now.file.now) × (used_node_count Bits64 nodes.now.file.now ≤ length ws.old) }
+fn mark_node(nodes: &Nodes, counts: &[u32; SAMPLES], p: usize, ws: &mut [u8]) -> bool
+    requires within { Counts (node_size Bits64) nodes.now.file.now (nodes_at Bits64 nodes.now.file.now) nodes.now.region.shift counts.now
+        × (p + node_size Bits64 ≤ length nodes.now.file.now) × (used_node_count Bits64 nodes.now.file.now ≤ length ws.old) }
     requires reached { Reached Bits64 nodes.now.file.now p }
     ensures { MarkedOne Bits64 nodes.now.file.now p ws.old result ws.new }
 {
@@ -42,7 +45,7 @@ fn mark_node(nodes: &Nodes, p: usize, ws: &mut [u8]) -> bool
         nodes.region,
         NODE_SIZE,
         nodes.segments,
-        nodes.counts,
+        counts,
         fields::child_segment(nodes.file, p),
         fields::child_element(nodes.file, p),
     );
@@ -54,8 +57,14 @@ fn mark_node(nodes: &Nodes, p: usize, ws: &mut [u8]) -> bool
 }
 
 // Refusal 21 of every used node in file order; the first U bytes are 0 before.
-pub fn mark_nodes(nodes: &Nodes, used: usize, ws: &mut [u8]) -> Result<(), Refusal>
-    requires { (used ≡ used_node_count Bits64 nodes.now.file.now) × (used_node_count Bits64 nodes.now.file.now ≤ length ws.old) }
+pub fn mark_nodes(
+    nodes: &Nodes,
+    counts: &[u32; SAMPLES],
+    used: usize,
+    ws: &mut [u8],
+) -> Result<(), Refusal>
+    requires { Counts (node_size Bits64) nodes.now.file.now (nodes_at Bits64 nodes.now.file.now) nodes.now.region.shift counts.now
+        × (used ≡ used_node_count Bits64 nodes.now.file.now) × (used_node_count Bits64 nodes.now.file.now ≤ length ws.old) }
     ensures answer { answer_of result ≡ first_fault (all_range_checks Bits64 nodes.now.file.now) }
     ensures workspace { ws.new ≡ workspace_after Bits64 nodes.now.file.now ws.old (first_fault (all_range_checks Bits64 nodes.now.file.now)) }
 {
@@ -66,7 +75,7 @@ pub fn mark_nodes(nodes: &Nodes, used: usize, ws: &mut [u8]) -> Result<(), Refus
         let first = at + SEGMENT_HEADER;
         for el in 0..region::used_count(nodes.file, at) {
             let p = first + el * NODE_SIZE;
-            if !mark_node(nodes, p, ws) {
+            if !mark_node(nodes, counts, p, ws) {
                 ws[..used].fill(0);
                 answer = Err(Refusal(Rule::ChildRange, p));
                 break 'segments;

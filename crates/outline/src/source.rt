@@ -1,0 +1,26 @@
+// What the outline is written from: an accepted file, and the places and samples of its view.
+ghost use Rattle.std.specs.Prelude.{◌≡◌};
+ghost use Rattle.verdict.specs.Verdict.{Accepted};
+ghost use Rattle.region.specs.inner.Samples.{Starts};
+ghost use Rattle.layout.specs.Edition.{attribute_size, node_size};
+ghost use Rattle.layout.specs.Layout.{attributes_at, nodes_at};
+ghost use Rattle.layout.specs.inner.View.{PlacesFit};
+ghost use Rattle.layout.specs.declared.Edition.TheVariants.{Bits64};
+ghost use Rattle.tree.specs.File.{used_node_count};
+ghost use Rattle.accept.specs.Verdict.{verdict_of};
+ghost use Rattle.outline.specs.inner.Ready.{ValueStarts, NameStarts};
+
+use layout::View;
+
+// With room for each used node its verdict is acceptance: every rule but 20, which is about the workspace, holds of it.
+#[derive(Clone, Copy)]
+pub struct Source<'a> {
+    pub file: &'a [u8],
+    pub view: &'a View,
+    pub ghost accepted: { verdict_of Bits64 file.now (used_node_count Bits64 file.now) ≡ Accepted },
+    pub ghost placed: { PlacesFit Bits64 file.now view.now.places },
+    pub ghost attributes: { Starts (attribute_size Bits64) file.now (attributes_at file.now) view.now.places.attributes.shift view.now.attribute_segments },
+    pub ghost nodes: { Starts (node_size Bits64) file.now (nodes_at Bits64 file.now) view.now.places.nodes.shift view.now.node_segments },
+    pub ghost values: { ValueStarts Bits64 file.now view.now.places view.now.value_segments },
+    pub ghost names: { NameStarts Bits64 file.now view.now.places view.now.name_segments },
+}
