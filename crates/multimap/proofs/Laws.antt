@@ -9,6 +9,7 @@ use lib.ListN.{length, get_or, set, replicate, length-set, length-replicate}
 use lib.Seq.{get_or-set_same, get_or-set_other}
 use Rattle.laws.proofs.Order.{le_or_lt}
 use Rattle.laws.proofs.Zeros.{zeros}
+use Rattle.std.specs.Prelude.{None, Some}
 use Rattle.multimap.specs.inner.Multimap.{number_at, OnSlot, Filled, LastWith, PutBehind}
 
 at_same : (map : List ℕ) (i j : ℕ) → i ≡ j → get_or map i 0 ≡ get_or map j 0
@@ -26,25 +27,27 @@ module _ (map : List ℕ) (m x : ℕ) where
   pub sought_start : (c : ℕ) → OnSlot map (x % 4096) m c → Sought map m x c
   sought_start c w = record { within = w.within; after = λ i l h e. w.after i l h (ap (λ (y : ℕ). y % 4096) e); slot = w.slot }
 
-  pub sought_none : (at : ℕ) → Sought map m x at → at ≤ 0 → LastWith map m x 0
-  sought_none at w z = record { within = omega arith; after = λ i l h. w.after i (omega arith) h; number = λ i e. absurd (omega arith) }
+  pub sought_none : (at : ℕ) → Sought map m x at → at ≤ 0 → LastWith map m x None
+  sought_none at w z = record { some = λ i q. let v : ⊥ = cc in absurd v; none = λ q i h. w.after i (omega arith) h }
 
-  pub sought_here : (at : ℕ) → Sought map m x at → get_or map (4095 + at) 0 ≡ x → LastWith map m x at
+  pub sought_here : (at : ℕ) → Sought map m x at → 0 < at → get_or map (4096 + (at - 1)) 0 ≡ x → LastWith map m x (Some (at - 1))
   unfolding number_at
-  sought_here at w e = record { within = w.within; after = w.after; number = λ i q. at_same map (4096 + i) (4095 + at) (omega arith) ∙ e }
+  sought_here at w l e = record {
+    some = λ i q.
+        let d : i ≡ at - 1 = cc in
+        rw d (record { within = omega (arith, w.within); number = e; after = λ k g h. w.after k (omega arith) h });
+    none = λ q. let v : ⊥ = cc in absurd v;
+  }
 
   -- the place before it on the slot
   module _ {n : ℕ} (f : Filled n map) (k : m ≤ n) (at : ℕ) (w : Sought map m x at) (l : 0 < at) where
     linked : OnSlot map (number_at map (at - 1) % 4096) (at - 1) (get_or map (12288 + (at - 1)) 0)
     linked = f.link (at - 1) (omega (arith, w.within))
 
-    same-link : (c : ℕ) → c ≡ get_or map (12287 + at) 0 → c ≡ get_or map (12288 + (at - 1)) 0
-    same-link c e = e ∙ at_same map (12287 + at) (12288 + (at - 1)) (omega arith)
+    pub linked_less : (c : ℕ) → c ≡ get_or map (12288 + (at - 1)) 0 → c < at
+    linked_less c e = omega (arith, linked.within)
 
-    pub linked_less : (c : ℕ) → c ≡ get_or map (12287 + at) 0 → c < at
-    linked_less c e = omega (arith, linked.within, same-link c e)
-
-    pub sought_next : (c : ℕ) → c ≡ get_or map (12287 + at) 0 → (get_or map (4095 + at) 0 ≡ x → ⊥) → Sought map m x c
+    pub sought_next : (c : ℕ) → c ≡ get_or map (12288 + (at - 1)) 0 → (get_or map (4096 + (at - 1)) 0 ≡ x → ⊥) → Sought map m x c
     unfolding number_at
     sought_next c e d =
         let s : number_at map (at - 1) % 4096 ≡ x % 4096 = w.slot (at - 1) (omega arith) in
@@ -54,11 +57,11 @@ module _ (map : List ℕ) (m x : ℕ) where
               ⊎_elim
               (λ a. w.after i a h v)
               (λ a. ⊎_elim
-              (λ u. d (at_same map (4095 + at) (4096 + i) (omega arith) ∙ v))
-              (λ u. linked.after i (omega (arith, same-link c e)) (omega arith) (ap (λ (y : ℕ). y % 4096) v ∙ sym s))
+              (λ u. d (at_same map (4096 + (at - 1)) (4096 + i) (omega arith) ∙ v))
+              (λ u. linked.after i (omega arith) (omega arith) (ap (λ (y : ℕ). y % 4096) v ∙ sym s))
               (le_or_lt at (i + 1)))
               (le_or_lt at i);
-          slot = λ i g. linked.slot i (g ∙ same-link c e) ∙ s;
+          slot = λ i g. linked.slot i (g ∙ e) ∙ s;
         }
 
 -- where a search starts: at the last place on the slot, or at the one before place i, which has x

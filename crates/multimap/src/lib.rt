@@ -6,23 +6,24 @@
 ghost use Rattle.std.specs.Prelude.{◌≡◌, ◌+◌, ◌%◌, ◌≤◌, ◌<◌, ◌^◌};
 ghost use Rattle.multimap.specs.inner.Multimap.{number_at, Filled, OnSlot, LastWith, PutBehind};
 
-// Of the first m places the last one with number x, plus 1, or 0 if there is none; c is the last one on its slot.
-fn seek(map: &[u16; 20480], n: usize, m: usize, c: usize, x: usize) -> usize
+// Of the first m places the last one with number x. The last one on its slot is kept as c.
+fn seek(map: &[u16; 20480], n: usize, m: usize, c: usize, x: usize) -> Option<usize>
     requires { Filled n map.now × (m ≤ n) × OnSlot map.now (x % 4096) m c }
     ensures { LastWith map.now m x result }
 {
     let mut at = c;
     while at > 0 {
-        if usize::from(map[4095 + at]) == x {
-            return at;
+        let i = at - 1;
+        if usize::from(map[4096 + i]) == x {
+            return Some(i);
         }
-        at = usize::from(map[12287 + at]);
+        at = usize::from(map[12288 + i]);
     }
-    0
+    None
 }
 
-// Of the n places the last one with number x, plus 1, or 0 if there is none.
-pub fn last(map: &[u16; 20480], n: usize, x: usize) -> usize
+// Of the n places the last one with number x.
+pub fn last(map: &[u16; 20480], n: usize, x: usize) -> Option<usize>
     requires { Filled n map.now }
     ensures { LastWith map.now n x result }
 {
@@ -30,7 +31,7 @@ pub fn last(map: &[u16; 20480], n: usize, x: usize) -> usize
 }
 
 // The same of the places before place i, which has number x.
-pub fn before(map: &[u16; 20480], n: usize, i: usize, x: usize) -> usize
+pub fn before(map: &[u16; 20480], n: usize, i: usize, x: usize) -> Option<usize>
     requires { Filled n map.now × (i < n) × (number_at map.now i ≡ x) }
     ensures { LastWith map.now i x result }
 {

@@ -8,6 +8,8 @@ ghost use Rattle.text.specs.Text.{text_in};
 ghost use Rattle.memo.specs.inner.Memo.{Remembers};
 ghost use Rattle.nodes.specs.inner.Noted.{noted};
 
+use std::ops::ControlFlow;
+
 use hash::HashTables;
 
 // Whether a text with n characters left is worth remembering: at most 65,535 characters are left anywhere.
@@ -32,14 +34,14 @@ pub fn remembered_hash(
     if !worth(n) {
         return text::value_hash(b, t, x, n, 0);
     }
-    let first = text::value_run(b, t, x, 64, 0);
-    if first < 16384 {
-        return first;
-    }
+    let first = match text::value_run(b, t, x, 64, 0) {
+        ControlFlow::Break(value) => return value,
+        ControlFlow::Continue(g) => g,
+    };
     if let Some(known) = memo::recall(memo, x, n) {
         return known;
     }
-    let r = text::value_hash(b, t, x + 128, n - 64, first - 16384);
+    let r = text::value_hash(b, t, x + 128, n - 64, first);
     memo::remember(memo, x, n, r);
     r
 }

@@ -1,9 +1,11 @@
 -- What the loops that hash hold: h is the hash, on from s, of the i characters passed. Assumes nothing.
-use Prim.Native.Nat.{ℕ, suc, ◌+◌, ◌-◌, ◌*◌, ◌%◌, ◌^◌, ◌≤◌, ◌<◌}
+use Prim.Native.Nat.{ℕ, suc, ◌+◌, ◌-◌, ◌*◌, ◌^◌, ◌≤◌, ◌<◌}
 use native.Mathlib.Omega.{arith}
 use mathlib.Core.Path.{◌≡◌, ap, sym, ◌∙◌}
 use mathlib.Core.List.{List, [], ◌∷◌}
 use lib.ListN.{length}
+use Rattle.std.specs.declared.ops.ControlFlow.{ControlFlow}
+use Rattle.std.specs.declared.ops.ControlFlow.TheVariants.{Continue, Break}
 use Rattle.hash.specs.Hash.{hash_char, hash_on}
 use Rattle.hash.specs.Fold.{folded, fold_text, value_hash_of}
 use Rattle.text.specs.declared.Extent.{Extent}
@@ -78,19 +80,18 @@ module _ (b : List ℕ) (p n s : ℕ) where
   value_end i h k t = let m : length (text_from b p n i) ≡ 0 = ap length t in (sym (k.hashed ∙ hash_end _ _ (fold_end _ t)), omega (arith, k.long))
 
   -- no text is left, before the end of the characters or there
-  pub value-met : (i h r : ℕ) → PassedFolded b p n s i h → text_from b p n i ≡ [] → i < n → r ≡ value_hash_of h → ValueRun b p n s r
-  unfolding value_hash_of
+  pub value-met : (i h r : ℕ) → PassedFolded b p n s i h → text_from b p n i ≡ [] → i < n → r ≡ value_hash_of h → ValueRun b p n s (Break r)
   value-met i h r k t l e = let w = value_end i h k t in record {
-    met = λ g. (e ∙ ap (λ (x : ℕ). x % 16384) w.0, omega (arith, w.1));
-    passed = λ g. absurd (omega arith);
-    small = omega arith;
+    met = λ v q. let d : v ≡ r = cc in (d ∙ e ∙ ap value_hash_of w.0, omega (arith, w.1));
+    passed = λ g q. let z : ⊥ = cc in absurd z;
+    small = λ g q. let z : ⊥ = cc in absurd z;
   }
 
-  pub value-passed : (i h r : ℕ) → PassedFolded b p n s i h → n ≤ i → r ≡ 16384 + h → ValueRun b p n s r
-  value-passed i h r k l e = let w = value_end i h k (text_over b p n i l) in record {
-    met = λ g. absurd (omega arith);
-    passed = λ g. (e ∙ ap (λ (x : ℕ). 16384 + x) w.0, omega (arith, w.1, k.inside));
-    small = omega (arith, k.small);
+  pub value-passed : (i h : ℕ) → PassedFolded b p n s i h → n ≤ i → ValueRun b p n s (Continue h)
+  value-passed i h k l = let w = value_end i h k (text_over b p n i l) in record {
+    met = λ v q. let z : ⊥ = cc in absurd z;
+    passed = λ g q. let d : g ≡ h = cc in (d ∙ w.0, omega (arith, w.1, k.inside));
+    small = λ g q. let d : g ≡ h = cc in omega (arith, k.small);
   }
 
   -- what is left is measured from there on
@@ -104,22 +105,13 @@ module _ (b : List ℕ) (p n s : ℕ) where
         hashed = e.1 ∙ m.hashed ∙ ap (hash_on h) (text-rest b p n i) ∙ sym k.hashed;
       }
 
-  pub value-rest : (i h r : ℕ) → PassedFolded b p n s i h → ValueRun b (p + 2 * i) (n - i) h r → ValueRun b p n s r
+  pub value-rest : (i h : ℕ) (r : ControlFlow ℕ ℕ) → PassedFolded b p n s i h → ValueRun b (p + 2 * i) (n - i) h r → ValueRun b p n s r
   value-rest i h r k v =
       let x : length (text_in b (p + 2 * i) (n - i)) ≡ length (text_from b p n i) = ap length (text-rest b p n i) in
       let y : hash_on h (fold_text (text_in b (p + 2 * i) (n - i))) ≡ hash_on s (fold_text (text_in b p n)) = ap (λ (t : List ℕ). hash_on h (fold_text t)) (text-rest b p n i) ∙ sym k.hashed in
       let u = k.inside in
       record {
-        met = λ g. let w = v.met g in (w.0 ∙ ap value_hash_of y, omega (arith, w.1, k.long));
-        passed = λ g. let w = v.passed g in (w.0 ∙ ap (λ (z : ℕ). 16384 + z) y, omega (arith, w.1, k.long));
+        met = λ e q. let w = v.met e q in (w.0 ∙ ap value_hash_of y, omega (arith, w.1, k.long));
+        passed = λ g q. let w = v.passed g q in (w.0 ∙ y, omega (arith, w.1, k.long));
         small = v.small;
       }
-
--- the value hash of a whole text
-pub value-whole : (b : List ℕ) (p n s r : ℕ) → ValueRun b p n s r → r < 16384 → r ≡ value_hash_of (hash_on s (fold_text (text_in b p n)))
-value-whole b p n s r v l = (v.met l).0
-
-pub value_ended : (b : List ℕ) (p n s r h : ℕ) → ValueRun b p n s r → 16384 ≤ r → h ≡ value_hash_of (r - 16384) → h ≡ value_hash_of (hash_on s (fold_text (text_in b p n)))
-value_ended b p n s r h v l e =
-    let z : r - 16384 ≡ hash_on s (fold_text (text_in b p n)) = omega (arith, (v.passed l).0) in
-    e ∙ ap value_hash_of z

@@ -1,12 +1,14 @@
 -- A text in two parts: that in the first m characters, and what goes on behind them. Assumes nothing.
-use Prim.Native.Nat.{ℕ, zero, suc, ◌+◌, ◌-◌, ◌*◌, ◌^◌, ◌≤◌, ◌<◌}
+use Prim.Native.Nat.{ℕ, zero, suc, ◌+◌, ◌-◌, ◌*◌, ◌≤◌, ◌<◌}
 use native.Mathlib.Decide.{ℕ_discrete}
 use native.Mathlib.Omega.{arith}
 use mathlib.Core.Path.{◌≡◌, refl, ap, sym, ◌∙◌}
 use mathlib.Core.List.{List, [], ◌∷◌, ◌++◌}
 use lib.ListN.{length}
+use Rattle.std.specs.declared.ops.ControlFlow.{ControlFlow}
+use Rattle.std.specs.declared.ops.ControlFlow.TheVariants.{Continue, Break}
 use Rattle.le.specs.Le.{u16_at}
-use Rattle.hash.specs.Hash.{hash_on, hash_text}
+use Rattle.hash.specs.Hash.{hash_on}
 use Rattle.hash.specs.Fold.{fold_text, value_hash_of, value_hash}
 use Rattle.hash.proofs.Parts.{hash_laws}
 use Rattle.text.specs.Text.{chars, text_in}
@@ -55,17 +57,13 @@ goes_on b p (suc m) (suc n) l h = go (λ g. goes_on b (p + 2) m n (omega arith) 
         ∙ ap (λ (q : ℕ). text_in b p (suc m) ++ text_in b q (n - m)) d ∙ ap (λ (k : ℕ). text_in b p (suc m) ++ text_in b (p + 2 * suc m) k) f
 
 -- the value hash, in the same two ways
-module _ (b : List ℕ) (p m n r : ℕ) (l : m ≤ n) (v : ValueRun b p m 0 r) where
-  pub value-first : r < 16384 → r ≡ value_hash (text_in b p n)
-  value-first h = let w = v.met h in w.0 ∙ ap value_hash (sym (ends-first b p m n l w.1))
+module _ (b : List ℕ) (p m n : ℕ) {r : ControlFlow ℕ ℕ} (l : m ≤ n) (v : ValueRun b p m 0 r) where
+  pub value-first : (a : ℕ) → r ≡ Break a → a ≡ value_hash (text_in b p n)
+  value-first a q = let w = v.met a q in w.0 ∙ ap value_hash (sym (ends-first b p m n l w.1))
 
-  pub value-second : (c : ℕ) → 16384 ≤ r → c ≡ value_hash_of (hash_on (r - 16384) (fold_text (text_in b (p + 2 * m) (n - m)))) → c ≡ value_hash (text_in b p n)
-  value-second c h e =
-      let w = v.passed h in
-      let z : r - 16384 ≡ hash_text (fold_text (text_in b p m)) = omega (arith, w.0) in
-      e ∙ ap (λ (x : ℕ). value_hash_of (hash_on x (fold_text (text_in b (p + 2 * m) (n - m))))) z
+  pub value-second : (g c : ℕ) → r ≡ Continue g → c ≡ value_hash_of (hash_on g (fold_text (text_in b (p + 2 * m) (n - m)))) → c ≡ value_hash (text_in b p n)
+  value-second g c q e =
+      let w = v.passed g q in
+      e ∙ ap (λ (x : ℕ). value_hash_of (hash_on x (fold_text (text_in b (p + 2 * m) (n - m))))) w.0
       ∙ sym (hash_laws.value_in_parts (text_in b p m) (text_in b (p + 2 * m) (n - m)))
       ∙ ap value_hash (sym (goes_on b p m n l w.1))
-
-  pub run_small : 16384 ≤ r → r - 16384 < 2 ^ 32
-  run_small h = omega (arith, v.small)

@@ -5,6 +5,7 @@ use mathlib.Core.Path.{◌≡◌, refl, ap, sym, ◌∙◌}
 use mathlib.Core.List.{List, [], ◌∷◌}
 use lib.Bits.{bit_and, and_mask}
 use lib.ListN.{get_or}
+use Rattle.std.specs.declared.ops.ControlFlow.TheVariants.{Break}
 use Rattle.le.specs.Le.{u16_at, u32_at}
 use Rattle.hash.specs.Hash.{hash_char, hash_on}
 use Rattle.hash.specs.Fold.{folded, value_hash_of}
@@ -62,7 +63,7 @@ module _ {b : List ℕ} {p n i c w : ℕ} (q : Two b p n i c w) where
   pub measured_none : {s h : ℕ} {r : Extent} → Passed b p n s i h → c ≡ 0 → (r.length ≡ i) × (r.hash ≡ h) → MeasuredOn b p n s r
   measured_none k z e = measured b p n _ i _ _ k (two_shut z) e
 
-  pub value_none : {s h r : ℕ} → PassedFolded b p n s i h → c ≡ 0 → r ≡ value_hash_of h → ValueRun b p n s r
+  pub value_none : {s h r : ℕ} → PassedFolded b p n s i h → c ≡ 0 → r ≡ value_hash_of h → ValueRun b p n s (Break r)
   value_none k z e = value-met b p n _ i _ _ k (two_shut z) (omega (arith, q.left)) e
 
   -- or at the second
@@ -75,7 +76,7 @@ module _ {b : List ℕ} {p n i c w : ℕ} (q : Two b p n i c w) where
       (two-last z) f
 
   pub value-one : {s h x g r : ℕ} → PassedFolded b p n s i h → (c ≡ 0 → ⊥) → w < 65536 → FoldedPair w x → (g ≡ hash_char h x) × (g < 2 ^ 32)
-      → r ≡ value_hash_of g → ValueRun b p n s r
+      → r ≡ value_hash_of g → ValueRun b p n s (Break r)
   value-one k y z f e d =
       let m : w ≡ w % 65536 = omega arith in
       value-met b p n _ (i + 1) _ _

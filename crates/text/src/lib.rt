@@ -9,6 +9,8 @@ ghost use Rattle.text.specs.Text.{chars, text_in, HoldsZero};
 ghost use Rattle.text.specs.inner.Zeros.{zeros_in};
 ghost use Rattle.text.specs.inner.Measure.{MeasuredOn, Measured, ValueRun, CharOrEnd};
 
+use std::ops::ControlFlow;
+
 use hash::HashTables;
 
 pub mod fingerprint;
@@ -73,10 +75,15 @@ fn measure_few(b: &[u8], t: &HashTables, p: usize, n: usize, h: usize) -> Extent
     measured(n, g)
 }
 
-// The value hash, on from h, of the text at offset p, if a 0 ends it within n characters; otherwise 16,384 more than the hash of the n folded
-// characters, with which the text goes on. It is one number since it is asked for at every attribute. Four characters in a step, while four
-// are left.
-pub fn value_run(b: &[u8], t: &HashTables, p: usize, n: usize, h: usize) -> usize
+// The value hash, on from h, of the text at offset p, if a 0 ends it within n characters; otherwise the hash of the n folded characters, with
+// which the text goes on. Four characters in a step, while four are left.
+pub fn value_run(
+    b: &[u8],
+    t: &HashTables,
+    p: usize,
+    n: usize,
+    h: usize,
+) -> ControlFlow<usize, usize>
     requires { (p + 2 * n ≤ length b.now) × (h < 2 ^ 32) }
     ensures { ValueRun b.now p n h result }
 {
@@ -87,16 +94,16 @@ pub fn value_run(b: &[u8], t: &HashTables, p: usize, n: usize, h: usize) -> usiz
         let w = le::u32_at(b, p + 2 * (i + 2));
         let f = hash::fold_quad(v, w);
         if v & 65535 == 0 {
-            return hash::low_14(g);
+            return ControlFlow::Break(hash::low_14(g));
         }
         if v < 65536 {
-            return hash::low_14(t.char_on(g, f.first));
+            return ControlFlow::Break(hash::low_14(t.char_on(g, f.first)));
         }
         if w & 65535 == 0 {
-            return hash::low_14(t.pair_on(g, f.first));
+            return ControlFlow::Break(hash::low_14(t.pair_on(g, f.first)));
         }
         if w < 65536 {
-            return hash::low_14(t.char_on(t.pair_on(g, f.first), f.second));
+            return ControlFlow::Break(hash::low_14(t.char_on(t.pair_on(g, f.first), f.second)));
         }
         g = t.quad_on(g, f.first, f.second);
     }
@@ -105,7 +112,13 @@ pub fn value_run(b: &[u8], t: &HashTables, p: usize, n: usize, h: usize) -> usiz
 }
 
 // The same by single characters.
-fn value_run_few(b: &[u8], t: &HashTables, p: usize, n: usize, h: usize) -> usize
+fn value_run_few(
+    b: &[u8],
+    t: &HashTables,
+    p: usize,
+    n: usize,
+    h: usize,
+) -> ControlFlow<usize, usize>
     requires { (p + 2 * n ≤ length b.now) × (h < 2 ^ 32) }
     ensures { ValueRun b.now p n h result }
 {
@@ -113,11 +126,11 @@ fn value_run_few(b: &[u8], t: &HashTables, p: usize, n: usize, h: usize) -> usiz
     for i in 0..n {
         let c = le::u16_at(b, p + 2 * i);
         if c == 0 {
-            return hash::low_14(g);
+            return ControlFlow::Break(hash::low_14(g));
         }
         g = t.char_on(g, hash::fold(c));
     }
-    16384 + g
+    ControlFlow::Continue(g)
 }
 
 // The value hash, on from h, of the text at offset p, of at most n characters.
@@ -125,11 +138,9 @@ pub fn value_hash(b: &[u8], t: &HashTables, p: usize, n: usize, h: usize) -> usi
     requires { (p + 2 * n ≤ length b.now) × (h < 2 ^ 32) }
     ensures { result ≡ value_hash_of (hash_on h (fold_text (text_in b.now p n))) }
 {
-    let r = value_run(b, t, p, n, h);
-    if r < 16384 {
-        r
-    } else {
-        hash::low_14(r - 16384)
+    match value_run(b, t, p, n, h) {
+        ControlFlow::Break(value) => value,
+        ControlFlow::Continue(g) => hash::low_14(g),
     }
 }
 

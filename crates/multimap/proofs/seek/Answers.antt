@@ -6,20 +6,20 @@ use Rattle.multimap.proofs.seek.Goals as goal
 pub loop-at-init : goal.loop-at-init
 loop-at-init c = sought_start _ _ _ _ c.requires.2
 
-pub offset_bounds-map-at : goal.offset_bounds-map-at
-offset_bounds-map-at c = record { fits = omega (arith, c.loop-at.invariant.within, c.requires.1, c.requires.0.few) }
+pub offset_bounds-map-i : goal.offset_bounds-map-i
+offset_bounds-map-i c = record { fits = omega (arith, c.loop-at.invariant.within, c.requires.1, c.requires.0.few) }
 
-pub bounds-map-at : goal.bounds-map-at
-bounds-map-at c = omega (arith, c.loop-at.invariant.within, c.requires.1, c.requires.0.few)
+pub bounds-map-i : goal.bounds-map-i
+bounds-map-i c = omega (arith, c.loop-at.invariant.within, c.requires.1, c.requires.0.few)
 
 pub returns-then-from-x : goal.returns-then-from-x
-returns-then-from-x c = sought_here _ _ _ _ c.loop-at.invariant (sym c.from.ensures ∙ c.if-from-x.true)
+returns-then-from-x c = sought_here _ _ _ _ c.loop-at.invariant c.loop-at-test.true (sym c.from.ensures ∙ c.if-from-x.true)
 
-pub offset_bounds-map-at-in-loop-at : goal.offset_bounds-map-at-in-loop-at
-offset_bounds-map-at-in-loop-at c = record { fits = omega (arith, c.loop-at.invariant.within, c.requires.1, c.requires.0.few) }
+pub offset_bounds-map-i-in-loop-at : goal.offset_bounds-map-i-in-loop-at
+offset_bounds-map-i-in-loop-at c = record { fits = omega (arith, c.loop-at.invariant.within, c.requires.1, c.requires.0.few) }
 
-pub bounds-map-at-in-loop-at : goal.bounds-map-at-in-loop-at
-bounds-map-at-in-loop-at c = omega (arith, c.loop-at.invariant.within, c.requires.1, c.requires.0.few)
+pub bounds-map-i-in-loop-at : goal.bounds-map-i-in-loop-at
+bounds-map-i-in-loop-at c = omega (arith, c.loop-at.invariant.within, c.requires.1, c.requires.0.few)
 
 pub loop-at-smaller : goal.loop-at-smaller
 loop-at-smaller c = let p = c.requires in

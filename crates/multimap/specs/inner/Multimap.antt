@@ -1,6 +1,7 @@
 -- What an array of three parts keeps of up to 8,192 places: for each of 4,096 slots the last place on it, the number of each place, and the place before
 -- it on the same slot. Place i is kept as i + 1, and 0 stands for none.
-use Rattle.std.specs.Prelude.{ℕ, ◌+◌, ◌%◌, ◌≤◌, ◌<◌, ◌≡◌, List, length, get_or}
+use Rattle.std.specs.Prelude.{ℕ, ◌+◌, ◌%◌, ◌≤◌, ◌<◌, ◌≡◌, List, length, get_or, Option}
+use Rattle.std.specs.Option.{ForSome, ForNone}
 
 -- The number of place i.
 unfoldable pub number_at : List ℕ → ℕ → ℕ
@@ -19,11 +20,16 @@ pub record Filled (n : ℕ) (map : List ℕ) : Type 0 where
   pub head : (s : ℕ) → s < 4096 → OnSlot map s n (get_or map s 0)
   pub link : (i : ℕ) → i < n → OnSlot map (number_at map i % 4096) i (get_or map (12288 + i) 0)
 
--- r is the last of the first n places that has number x.
-pub record LastWith (map : List ℕ) (n x r : ℕ) : Type 0 where
-  pub within : r ≤ n
-  pub after : (i : ℕ) → r ≤ i → i < n → number_at map i ≡ x → ⊥
-  pub number : (i : ℕ) → i + 1 ≡ r → number_at map i ≡ x
+-- Place i is the last of the first n places that has number x.
+pub record LastPlace (map : List ℕ) (n x i : ℕ) : Type 0 where
+  pub within : i < n
+  pub number : number_at map i ≡ x
+  pub after : (k : ℕ) → i < k → k < n → number_at map k ≡ x → ⊥
+
+-- r is that place, or None if none of them has it.
+pub record LastWith (map : List ℕ) (n x : ℕ) (r : Option ℕ) : Type 0 where
+  pub some : ForSome r (LastPlace map n x)
+  pub none : ForNone r ((i : ℕ) → i < n → number_at map i ≡ x → ⊥)
 
 -- Place n is filled with x, and those before it are as they were.
 pub record PutBehind (before : List ℕ) (n x : ℕ) (after : List ℕ) : Type 0 where

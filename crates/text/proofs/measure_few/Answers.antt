@@ -5,7 +5,7 @@ use native.Mathlib.Omega.{arith}
 use Rattle.text.proofs.measure_few.Goals as goal
 
 pub loop-i-init : goal.loop-i-init
-loop-i-init c = passed_start _ _ _ _ c.requires.2
+loop-i-init c = passed_start _ _ _ _ c.requires.1
 
 pub returns-then-c-eq0 : goal.returns-then-c-eq0
 returns-then-c-eq0 c = measured _ _ _ _ _ _ _ c.loop-i.invariant (text_shut _ _ _ _ _ c.loop-i-test.true c.u16_at-c.ensures.0 c.if-c-eq0.true) c.measured.ensures

@@ -1,8 +1,9 @@
-use Rattle.text.proofs.Passed.{value-whole, value_ended}
+use mathlib.Core.Path.{ap, ◌∙◌}
+use Rattle.hash.specs.Fold.{value_hash_of}
 use Rattle.text.proofs.value_hash.Goals as goal
 
-pub returns-then-r-lt16384 : goal.returns-then-r-lt16384
-returns-then-r-lt16384 c = value-whole _ _ _ _ _ c.value_run-r.ensures c.if-r-lt16384.true
+pub returns-in-Break : goal.returns-in-Break
+returns-in-Break c = (c.value_run.ensures.met _ c.in-Break.is).0
 
-pub returns-else-r-lt16384 : goal.returns-else-r-lt16384
-returns-else-r-lt16384 c = value_ended _ _ _ _ _ _ c.value_run-r.ensures c.if-r-lt16384.false c.low_14.ensures
+pub returns-in-Continue : goal.returns-in-Continue
+returns-in-Continue c = c.low_14.ensures ∙ ap value_hash_of (c.value_run.ensures.passed _ c.in-Continue.is).0

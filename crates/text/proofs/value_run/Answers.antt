@@ -23,13 +23,13 @@ next c =
     next_two _ _ _ _ _ (λ i. search rules) (omega arith) c.u32_at-w.ensures.0
 
 pub loop-k-init : goal.loop-k-init
-loop-k-init c = folded_start _ _ _ _ c.requires.2
+loop-k-init c = folded_start _ _ _ _ c.requires.1
 
 pub returns-then-v-eq0 : goal.returns-then-v-eq0
 returns-then-v-eq0 c = value_none (first (goal.at.returns-then-v-eq0 c).After-u32_at-w) c.loop-k.invariant c.if-v-eq0.true c.low_14.ensures
 
 pub char_on-requires : goal.char_on-requires
-char_on-requires c = (c.requires.0, c.loop-k.invariant.small, (fold_one _ _ c.if-v-lt65536.true c.fold_quad-f.ensures.0).1)
+char_on-requires c = (c.loop-k.invariant.small, (fold_one _ _ c.if-v-lt65536.true c.fold_quad-f.ensures.0).1)
 
 pub returns-then-v-lt65536 : goal.returns-then-v-lt65536
 returns-then-v-lt65536 c = value-one (first (goal.at.returns-then-v-lt65536 c).After-u32_at-w) c.loop-k.invariant c.if-v-eq0.false c.if-v-lt65536.true c.fold_quad-f.ensures.0 c.char_on.ensures
@@ -40,7 +40,7 @@ returns-then-w-eq0 c = let k = folded_pair (first (goal.at.returns-then-w-eq0 c)
     value_none (next (goal.at.returns-then-w-eq0 c).After-u32_at-w) k c.if-w-eq0.true c.low_14-then-w-eq0.ensures
 
 pub char_on-requires-then-w-lt65536 : goal.char_on-requires-then-w-lt65536
-char_on-requires-then-w-lt65536 c = (c.requires.0, c.pair_on-then-w-lt65536.ensures.1, (fold_one _ _ c.if-w-lt65536.true c.fold_quad-f.ensures.1).1)
+char_on-requires-then-w-lt65536 c = (c.pair_on-then-w-lt65536.ensures.1, (fold_one _ _ c.if-w-lt65536.true c.fold_quad-f.ensures.1).1)
 
 pub returns-then-w-lt65536 : goal.returns-then-w-lt65536
 returns-then-w-lt65536 c = let k = folded_pair (first (goal.at.returns-then-w-lt65536 c).After-u32_at-w) _ c.loop-k.invariant c.if-v-eq0.false c.if-v-lt65536.false c.fold_quad-f.ensures.0 refl c.pair_on-then-w-lt65536.ensures in

@@ -1,5 +1,7 @@
 -- What the code finds out about a text in one pass.
 use Rattle.std.specs.Prelude.{ℕ, ◌+◌, ◌*◌, ◌^◌, ◌≤◌, ◌<◌, ◌≡◌, List, length}
+use Rattle.std.specs.ControlFlow.{ForBreak, ForContinue}
+use Rattle.std.specs.declared.ops.ControlFlow.{ControlFlow}
 use Rattle.le.specs.Le.{u16_at}
 use Rattle.hash.specs.Hash.{hash_on}
 use Rattle.hash.specs.Fold.{fold_text, value_hash_of}
@@ -15,12 +17,12 @@ pub record MeasuredOn (b : List ℕ) (p n h : ℕ) (r : Extent) : Type 0 where
 abbrev pub Measured : List ℕ → ℕ → ℕ → Extent → Type 0
 Measured b p n r = MeasuredOn b p n 0 r
 
--- The value hash, on from h, of the text in the n characters at p: below 16,384 it is that, and a 0 ends the text; otherwise it is 16,384 more
--- than the hash of the folded characters, which are all n.
-pub record ValueRun (b : List ℕ) (p n h r : ℕ) : Type 0 where
-  pub met : r < 16384 → (r ≡ value_hash_of (hash_on h (fold_text (text_in b p n)))) × (length (text_in b p n) < n)
-  pub passed : 16384 ≤ r → (r ≡ 16384 + hash_on h (fold_text (text_in b p n))) × (length (text_in b p n) ≡ n)
-  pub small : r < 16384 + 2 ^ 32
+-- The value hash, on from h, of the text in the n characters at p, where a 0 ends it: a `Break`. Otherwise the hash of the folded characters, which
+-- are all n.
+pub record ValueRun (b : List ℕ) (p n h : ℕ) (r : ControlFlow ℕ ℕ) : Type 0 where
+  pub met : ForBreak r (λ v. (v ≡ value_hash_of (hash_on h (fold_text (text_in b p n)))) × (length (text_in b p n) < n))
+  pub passed : ForContinue r (λ g. (g ≡ hash_on h (fold_text (text_in b p n))) × (length (text_in b p n) ≡ n))
+  pub small : ForContinue r (λ g. g < 2 ^ 32)
 
 -- Character i of the n at p, or 0 past them.
 pub record CharOrEnd (b : List ℕ) (p n i r : ℕ) : Type 0 where

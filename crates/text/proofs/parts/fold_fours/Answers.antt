@@ -11,7 +11,7 @@ loop-k-init c = (omega arith, folded_start _ _ _ _)
 
 pub quad_on-g-requires : goal.quad_on-g-requires
 quad_on-g-requires c = let f = c.fold_quad-f.ensures in
-    (c.requires.0, c.loop-k.invariant.0, f.0.small, f.1.small)
+    (c.loop-k.invariant.0, f.0.small, f.1.small)
 
 pub loop-k-preserved : goal.loop-k-preserved
 loop-k-preserved c = let s = c.args in
