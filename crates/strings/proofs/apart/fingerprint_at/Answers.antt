@@ -10,7 +10,7 @@ returns-in_default c = fingerprint_none _ _ _ (λ r. unspotted _ _ _ _ c.entry_a
 
 pub returns-then-length-eq0 : goal.returns-then-length-eq0
 returns-then-length-eq0 c = let q = c.entry_at-e.ensures.0 in
-    let w = spotted _ _ _ _ q c.entry_spot.ensures c.requires.0.laid.characters c.in-Some.is in
+    let w = spotted _ _ _ _ q c.entry_spot.ensures c.args.table.now.held.laid.characters c.in-Some.is in
     let l = length_at _ _ _ _ _ q c.length-length.ensures in
     elim c.then-length-eq0.branch [
       | then-length-eq0-via-then-length-eq0 b ↦ fingerprint_none _ _ _ (length_some _ _ _ _ _ _ w l b.if-length-eq0.true)
@@ -18,14 +18,14 @@ returns-then-length-eq0 c = let q = c.entry_at-e.ensures.0 in
     ]
 
 pub overflow_add-spot : goal.overflow_add-spot
-overflow_add-spot c = let h = c.requires.0 in
+overflow_add-spot c = let h = c.args.table.now.held in
     omega (arith, h.small, (spotted _ _ _ _ c.entry_at-e.ensures.0 c.entry_spot.ensures h.laid.characters c.in-Some.is).fits)
 
 pub fingerprint-requires : goal.fingerprint-requires
-fingerprint-requires c = let h = c.requires.0 in
+fingerprint-requires c = let h = c.args.table.now.held in
     omega (arith, (spotted _ _ _ _ c.entry_at-e.ensures.0 c.entry_spot.ensures h.laid.characters c.in-Some.is).fits)
 
 pub returns : goal.returns
 returns c = let q = c.entry_at-e.ensures.0 in
-    let w = spotted _ _ _ _ q c.entry_spot.ensures c.requires.0.laid.characters c.in-Some.is in
+    let w = spotted _ _ _ _ q c.entry_spot.ensures c.args.table.now.held.laid.characters c.in-Some.is in
     fingerprint_some _ _ _ _ _ _ w (length_at _ _ _ _ _ q c.length-length.ensures) _ c.fingerprint.ensures
