@@ -10,7 +10,7 @@ returns-in_err-begun c =
     rw (p.1, p.2) (gives_err (sym (table-refused _ (refuses c.check_entries.ensures c.in_err-begun.was))))
 
 pub check_positions-requires : goal.check_positions-requires
-check_positions-requires c = (c.requires.1, (given c.check_entries.ensures c.in_ok-begun.was).0)
+check_positions-requires c = (given c.check_entries.ensures c.in_ok-begun.was).0
 
 pub returns-in_err-check_positions : goal.returns-in_err-check_positions
 returns-in_err-check_positions c =
@@ -20,7 +20,7 @@ returns-in_err-check_positions c =
     rw (p.1, p.2) (gives_err (sym (table-accepted _ e.0 (sym (refused_of c.check_positions.ensures c.in_err-check_positions.was)))))
 
 pub is_packed-requires : goal.is_packed-requires
-is_packed-requires c = let e = given c.check_entries.ensures c.in_ok-begun.was in (c.requires.1, e.0, e.1)
+is_packed-requires c = let e = given c.check_entries.ensures c.in_ok-begun.was in (e.0, e.1)
 
 pub returns : goal.returns
 returns c =
