@@ -7,7 +7,7 @@ use Rattle.layout.specs.declared.Edition.TheVariants.{Bits64}
 use Rattle.strings.specs.inner.Lent.{lent_table}
 use Rattle.strings.proofs.Places.{list_is}
 use Rattle.keys.specs.Names.{name_count}
-use Rattle.keys.proofs.Laws.{root-chars, value-chars, name-count, named, root_top, value_top, too_few, root_alone, value_alone, other_top, not-special}
+use Rattle.keys.proofs.Laws.{name-count, named_root, named_value, root_top, value_top, too_few, root_alone, value_alone, other_top, not-special}
 use Rattle.keys.proofs.special.check_special.Goals as goal
 use Rattle.keys.proofs.special.check_special.Goals.{After-u32_at-n, else-listed_is-via-then-listed_is+else-listed_is-2, else-listed_is-via-else-listed_is, else-listed_is-3-via-then-listed_is-3+else-listed_is-4, else-listed_is-3-via-else-listed_is-3, then-n-ge2+else-listed_is+else-listed_is-3, else-n-ge2}
 
@@ -32,8 +32,8 @@ listed_is-requires-then-listed_is c =
 pub returns-then-listed_is-2 : goal.returns-then-listed_is-2
 returns-then-listed_is-2 c =
     root_top Bits64 _ _ c.requires _ (highest (goal.at.returns-then-listed_is-2 c).After-u32_at-n) c.args.checked.now.checked c.if-n-ge2.true
-    ((named Bits64 _ _ c.requires _ _ _ root-chars c.listed_is.ensures).so c.if-listed_is.true)
-    ((named Bits64 _ _ c.requires _ _ _ value-chars c.listed_is-then-listed_is.ensures).so c.if-listed_is-2.true)
+    ((named_root Bits64 _ _ c.requires _ c.listed_is.ensures).so c.if-listed_is.true)
+    ((named_value Bits64 _ _ c.requires _ c.listed_is-then-listed_is.ensures).so c.if-listed_is-2.true)
 
 pub listed_is-requires-then-n-ge2 : goal.listed_is-requires-then-n-ge2
 listed_is-requires-then-n-ge2 c =
@@ -46,8 +46,8 @@ listed_is-requires-then-listed_is-3 c =
 pub returns-then-listed_is-4 : goal.returns-then-listed_is-4
 returns-then-listed_is-4 c =
     value_top Bits64 _ _ c.requires _ (highest (goal.at.returns-then-listed_is-4 c).After-u32_at-n) c.args.checked.now.checked c.if-n-ge2.true
-    ((named Bits64 _ _ c.requires _ _ _ value-chars c.listed_is-then-n-ge2.ensures).so c.if-listed_is-3.true)
-    ((named Bits64 _ _ c.requires _ _ _ root-chars c.listed_is-then-listed_is-3.ensures).so c.if-listed_is-4.true)
+    ((named_value Bits64 _ _ c.requires _ c.listed_is-then-n-ge2.ensures).so c.if-listed_is-3.true)
+    ((named_root Bits64 _ _ c.requires _ c.listed_is-then-listed_is-3.ensures).so c.if-listed_is-4.true)
 
 pub returns : goal.returns
 returns c =
@@ -56,18 +56,18 @@ returns c =
     gives_err (not-special Bits64 _ _ s _ c.args.checked.now.table.held.list
     (elim c.if-n-ge2.branch [
       | then-n-ge2+else-listed_is+else-listed_is-3 u ↦
-          let root = named Bits64 _ _ s _ _ _ root-chars u.listed_is.ensures in
+          let root = named_root Bits64 _ _ s _ u.listed_is.ensures in
           elim u.else-listed_is.branch [
             | else-listed_is-via-then-listed_is+else-listed_is-2 w ↦
                 root_alone Bits64 _ _ s _ e (root.so w.if-listed_is.true)
-                ((named Bits64 _ _ s _ _ _ value-chars w.listed_is-then-listed_is.ensures).not w.if-listed_is-2.false)
+                ((named_value Bits64 _ _ s _ w.listed_is-then-listed_is.ensures).not w.if-listed_is-2.false)
             | else-listed_is-via-else-listed_is w ↦ elim u.else-listed_is-3.branch [
               | else-listed_is-3-via-then-listed_is-3+else-listed_is-4 v ↦
                   value_alone Bits64 _ _ s _ e (root.not w.if-listed_is.false)
-                  ((named Bits64 _ _ s _ _ _ root-chars v.listed_is-then-listed_is-3.ensures).not v.if-listed_is-4.false)
+                  ((named_root Bits64 _ _ s _ v.listed_is-then-listed_is-3.ensures).not v.if-listed_is-4.false)
               | else-listed_is-3-via-else-listed_is-3 v ↦
                   other_top Bits64 _ _ s _ e (root.not w.if-listed_is.false)
-                  ((named Bits64 _ _ s _ _ _ value-chars u.listed_is-then-n-ge2.ensures).not v.if-listed_is-3.false)
+                  ((named_value Bits64 _ _ s _ u.listed_is-then-n-ge2.ensures).not v.if-listed_is-3.false)
             ]
           ]
       | else-n-ge2 u ↦ too_few Bits64 _ _ s _ e u.if-n-ge2.false
