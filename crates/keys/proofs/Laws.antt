@@ -44,11 +44,11 @@ root_bytes = 0x5f ∷ 0 ∷ 0x5f ∷ 0 ∷ 0x72 ∷ 0 ∷ 0x6f ∷ 0 ∷ 0x6f �
 abbrev value_bytes : List ℕ
 value_bytes = 0x5f ∷ 0 ∷ 0x5f ∷ 0 ∷ 0x76 ∷ 0 ∷ 0x61 ∷ 0 ∷ 0x6c ∷ 0 ∷ 0x75 ∷ 0 ∷ 0x65 ∷ 0 ∷ 0x5f ∷ 0 ∷ 0x5f ∷ 0 ∷ []
 
-pub root-chars : chars root_bytes 0 8 ≡ root_name
+root-chars : chars root_bytes 0 8 ≡ root_name
 unfolding chars u16_at root_name
 root-chars = refl
 
-pub value-chars : chars value_bytes 0 9 ≡ value_name
+value-chars : chars value_bytes 0 9 ≡ value_name
 unfolding chars u16_at value_name
 value-chars = refl
 
@@ -62,9 +62,15 @@ module _ (ed : Edition) (b : List ℕ) (t : Table) (same : t ≡ names ed b) whe
   unfolding name_count
   name-count n e = ap (λ (x : ℕ). x - 1) (e ∙ ap count same)
 
-  pub named : (i : ℕ) (x y : List ℕ) {r : Bool} → x ≡ y → Tells (listed_text t i ≡ x) r → Tells (name_text ed b i ≡ y) r
+  named : (i : ℕ) (x y : List ℕ) {r : Bool} → x ≡ y → Tells (listed_text t i ≡ x) r → Tells (name_text ed b i ≡ y) r
   unfolding name_text
   named i x y {r} e f = subst (λ (w : List ℕ). Tells (listed_text (names ed b) i ≡ w) r) e (subst (λ (u : Table). Tells (listed_text u i ≡ x) r) same f)
+
+  pub named_root : (i : ℕ) {r : Bool} → Tells (listed_text t i ≡ chars root_bytes 0 8) r → Tells (name_text ed b i ≡ root_name) r
+  named_root i f = named i _ _ root-chars f
+
+  pub named_value : (i : ℕ) {r : Bool} → Tells (listed_text t i ≡ chars value_bytes 0 9) r → Tells (name_text ed b i ≡ value_name) r
+  named_value i f = named i _ _ value-chars f
 
   only_name : Clean (string_checks t) → (i j : ℕ) (x : List ℕ) → Bears ed b i x → Bears ed b j x → i ≡ j
   unfolding name_count name_text

@@ -16,7 +16,7 @@ use verdict::{Refusal, Rule};
 
 // Whether the text at list position i is the k characters of x.
 fn listed_is(checked: &CheckedTable, i: usize, x: &[u8], k: usize) -> bool
-    requires le_i { (1 ≤ i) × (i < count (lent_table checked.now.table)) × (2 * k ≤ length x.now) }
+    requires { (1 ≤ i) × (i < count (lent_table checked.now.table)) × (2 * k ≤ length x.now) }
     ensures { Tells (listed_text (lent_table checked.now.table) i ≡ chars x.now 0 k) result }
 {
     let table = &checked.table;

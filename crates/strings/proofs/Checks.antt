@@ -4,9 +4,10 @@ use native.Mathlib.Nat.{le_refl}
 use native.Mathlib.Omega.{arith}
 use mathlib.Core.Path.{◌≡◌, ap, sym, ◌∙◌}
 use mathlib.Core.Bool.{true, false}
+use mathlib.Core.List.{List, [], ◌∷◌}
 use lib.ListN.{length}
 use lib.Dec.{eqb, leb}
-use Rattle.verdict.specs.Checks.{first_fault}
+use Rattle.verdict.specs.Checks.{Check, check, first_fault}
 use Rattle.verdict.specs.inner.Tells.{Tells}
 use Rattle.verdict.specs.Verdict.{Verdict}
 use Rattle.verdict.specs.Verdict.{Accepted, Refused}
@@ -18,6 +19,7 @@ use Rattle.text.proofs.Laws.{text_length_le}
 use Rattle.layout.specs.Table.{Table, entry_at, hash_of, length_of, index_of, segment_of, element_of, count, listed_segment, listed_element}
 use Rattle.strings.specs.Texts.{text_of}
 use Rattle.strings.specs.Rules.{Resolved, Sized, Hashed, Placed, Indexed, Duplicate}
+use Rattle.strings.specs.Decisions.{placed?, indexed?, alone?}
 use Rattle.strings.specs.inner.Held.{TextPasses}
 use Rattle.strings.specs.Order.{entry_checks}
 use Rattle.strings.proofs.Accepted.{entry_clean}
@@ -92,6 +94,14 @@ module _ (t : Table) (k j : ℕ) where
 
   -- ---- the verdict on the entry, for each way out
 
+  -- the checks behind those of its text
+  abbrev order_checks : List Check
+  order_checks =
+      check 10 (entry_at t k j) (Placed t k j) (placed? t k j)
+      ∷ check 11 (entry_at t k j) (Indexed t k j) (indexed? t k j)
+      ∷ check 12 (entry_at t k j) (¬ Duplicate t k j) (alone? t k j)
+      ∷ []
+
   module _ (e : ℕ) (q : e ≡ entry_at t k j) where
     at_entry : {n : ℕ} {v : Verdict} → v ≡ Refused n (entry_at t k j) → Refused n e ≡ v
     at_entry {n} p = ap (Refused n) q ∙ sym p
@@ -109,22 +119,19 @@ module _ (t : Table) (k j : ℕ) where
     refused_9 a b f = at_entry (pass _ _ _ _ _ a ∙ pass _ _ _ _ _ b ∙ stop _ _ _ _ _ f)
 
     module _ (r : TextPasses t k j) where
-      pub refused_10 : (Placed t k j → ⊥) → Refused 10 e ≡ first_fault (entry_checks t k j)
+      -- where the text is right, the checks behind it tell
+      behind-text : first_fault (entry_checks t k j) ≡ first_fault order_checks
       unfolding entry_checks
-      refused_10 f = at_entry (pass _ _ _ _ _ r.resolved ∙ pass _ _ _ _ _ r.sized ∙ pass _ _ _ _ _ r.hashed ∙ stop _ _ _ _ _ f)
+      behind-text = pass _ _ _ _ _ r.resolved ∙ pass _ _ _ _ _ r.sized ∙ pass _ _ _ _ _ r.hashed
+
+      pub refused_10 : (Placed t k j → ⊥) → Refused 10 e ≡ first_fault (entry_checks t k j)
+      refused_10 f = at_entry (behind-text ∙ stop _ _ _ _ _ f)
 
       pub refused_11 : Placed t k j → (Indexed t k j → ⊥) → Refused 11 e ≡ first_fault (entry_checks t k j)
-      unfolding entry_checks
-      refused_11 a f =
-          at_entry
-          (pass _ _ _ _ _ r.resolved ∙ pass _ _ _ _ _ r.sized ∙ pass _ _ _ _ _ r.hashed ∙ pass _ _ _ _ _ a ∙ stop _ _ _ _ _ f)
+      refused_11 a f = at_entry (behind-text ∙ pass _ _ _ _ _ a ∙ stop _ _ _ _ _ f)
 
       pub refused_12 : Placed t k j → Indexed t k j → Duplicate t k j → Refused 12 e ≡ first_fault (entry_checks t k j)
-      unfolding entry_checks
-      refused_12 a b w =
-          at_entry
-          (pass _ _ _ _ _ r.resolved ∙ pass _ _ _ _ _ r.sized ∙ pass _ _ _ _ _ r.hashed ∙ pass _ _ _ _ _ a ∙ pass _ _ _ _ _ b
-          ∙ stop _ _ _ _ _ (λ f. f w))
+      refused_12 a b w = at_entry (behind-text ∙ pass _ _ _ _ _ a ∙ pass _ _ _ _ _ b ∙ stop _ _ _ _ _ (λ f. f w))
 
   pub entry_passes : TextPasses t k j → Placed t k j → Indexed t k j → ¬ Duplicate t k j → Accepted ≡ first_fault (entry_checks t k j)
   entry_passes r a b f = sym (entry_clean t k j (record {

@@ -86,6 +86,12 @@ module _ (t : Table) (k s n j x : ℕ) (map : List ℕ) (f : Collected t k s n m
   pub met-none : (c : ℕ) → Meeting t k s n j x map c → c ≤ 0 → Met t k s n j false
   met-none c m l = record { some = λ e. absurd (false≢true e); none = λ e i h. m.rest i (omega arith) h }
 
+-- what no collected entry met differs from each of them
+met_none : (t : Table) (k s n e : ℕ) {r : Bool} → Met t k s n e r → r ≡ false → (i j : ℕ) → s ≤ i → i < s + n → e ≡ j → Differ t k i j
+met_none t k s n e m q i j l g h =
+    let y : s + (i - s) ≡ i = omega arith in
+    subst (Differ t k i) h (subst (λ (v : ℕ). Differ t k v e) y (m.none q (i - s) (omega arith)))
+
 -- ---- collecting
 
 pub record Collecting (t : Table) (k s n most : ℕ) (map : List ℕ) : Type 0 where
@@ -110,9 +116,7 @@ module _ (t : Table) (k s most : ℕ) where
     next_apart q m = record {
       each = λ i j l g h.
           ⊎_elim
-          (λ u. let z : s + n ≡ j = omega arith in
-          let y : s + (i - s) ≡ i = omega arith in
-          subst (λ (e : ℕ). Differ t k i e) z (subst (λ (e : ℕ). Differ t k e (s + n)) y (m.none q (i - s) (omega arith))))
+          (λ u. met_none _ _ _ _ _ m q i j l (omega arith) (omega arith))
           (λ u. f.apart.each i j l g u)
           (le_or_lt (s + n) j);
     }
@@ -144,9 +148,7 @@ module _ (t : Table) (k s n : ℕ) where
     inside = omega (arith, c.inside);
     each = λ i j l g h d.
         ⊎_elim
-        (λ u. let z : e ≡ j = omega arith in
-        let y : s + (i - s) ≡ i = omega arith in
-        subst (λ (v : ℕ). Differ t k i v) z (subst (λ (v : ℕ). Differ t k v e) y (m.none q (i - s) (omega arith))))
+        (λ u. met_none _ _ _ _ _ m q i j l g (omega arith))
         (λ u. c.each i j l g h u)
         (le_or_lt e j);
   }

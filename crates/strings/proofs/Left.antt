@@ -1,12 +1,13 @@
 -- What the loops over buckets and entries have left. Assumes nothing.
 use Prim.Native.Nat.{ℕ, ◌+◌, ◌-◌, ◌≤◌, ◌<◌}
 use native.Mathlib.Omega.{arith}
-use mathlib.Core.Path.{◌≡◌, refl, ap, ◌∙◌}
+use mathlib.Core.Path.{◌≡◌, ap}
 use mathlib.Core.List.{◌++◌}
 use Rattle.verdict.specs.Checks.{first_fault, each}
 use Rattle.verdict.specs.Verdict.{Verdict}
 use Rattle.verdict.specs.Verdict.{Accepted, Refused}
-use Rattle.verdict.proofs.Laws.{Clean, fault_none, each_none, each_step, row-none, row_more, row_stop}
+use Rattle.verdict.proofs.Laws.{Clean, each_step, row-none, row_more, row_stop}
+use Rattle.verdict.proofs.Scans.{each_end, row_same}
 use Rattle.layout.specs.Table.{Table, entries}
 use Rattle.strings.specs.Order.{entry_checks, bucket_entry_checks, all_entry_checks}
 
@@ -21,7 +22,7 @@ entries_left t k j = first_fault (each (entry_checks t k) (entries t k - j) j ++
 module _ (t : Table) where
   pub left_start : first_fault (all_entry_checks t) ≡ buckets_left t 0
   unfolding all_entry_checks buckets_left
-  left_start = let z : t.buckets - 0 ≡ t.buckets = omega arith in rw z refl
+  left_start = row_same _ _ _ _ (omega arith)
 
   pub left_open : (k : ℕ) → k < t.buckets → buckets_left t k ≡ entries_left t k 0
   unfolding buckets_left entries_left bucket_entry_checks
@@ -43,4 +44,4 @@ module _ (t : Table) where
 
   pub left_none : (k : ℕ) → t.buckets ≤ k → buckets_left t k ≡ Accepted
   unfolding buckets_left
-  left_none k h = ap first_fault (each_none (bucket_entry_checks t) (t.buckets - k) k (omega arith)) ∙ fault_none
+  left_none k h = each_end (bucket_entry_checks t) _ _ (omega arith)

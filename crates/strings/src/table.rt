@@ -39,10 +39,11 @@ pub fn check_entries(table: &StringTable, t: &HashTables) -> Result<bool, Refusa
     let mut spots = [None; 64];
     let mut seen = [0usize; 64];
     let mut begun = true;
+    let mut answer = Ok(());
     'buckets: for k in 0..table.buckets.len() {
         let n = entry::entry_count(table, k);
         let mut span = Span { start: 0, end: 0 };
-        'entries: for j in 0..n {
+        for j in 0..n {
             ahead::keep_ahead(table, k, n, j, &mut spots, &mut seen);
             span = apart::span_at(table, k, n, j, span);
             let i = j % 64;
@@ -51,9 +52,13 @@ pub fn check_entries(table: &StringTable, t: &HashTables) -> Result<bool, Refusa
                 seen: seen[i],
                 from: apart::away_from(span, j),
             };
-            entry::check_entry(table, t, k, j, g, right)?;
+            answer = entry::check_entry(table, t, k, j, g, right);
+            if answer.is_err() {
+                break 'buckets;
+            }
             begun = still_begun(table, k, j, g, begun);
         }
     }
+    answer?;
     Ok(begun)
 }

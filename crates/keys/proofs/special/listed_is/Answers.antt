@@ -8,11 +8,11 @@ use Rattle.keys.proofs.Laws.{listed-text}
 use Rattle.keys.proofs.special.listed_is.Goals as goal
 
 pub returns-in_default : goal.returns-in_default
-returns-in_default c = tells_no (λ e. spot_out _ _ _ _ (sym c.listed_spot.ensures ∙ c.in_default.is) (position_resolves _ c.requires.held.1 _ c.requires.le_i.0 c.requires.le_i.1))
+returns-in_default c = tells_no (λ e. spot_out _ _ _ _ (sym c.listed_spot.ensures ∙ c.in_default.is) (position_resolves _ c.args.checked.now.checked _ c.requires.0 c.requires.1))
 
 pub bears-requires : goal.bears-requires
-bears-requires c = ((spotted c.requires.held.0 _ c.listed_spot.ensures c.in-Some.is).fits, omega (arith, c.requires.le_i.2))
+bears-requires c = ((spotted c.args.checked.now.table.held _ c.listed_spot.ensures c.in-Some.is).fits, omega (arith, c.requires.2))
 
 pub returns : goal.returns
 returns c = listed-text _ _ _ _ _
-    (spotted c.requires.held.0 _ c.listed_spot.ensures c.in-Some.is) c.bears.ensures
+    (spotted c.args.checked.now.table.held _ c.listed_spot.ensures c.in-Some.is) c.bears.ensures

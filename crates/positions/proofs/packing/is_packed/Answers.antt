@@ -9,4 +9,4 @@ returns-then-not-begun c = unsure
 
 pub returns : goal.returns
 returns c = let p = c.requires in
-    λ z. packed _ p.1 (p.2 c.if-not-begun.false) (sym c.count_begun.ensures ∙ eqb-true _ _ z ∙ c.entry_total.ensures.0)
+    λ z. packed _ p.0 (p.1 c.if-not-begun.false) (sym c.count_begun.ensures ∙ eqb-true _ _ z ∙ c.entry_total.ensures.0)

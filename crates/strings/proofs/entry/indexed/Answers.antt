@@ -8,11 +8,11 @@ returns-then-i-eq0 c = indexed-zero _ _ _ _ (index_at _ _ _ _ _ c.entry_at-e.ens
 
 pub returns-then-u32_at-i : goal.returns-then-u32_at-i
 returns-then-u32_at-i c = indexed-high _ _ _ _ (index_at _ _ _ _ _ c.entry_at-e.ensures.0 c.index-i.ensures) _
-    (list_is _ _ _ _ c.requires.0 _ c.u32_at.ensures.0) c.if-u32_at-i.true
+    (list_is _ _ _ _ c.args.table.now.held _ c.u32_at.ensures.0) c.if-u32_at-i.true
 
 pub position_at-p-requires : goal.position_at-p-requires
-position_at-p-requires c = let h = c.requires.0 in
-    (h, omega (arith, list_is _ _ _ _ h _ c.u32_at.ensures.0, c.if-u32_at-i.false))
+position_at-p-requires c = let h = c.args.table.now.held in
+    omega (arith, list_is _ _ _ _ h _ c.u32_at.ensures.0, c.if-u32_at-i.false)
 
 pub returns-then-u16_at-segment : goal.returns-then-u16_at-segment
 returns-then-u16_at-segment c = let q = c.entry_at-e.ensures.0 in
@@ -20,7 +20,7 @@ returns-then-u16_at-segment c = let q = c.entry_at-e.ensures.0 in
     (listed-segment-at _ _ _ _ c.position_at-p.ensures.0 c.u16_at.ensures.0) (segment-at _ _ _ _ _ q c.segment.ensures.0) c.if-u16_at-segment.true
 
 pub returns : goal.returns
-returns c = let h = c.requires.0 in
+returns c = let h = c.args.table.now.held in
     let q = c.entry_at-e.ensures.0 in
     let l = c.position_at-p.ensures.0 in
     indexed-element _ _ _ _ (index_at _ _ _ _ _ q c.index-i.ensures) _ _

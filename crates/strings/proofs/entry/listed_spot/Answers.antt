@@ -3,7 +3,7 @@ use Rattle.strings.proofs.Places.{listed-segment-at, listed-element-at}
 use Rattle.strings.proofs.entry.listed_spot.Goals as goal
 
 pub spot_to-requires : goal.spot_to-requires
-spot_to-requires c = let h = c.requires.0 in (h.chars, h.sampled, c.position_at.ensures.1)
+spot_to-requires c = let h = c.args.table.now.held in (h.chars, h.sampled, c.position_at.ensures.1)
 
 pub returns : goal.returns
 returns c = let q = c.position_at.ensures.0 in

@@ -1,9 +1,9 @@
 use Prim.Native.Nat.{ℕ, ◌<◌}
 use mathlib.Core.Path.{◌≡◌}
-use Rattle.verdict.specs.Verdict.{Accepted}
+use Rattle.verdict.specs.Verdict.{Accepted, answer_of}
 use Rattle.verdict.specs.Checks.{first_fault}
 use Rattle.verdict.specs.inner.Tells.{Sure}
-use Rattle.strings.specs.inner.Held.{held_table}
+use Rattle.strings.specs.inner.Lent.{lent_table}
 use Rattle.strings.specs.inner.Ahead.{Ahead}
 use Rattle.strings.specs.inner.Apart.{Apart}
 use Rattle.strings.specs.inner.Begins.{Begun}
@@ -12,8 +12,9 @@ use Rattle.strings.proofs.Left.{buckets_left, entries_left}
 use Rattle.strings.proofs.Begun.{BegunBefore}
 use Rattle.strings.proofs.table.check_entries.Given as goal
 
-abbrev pub invariant-entries : goal.invariant-entries
-invariant-entries l = let t = held_table l.b l.s l.buckets in record {
+abbrev pub invariant-loop-j : goal.invariant-loop-j
+invariant-loop-j l = let t = lent_table l.table in record {
+  none : answer_of l.answer ≡ Accepted;
   rest : first_fault (all_entry_checks t) ≡ entries_left t l.k l.j;
   passed : (i : ℕ) → i < l.j → first_fault (entry_checks t l.k i) ≡ Accepted;
   ahead : Ahead t l.k l.j l.spots l.seen;
@@ -22,7 +23,8 @@ invariant-entries l = let t = held_table l.b l.s l.buckets in record {
 }
 
 abbrev pub invariant-buckets : goal.invariant-buckets
-invariant-buckets l = let t = held_table l.b l.s l.buckets in record {
+invariant-buckets l = let t = lent_table l.table in record {
+  none : answer_of l.answer ≡ Accepted;
   rest : first_fault (all_entry_checks t) ≡ buckets_left t l.k;
   begun : Sure (BegunBefore t l.k) l.begun;
 }

@@ -9,8 +9,8 @@ returns-then-not-before c = unsure
 
 pub returns-then-element-eq0 : goal.returns-then-element-eq0
 returns-then-element-eq0 c = let p = c.requires in
-    λ z. (c.if-not-before.false, begun_first _ _ _ p.2 p.3 _ (element-at _ _ _ _ _ c.entry_at-e.ensures.0 c.element.ensures.0) c.if-element-eq0.true)
+    λ z. (c.if-not-before.false, begun_first _ _ _ p.1 p.2 _ (element-at _ _ _ _ _ c.entry_at-e.ensures.0 c.element.ensures.0) c.if-element-eq0.true)
 
 pub returns : goal.returns
 returns c = let p = c.requires in
-    λ z. (c.if-not-before.false, begun_behind _ _ _ p.2 p.3 (eqb-true _ _ z))
+    λ z. (c.if-not-before.false, begun_behind _ _ _ p.1 p.2 (eqb-true _ _ z))
