@@ -81,10 +81,7 @@ fn find_windows<const M: usize>(
 {
     for j in 0..n {
         let a = window_at::<M>(
-            table.file,
-            s,
-            table.segments,
-            table.buckets,
+            table,
             le::wide(hashes[j]),
             le::wide(estimate[j]),
             le::wide(met[j]),
@@ -110,46 +107,13 @@ fn probe_windows(
 {
     let mut first = [0u32; 64];
     let mut last = [0u32; 64];
-    find_windows::<1>(
-        table.file,
-        s,
-        table.segments,
-        table.buckets,
-        hashes,
-        n,
-        least,
-        estimate,
-        &mut first,
-        &mut last,
-    );
+    find_windows::<1>(table, hashes, n, least, estimate, &mut first, &mut last);
     probe(table.file, n, &first, least);
     if spread(table, 1048576) {
-        find_windows::<1>(
-            table.file,
-            s,
-            table.segments,
-            table.buckets,
-            hashes,
-            n,
-            least,
-            estimate,
-            &mut first,
-            &mut last,
-        );
+        find_windows::<1>(table, hashes, n, least, estimate, &mut first, &mut last);
         probe(table.file, n, &first, least);
     }
-    find_windows::<8>(
-        table.file,
-        s,
-        table.segments,
-        table.buckets,
-        hashes,
-        n,
-        least,
-        estimate,
-        &mut first,
-        &mut last,
-    );
+    find_windows::<8>(table, hashes, n, least, estimate, &mut first, &mut last);
     probe(table.file, n, &first, least);
     probe(table.file, n, &last, most);
 }
