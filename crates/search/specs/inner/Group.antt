@@ -1,7 +1,8 @@
 -- The places of many hashes.
-use Rattle.std.specs.Prelude.{ℕ, ◌+◌, ◌≤◌, ◌<◌, ◌≡◌, ◌⊎◌, List, length, get_or, set}
+use Rattle.std.specs.Prelude.{ℕ, ◌+◌, ◌≤◌, ◌<◌, ◌≡◌, ◌⊎◌, List, length, get_or}
 use Rattle.hash.specs.Hash.{bucket_of}
 use Rattle.layout.specs.Table.{Table}
+use Rattle.search.specs.declared.Bounds.{Bounds}
 use Rattle.search.specs.inner.LowerBound.{LowerBound, Near, Searching}
 
 -- Each of the first n hashes stands at its place in its bucket, or would.
@@ -10,22 +11,13 @@ pub record LowerBounds (t : Table) (hashes : List ℕ) (n : ℕ) (low : List ℕ
   pub each : (j : ℕ) → j < n → LowerBound t (bucket_of t.buckets (get_or hashes j 0)) (get_or hashes j 0) (get_or low j 0)
 
 -- How far the search of hash j has come, in its bucket.
-abbrev pub SearchingAt : Table → List ℕ → ℕ → ℕ → ℕ → Type 0
-SearchingAt t hashes j lo hi = Searching t (bucket_of t.buckets (get_or hashes j 0)) (get_or hashes j 0) lo hi
-
--- That search goes on, the others stay as they are.
-pub record Advanced (t : Table) (hashes : List ℕ) (j : ℕ) (low high low' high' : List ℕ) : Type 0 where
-  pub lo : ℕ
-  pub hi : ℕ
-  pub low_is : low' ≡ set low j lo
-  pub high_is : high' ≡ set high j hi
-  pub searching : SearchingAt t hashes j lo hi
+abbrev pub SearchingAt : Table → List ℕ → ℕ → Bounds → Type 0
+SearchingAt t hashes j x = Searching t (bucket_of t.buckets (get_or hashes j 0)) (get_or hashes j 0) x
 
 -- How far the searches of the first n hashes have come.
-pub record AllSearching (t : Table) (hashes : List ℕ) (n : ℕ) (low high : List ℕ) : Type 0 where
-  pub lows : length low ≡ 64
-  pub highs : length high ≡ 64
-  pub each : (j : ℕ) → j < n → SearchingAt t hashes j (get_or low j 0) (get_or high j 0)
+pub record AllSearching (t : Table) (hashes : List ℕ) (n : ℕ) (left : List Bounds) : Type 0 where
+  pub long : length left ≡ 64
+  pub each : (j : ℕ) → j < n → SearchingAt t hashes j (get_or left j (record { lo = 0; hi = 0 }))
 
 -- The first m of a list are numbers below n.
 pub record ListedBelow (n m : ℕ) (xs : List ℕ) : Type 0 where

@@ -3,4 +3,4 @@ use Rattle.search.specs.inner.Group.{AllSearching}
 use Rattle.search.proofs.pending.begin_each.Given as goal
 
 abbrev pub invariant-loop-j : goal.invariant-loop-j
-invariant-loop-j l = AllSearching (lent_table l.table) l.hashes l.j l.low l.high
+invariant-loop-j l = AllSearching (lent_table l.table) l.hashes l.j l.left

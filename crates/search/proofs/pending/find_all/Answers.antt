@@ -3,7 +3,7 @@ use native.Mathlib.Omega.{arith}
 use Rattle.search.proofs.pending.find_all.Goals as goal
 
 pub finish-requires : goal.finish-requires
-finish-requires c = searching-of _ _ _ _ _ c.wide.ensures.0 (c.halve_all.ensures.each _ c.loop-j-test.true)
+finish-requires c = searching-of _ _ _ _ c.wide.ensures.0 (c.halve_all.ensures.each _ c.loop-j-test.true)
 
 pub loop-j-preserved : goal.loop-j-preserved
 loop-j-preserved c = let l = c.loop-j-test.true in

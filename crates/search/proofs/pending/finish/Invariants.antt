@@ -6,7 +6,7 @@ use Rattle.search.specs.inner.LowerBound.{Searching}
 use Rattle.search.proofs.pending.finish.Given as goal
 
 abbrev pub invariant-loop-x : goal.invariant-loop-x
-invariant-loop-x l = Searching (lent_table l.table) (bucket_of (length l.table.buckets.now) l.h) l.h l.x.lo l.x.hi
+invariant-loop-x l = Searching (lent_table l.table) (bucket_of (length l.table.buckets.now) l.h) l.h l.x
 
 abbrev pub decreases-loop-x : goal.decreases-loop-x
 decreases-loop-x l = l.x.hi - l.x.lo
