@@ -21,12 +21,9 @@ fn halve(table: &StringTable, h: usize, x: Bounds) -> Bounds
     let mid = x.lo + (x.hi - x.lo) / 2;
     let e = entry::entry_at(table, k, mid);
     if fields::hash(table.file, e) < h {
-        return Bounds {
-            lo: mid + 1,
-            hi: x.hi,
-        };
+        return Bounds { lo: mid + 1, ..x };
     }
-    Bounds { lo: x.lo, hi: mid }
+    Bounds { hi: mid, ..x }
 }
 
 // Halves what is left of the searches of n hashes, side by side, until all are found.
