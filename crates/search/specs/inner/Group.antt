@@ -3,6 +3,7 @@ use Rattle.std.specs.Prelude.{ℕ, ◌+◌, ◌≤◌, ◌<◌, ◌≡◌, ◌�
 use Rattle.hash.specs.Hash.{bucket_of}
 use Rattle.layout.specs.Table.{Table}
 use Rattle.search.specs.declared.Bounds.{Bounds}
+use Rattle.search.specs.declared.group.Window.{Window}
 use Rattle.search.specs.inner.LowerBound.{LowerBound, Near, Searching}
 
 -- Each of the first n hashes stands at its place in its bucket, or would.
@@ -49,18 +50,17 @@ pub record Looked (t : Table) (hashes : List ℕ) (n : ℕ) (low which : List �
   pub fewer : m ≤ n
   pub each : (j : ℕ) → j < n → NearAt t hashes j (get_or low j 0) ⊎ ListedFrom which m i j
 
--- Four bytes of the file stand at each of the first n offsets.
-pub record Within (b : List ℕ) (n : ℕ) (at : List ℕ) : Type 0 where
-  pub long : length at ≡ 64
-  pub each : (j : ℕ) → j < n → get_or at j 0 + 4 ≤ length b
+-- Four bytes of the file stand where a window begins, and where its last entry does.
+abbrev pub Readable : List ℕ → Window → Type 0
+Readable b x = (x.first + 4 ≤ length b) × (x.last + 4 ≤ length b)
 
--- A estimate for each, and an offset to look at.
-pub record Estimated (b : List ℕ) (n : ℕ) (estimate at : List ℕ) : Type 0 where
-  pub estimates : length estimate ≡ 64
-  pub within : Within b n at
+-- So they do for the first n of the windows.
+pub record Within (b : List ℕ) (n : ℕ) (windows : List Window) : Type 0 where
+  pub long : length windows ≡ 64
+  pub each : (j : ℕ) → j < n → Readable b (get_or windows j (record { start = 0; first = 0; last = 0 }))
 
 -- Three arrays have the length of a group.
-pub record Lengths (a b c : List ℕ) : Type 0 where
+pub record Lengths {A B C : Type 0} (a : List A) (b : List B) (c : List C) : Type 0 where
   pub first : length a ≡ 64
   pub second : length b ≡ 64
   pub third : length c ≡ 64
