@@ -77,8 +77,8 @@ fn find_windows<const M: usize>(
     }
 }
 
-// Looks at the first entry of each window, or at the last. The hashes met there are two arrays, each filled by a loop of its own: one that looks at
-// both, where one is enough, is slower by a fifth in a large table.
+// Looks at the first entry of each window, or at the last. The hashes that are met there fill two arrays, not one of pairs: a loop that fills
+// both would look twice where one look is enough.
 fn probe<const LAST: bool>(b: &[u8], n: usize, windows: &[Window; 64], met: &mut [u32; 64])
     requires { (n ≤ 64) × Within b.now n windows.now × (length met.old ≡ 64) }
     ensures { length met.new ≡ 64 }
