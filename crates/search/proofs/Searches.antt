@@ -1,8 +1,9 @@
 -- Searches that go on side by side. Assumes nothing.
 use Prim.Native.Nat.{ℕ, ◌+◌, ◌-◌, ◌/◌, ◌≤◌, ◌<◌}
 use native.Mathlib.Omega.{arith}
+use native.Mathlib.Decide.{ℕ_discrete}
 use mathlib.Core.Path.{◌≡◌, ap, subst, sym, ◌∙◌}
-use mathlib.Core.Logic.{◌⊎◌, inl, inr, ⊎_elim}
+use mathlib.Core.Logic.{◌⊎◌, inl, inr, ⊎_elim, by_cases}
 use mathlib.Core.List.{List}
 use mathlib.Core.Bool.{Bool, false, not, false≢true}
 use Rattle.std.specs.Prelude.{Option, Some, None, IfSome, unwrap_or}
@@ -11,95 +12,97 @@ use borrow.Author.Count.{below_none, below_more}
 use lib.ListN.{length, get_or, set, length-set}
 use lib.Seq.{get_or-set_same, get_or-set_other}
 use Rattle.laws.proofs.Order.{le_or_lt}
-use Rattle.strings.proofs.Filling.{set_at, fill, fill_both}
+use Rattle.strings.proofs.Filling.{fill, fill_any}
 use Rattle.laws.proofs.Halving.{some-rounds, rounds-of, round_start, round_up, round_down, round_end}
 use Rattle.verdict.proofs.Laws.{Clean}
 use Rattle.hash.specs.Hash.{bucket_of}
 use Rattle.layout.specs.Table.{Table, entries, hash_of}
 use Rattle.strings.specs.Order.{all_entry_checks}
+use Rattle.search.specs.declared.Bounds.{Bounds}
 use Rattle.search.specs.inner.LowerBound.{Near, halved, Searching, told, going_on}
-use Rattle.search.specs.inner.Group.{LowerBounds, NearAt, AllNear, SearchingAt, AllSearching, Advanced, ListedFrom, Looked}
+use Rattle.search.specs.inner.Group.{LowerBounds, NearAt, AllNear, SearchingAt, AllSearching, ListedFrom, Looked}
 use Rattle.search.proofs.Nearby.{near_place}
+
+-- what holds of each element holds of each when one is set
+set_one : {A : Type 0} (d : A) (P : ℕ → A → Type 0) (xs : List A) (j : ℕ) (x : A) → j < length xs → P j x → (i : ℕ) → ((i ≡ j → ⊥) → P i (get_or xs i d))
+    → P i (get_or (set xs j x) i d)
+set_one d P xs j x l h i f =
+    by_cases (ℕ_discrete i j)
+    (λ e. rw e (rw (get_or-set_same xs j x d l) h))
+    (λ n. rw (get_or-set_other xs j i x d n) (f n))
 
 -- ---- one search
 
 module _ (t : Table) (k h : ℕ) where
   -- all entries are left
-  pub searching-all : (n : ℕ) → n ≡ entries t k → Searching t k h 0 n
+  pub searching-all : (n : ℕ) → n ≡ entries t k → Searching t k h (record { lo = 0; hi = n })
   searching-all n q =
       let (r, w) = some-rounds n in
       going_on r r (rounds-of n (entries t k) r q w) (round_start (hash_of t k) (entries t k) h r n q w)
 
   -- none is
-  pub searching_end : (lo hi : ℕ) → Searching t k h lo hi → hi ≤ lo → Near t k h lo
-  searching_end lo hi (told a w) l = w
-  searching_end lo hi (going_on r left a w) l =
-      halved (record { rounds = r; allowed = a; stops = round_end (hash_of t k) (entries t k) h _ left lo hi w l })
+  pub searching_end : (x : Bounds) → Searching t k h x → x.hi ≤ x.lo → Near t k h x.lo
+  searching_end x (told a w) l = w
+  searching_end x (going_on r left a w) l =
+      halved (record { rounds = r; allowed = a; stops = round_end (hash_of t k) (entries t k) h _ left x.lo x.hi w l })
 
   -- some are: they are entries of the bucket
-  pub searching-high : (lo hi : ℕ) → Searching t k h lo hi → lo < hi → hi ≤ entries t k
-  searching-high lo hi (told a w) l = absurd (omega arith)
-  searching-high lo hi (going_on r left a w) l = w.high
+  pub searching-high : (x : Bounds) → Searching t k h x → x.lo < x.hi → x.hi ≤ entries t k
+  searching-high x (told a w) l = absurd (omega arith)
+  searching-high x (going_on r left a w) l = w.high
 
   -- one round: w was read in the middle, at m
-  module _ (lo hi m w : ℕ) (l : lo < hi) (c : m ≡ lo + (hi - lo) / 2) (e : w ≡ hash_of t k m) where
-    searching-up : w < h → Searching t k h lo hi → Searching t k h (m + 1) hi
+  module _ (x : Bounds) (m w : ℕ) (l : x.lo < x.hi) (c : m ≡ x.lo + (x.hi - x.lo) / 2) (e : w ≡ hash_of t k m) where
+    searching-up : w < h → Searching t k h x → Searching t k h (record { lo = m + 1; hi = x.hi })
     searching-up g (told a s) = absurd (omega arith)
-    searching-up g (going_on r left a s) = going_on r (left - 1) a (round_up (hash_of t k) (entries t k) h _ left lo hi s l m w c e g)
+    searching-up g (going_on r left a s) = going_on r (left - 1) a (round_up (hash_of t k) (entries t k) h _ left x.lo x.hi s l m w c e g)
 
-    searching-down : h ≤ w → Searching t k h lo hi → Searching t k h lo m
+    searching-down : h ≤ w → Searching t k h x → Searching t k h (record { lo = x.lo; hi = m })
     searching-down g (told a s) = absurd (omega arith)
-    searching-down g (going_on r left a s) = going_on r (left - 1) a (round_down (hash_of t k) (entries t k) h _ left lo hi s l m w c e g)
+    searching-down g (going_on r left a s) = going_on r (left - 1) a (round_down (hash_of t k) (entries t k) h _ left x.lo x.hi s l m w c e g)
 
 -- in a bucket by another name
-pub searching_in : (t : Table) (k m h lo hi : ℕ) → k ≡ m → Searching t k h lo hi → Searching t m h lo hi
-searching_in t k m h lo hi e s = subst (λ (x : ℕ). Searching t x h lo hi) e s
+pub searching_in : (t : Table) (k m h : ℕ) (x : Bounds) → k ≡ m → Searching t k h x → Searching t m h x
+searching_in t k m h x e s = subst (λ (i : ℕ). Searching t i h x) e s
 
-module _ (t : Table) (k i h lo hi : ℕ) (q : k ≡ i) (s : Searching t i h lo hi) (l : lo < hi) (m w : ℕ) (c : m ≡ lo + (hi - lo) / 2) (e : w ≡ hash_of t k m) where
-  pub halve_up : w < h → Searching t i h (m + 1) hi × (lo < hi → hi - (m + 1) < hi - lo)
+module _ (t : Table) (k i h : ℕ) (x : Bounds) (q : k ≡ i) (s : Searching t i h x) (l : x.lo < x.hi) (m w : ℕ) (c : m ≡ x.lo + (x.hi - x.lo) / 2) (e : w ≡ hash_of t k m) where
+  pub halve_up : w < h → Searching t i h (record { lo = m + 1; hi = x.hi }) × (x.lo < x.hi → x.hi - (m + 1) < x.hi - x.lo)
   halve_up g = (
-    searching_in t k i h (m + 1) hi q (searching-up t k h lo hi m w l c e g (searching_in t i k h lo hi (sym q) s)),
+    searching_in t k i h _ q (searching-up t k h x m w l c e g (searching_in t i k h x (sym q) s)),
     λ _. omega arith,
   )
 
-  pub halve_down : h ≤ w → Searching t i h lo m × (lo < hi → m - lo < hi - lo)
+  pub halve_down : h ≤ w → Searching t i h (record { lo = x.lo; hi = m }) × (x.lo < x.hi → m - x.lo < x.hi - x.lo)
   halve_down g = (
-    searching_in t k i h lo m q (searching-down t k h lo hi m w l c e g (searching_in t i k h lo hi (sym q) s)),
+    searching_in t k i h _ q (searching-down t k h x m w l c e g (searching_in t i k h x (sym q) s)),
     λ _. omega arith,
   )
 
 -- ---- the searches of many hashes
 
 -- by the hash that is read
-pub searching-of : (t : Table) (h g lo hi : ℕ) → h ≡ g → Searching t (bucket_of t.buckets g) g lo hi → Searching t (bucket_of t.buckets h) h lo hi
-searching-of t h g lo hi e s = rw e s
+pub searching-of : (t : Table) (h g : ℕ) (x : Bounds) → h ≡ g → Searching t (bucket_of t.buckets g) g x → Searching t (bucket_of t.buckets h) h x
+searching-of t h g x e s = rw e s
 
-module _ (t : Table) (hashes low high : List ℕ) (n : ℕ) (a : AllSearching t hashes n low high) where
-  pub searches_upto : (m : ℕ) → m ≤ n → AllSearching t hashes m low high
-  searches_upto m l = record { lows = a.lows; highs = a.highs; each = λ i h. a.each i (omega arith) }
+module _ (t : Table) (hashes : List ℕ) (left : List Bounds) (n : ℕ) (a : AllSearching t hashes n left) where
+  pub searches_upto : (m : ℕ) → m ≤ n → AllSearching t hashes m left
+  searches_upto m l = record { long = a.long; each = λ i h. a.each i (omega arith) }
 
   -- one of them goes on
-  pub searches_on : (j : ℕ) (low' high' : List ℕ) → j < 64 → Advanced t hashes j low high low' high' → AllSearching t hashes n low' high'
-  searches_on j low' high' l w =
-      rw (w.low_is, w.high_is)
-      (record {
-        lows = length-set low j w.lo ∙ a.lows;
-        highs = length-set high j w.hi ∙ a.highs;
-        each =
-            λ i b.
-            set_at (SearchingAt t hashes) low high j w.lo w.hi (omega (arith, a.lows)) (omega (arith, a.highs)) w.searching i
-            (λ d. a.each i b);
-      })
+  pub searches_on : (j : ℕ) → j < 64 → (h : ℕ) (x : Bounds) → h ≡ get_or hashes j 0 → Searching t (bucket_of t.buckets h) h x → AllSearching t hashes n (set left j x)
+  searches_on j l h x e s = record {
+    long = length-set left j x ∙ a.long;
+    each =
+        λ i b.
+        set_one _ (SearchingAt t hashes) left j x (omega (arith, a.long)) (rw (sym e) s) i (λ d. a.each i b);
+  }
 
 -- one more
-pub searches_more : (t : Table) (hashes low high : List ℕ) (j : ℕ) → AllSearching t hashes j low high → j < 64 → (h lo hi : ℕ) → h ≡ get_or hashes j 0
-    → Searching t (bucket_of t.buckets h) h lo hi → AllSearching t hashes (j + 1) (set low j lo) (set high j hi)
-searches_more t hashes low high j a l h lo hi e s = record {
-  lows = length-set low j lo ∙ a.lows;
-  highs = length-set high j hi ∙ a.highs;
-  each =
-      fill_both (SearchingAt t hashes) low high j lo hi
-      (omega (arith, a.lows)) (omega (arith, a.highs)) a.each (rw (sym e) s);
+pub searches_more : (t : Table) (hashes : List ℕ) (left : List Bounds) (j : ℕ) → AllSearching t hashes j left → j < 64 → (h : ℕ) (x : Bounds) → h ≡ get_or hashes j 0
+    → Searching t (bucket_of t.buckets h) h x → AllSearching t hashes (j + 1) (set left j x)
+searches_more t hashes left j a l h x e s = record {
+  long = length-set left j x ∙ a.long;
+  each = fill_any _ (SearchingAt t hashes) left j x (omega (arith, a.long)) a.each (rw (sym e) s);
 }
 
 -- ---- those that are not found where they were looked for
@@ -156,8 +159,7 @@ module _ (t : Table) (hashes low which : List ℕ) (n m i : ℕ) (w : Looked t h
       listed = w.listed;
       fewer = w.fewer;
       each = λ x h.
-          let q : j < length low = omega (arith, w.lows) in
-          set_at (λ x y z. NearAt t hashes x y ⊎ ListedFrom which m (i + 1) x) low low j r r q q (inl f) x (other x h);
+          set_one 0 (λ x y. NearAt t hashes x y ⊎ ListedFrom which m (i + 1) x) low j r (omega (arith, w.lows)) (inl f) x (other x h);
     }
 
   -- the same by another name of n

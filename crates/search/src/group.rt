@@ -8,7 +8,7 @@ ghost use Rattle.verdict.specs.Verdict.{Accepted};
 ghost use Rattle.layout.specs.Table.{bucket_at};
 ghost use Rattle.strings.specs.Order.{all_entry_checks};
 ghost use Rattle.strings.specs.inner.Lent.{lent_table};
-ghost use Rattle.search.specs.inner.Group.{LowerBounds, Looked, Estimated, Within, Lengths};
+ghost use Rattle.search.specs.inner.Group.{LowerBounds, Looked, Readable, Within, Lengths};
 
 use crate::{near, pending};
 use strings::{StringTable, entry};
@@ -23,16 +23,6 @@ pub fn spread(table: &StringTable, bytes: usize) -> bool
     table.parts.list - le::wide(table.buckets[0]) >= bytes
 }
 
-// Looks at each.
-fn probe(b: &[u8], n: usize, at: &[u32; 64], met: &mut [u32; 64])
-    requires { (n ≤ 64) × Within b.now n at.now × (length met.old ≡ 64) }
-    ensures { length met.new ≡ 64 }
-{
-    for j in 0..n {
-        met[j] = le::u32_at(b, le::wide(at[j])) as u32;
-    }
-}
-
 // Some entries in a row that a hash is to be expected among: the number of the first, and where the first and the last of them stand.
 #[derive(Clone, Copy)]
 struct Window {
@@ -44,7 +34,7 @@ struct Window {
 // M entries for hash h when w was met at place g of its bucket. Of a bucket of fewer it is the bucket's count twice: it can be read, too.
 fn window_at<const M: usize>(table: &StringTable, h: usize, g: usize, w: usize) -> Window
     requires { (h < 2 ^ 32) × (g < 2 ^ 32) × (w < 2 ^ 32) × (1 ≤ M) }
-    ensures { (result.first + 4 ≤ length table.now.file.now) × (result.last + 4 ≤ length table.now.file.now) }
+    ensures { Readable table.now.file.now result }
 {
     let k = hash::bucket(h, table.buckets.len());
     let n = entry::entry_count(table, k);
@@ -72,86 +62,59 @@ fn find_windows<const M: usize>(
     hashes: &[u32; 64],
     n: usize,
     met: &[u32; 64],
-    estimate: &mut [u32; 64],
-    first: &mut [u32; 64],
-    last: &mut [u32; 64],
+    windows: &mut [Window; 64],
 )
-    requires { (n ≤ 64) × (length hashes.now ≡ 64) × (length met.now ≡ 64) × Lengths estimate.old first.old last.old × (1 ≤ M) }
-    ensures { Estimated table.now.file.now n estimate.new first.new × Within table.now.file.now n last.new }
+    requires { (n ≤ 64) × Lengths hashes.now met.now windows.old × (1 ≤ M) }
+    ensures { Within table.now.file.now n windows.new }
 {
     for j in 0..n {
-        let a = window_at::<M>(
-            table.file,
-            s,
-            table.segments,
-            table.buckets,
+        windows[j] = window_at::<M>(
+            table,
             le::wide(hashes[j]),
-            le::wide(estimate[j]),
+            le::wide(windows[j].start),
             le::wide(met[j]),
         );
-        estimate[j] = a.start;
-        first[j] = a.first;
-        last[j] = a.last;
     }
 }
 
-// Eight entries for each hash, from `estimate` on, with the first and the last hash of them. One entry for each is looked at first, from nowhere
-// and then from what was met there. In a table of less than a megabyte one look is enough.
+// Looks at the first entry of each window, or at the last. The hashes that are met there fill two arrays, not one of pairs: a loop that fills
+// both would look twice where one look is enough.
+fn probe<const LAST: bool>(b: &[u8], n: usize, windows: &[Window; 64], met: &mut [u32; 64])
+    requires { (n ≤ 64) × Within b.now n windows.now × (length met.old ≡ 64) }
+    ensures { length met.new ≡ 64 }
+{
+    for j in 0..n {
+        let at = if LAST {
+            windows[j].last
+        } else {
+            windows[j].first
+        };
+        met[j] = le::u32_at(b, le::wide(at)) as u32;
+    }
+}
+
+// Eight entries for each hash, with the first and the last hash of them. One entry for each is looked at first, from nowhere and then from what was
+// met there. In a table of less than a megabyte one look is enough.
 fn probe_windows(
     table: &StringTable,
     hashes: &[u32; 64],
     n: usize,
-    estimate: &mut [u32; 64],
+    windows: &mut [Window; 64],
     least: &mut [u32; 64],
     most: &mut [u32; 64],
 )
-    requires { (n ≤ 64) × (length hashes.now ≡ 64) × Lengths estimate.old least.old most.old }
-    ensures { Lengths estimate.new least.new most.new }
+    requires { (n ≤ 64) × (length hashes.now ≡ 64) × Lengths windows.old least.old most.old }
+    ensures { Lengths windows.new least.new most.new }
 {
-    let mut first = [0u32; 64];
-    let mut last = [0u32; 64];
-    find_windows::<1>(
-        table.file,
-        s,
-        table.segments,
-        table.buckets,
-        hashes,
-        n,
-        least,
-        estimate,
-        &mut first,
-        &mut last,
-    );
-    probe(table.file, n, &first, least);
+    find_windows::<1>(table, hashes, n, least, windows);
+    probe::<false>(table.file, n, windows, least);
     if spread(table, 1048576) {
-        find_windows::<1>(
-            table.file,
-            s,
-            table.segments,
-            table.buckets,
-            hashes,
-            n,
-            least,
-            estimate,
-            &mut first,
-            &mut last,
-        );
-        probe(table.file, n, &first, least);
+        find_windows::<1>(table, hashes, n, least, windows);
+        probe::<false>(table.file, n, windows, least);
     }
-    find_windows::<8>(
-        table.file,
-        s,
-        table.segments,
-        table.buckets,
-        hashes,
-        n,
-        least,
-        estimate,
-        &mut first,
-        &mut last,
-    );
-    probe(table.file, n, &first, least);
-    probe(table.file, n, &last, most);
+    find_windows::<8>(table, hashes, n, least, windows);
+    probe::<false>(table.file, n, windows, least);
+    probe::<true>(table.file, n, windows, most);
 }
 
 // Where to look for h when eight entries from g on have hashes from `least` to `most`: there, or seven entries on or back.
@@ -174,17 +137,18 @@ fn shifted(h: usize, g: usize, least: usize, most: usize) -> usize
 fn shift_each(
     hashes: &[u32; 64],
     n: usize,
+    windows: &[Window; 64],
     least: &[u32; 64],
     most: &[u32; 64],
     estimate: &mut [u32; 64],
 )
-    requires { (n ≤ 64) × (length hashes.now ≡ 64) × Lengths estimate.old least.now most.now }
+    requires { (n ≤ 64) × (length hashes.now ≡ 64) × Lengths windows.now least.now most.now × (length estimate.old ≡ 64) }
     ensures { length estimate.new ≡ 64 }
 {
     for j in 0..n {
         let g = shifted(
             le::wide(hashes[j]),
-            le::wide(estimate[j]),
+            le::wide(windows[j].start),
             le::wide(least[j]),
             le::wide(most[j]),
         );
@@ -200,10 +164,15 @@ fn estimate_windows(table: &StringTable, hashes: &[u32; 64], n: usize, estimate:
     if !spread(table, 65536) {
         return;
     }
+    let mut windows = [Window {
+        start: 0,
+        first: 0,
+        last: 0,
+    }; 64];
     let mut least = [0u32; 64];
     let mut most = [0u32; 64];
-    probe_windows(table, hashes, n, estimate, &mut least, &mut most);
-    shift_each(hashes, n, &least, &most, estimate);
+    probe_windows(table, hashes, n, &mut windows, &mut least, &mut most);
+    shift_each(hashes, n, &windows, &least, &most, estimate);
 }
 
 // Looks for each hash where it is guessed to stand. Answers how many are not found so, and lists these.

@@ -1,65 +1,42 @@
 // Searches of many hashes that go on side by side: each pass makes one round of the halving for every hash that is not found yet, so that
 // no round waits for the one before.
-ghost use Rattle.std.specs.Prelude.{◌≡◌, ◌-◌, ◌≤◌, ◌<◌, length, get_or};
+ghost use Rattle.std.specs.Prelude.{◌≡◌, ◌-◌, ◌≤◌, ◌<◌, length};
 ghost use Rattle.strings.specs.inner.Lent.{lent_table};
 ghost use Rattle.hash.specs.Hash.{bucket_of};
 ghost use Rattle.search.specs.inner.LowerBound.{Near, Searching};
-ghost use Rattle.search.specs.inner.Group.{SearchingAt, AllSearching, Advanced, ListedBelow, Gathered, Looked, AllNear, Lengths};
+ghost use Rattle.search.specs.inner.Group.{AllSearching, ListedBelow, Gathered, Looked, AllNear};
 
 use crate::Bounds;
 use strings::{StringTable, entry, fields};
 
 // One round of the halving for hash h, if something is left: one entry is read.
-fn halve(table: &StringTable, h: usize, lo: usize, hi: usize) -> Bounds
-    requires { Searching (lent_table table.now) (bucket_of (length table.now.buckets.now) h) h lo hi }
-    ensures { Searching (lent_table table.now) (bucket_of (length table.now.buckets.now) h) h result.lo result.hi
-        × (lo < hi → result.hi - result.lo < hi - lo) }
+fn halve(table: &StringTable, h: usize, x: Bounds) -> Bounds
+    requires { Searching (lent_table table.now) (bucket_of (length table.now.buckets.now) h) h x }
+    ensures { Searching (lent_table table.now) (bucket_of (length table.now.buckets.now) h) h result × (x.lo < x.hi → result.hi - result.lo < x.hi - x.lo) }
 {
-    if hi <= lo {
-        return Bounds { lo, hi };
+    if x.hi <= x.lo {
+        return x;
     }
     let k = hash::bucket(h, table.buckets.len());
-    let mid = lo + (hi - lo) / 2;
+    let mid = x.lo + (x.hi - x.lo) / 2;
     let e = entry::entry_at(table, k, mid);
     if fields::hash(table.file, e) < h {
-        return Bounds { lo: mid + 1, hi };
+        return Bounds { lo: mid + 1, ..x };
     }
-    Bounds { lo, hi: mid }
-}
-
-// One round of the search of hash j. Whether something is left.
-fn advance(
-    table: &StringTable,
-    hashes: &[u32; 64],
-    low: &mut [usize; 64],
-    high: &mut [usize; 64],
-    j: usize,
-) -> bool
-    requires { Lengths hashes.now low.old high.old × (j < 64) × SearchingAt (lent_table table.now) hashes.now j (get_or low.old j 0) (get_or high.old j 0) }
-    ensures { Advanced (lent_table table.now) hashes.now j low.old high.old
-        low.new high.new }
-{
-    let x = halve(table, le::wide(hashes[j]), low[j], high[j]);
-    low[j] = x.lo;
-    high[j] = x.hi;
-    x.lo < x.hi
+    Bounds { hi: mid, ..x }
 }
 
 // Halves what is left of the searches of n hashes, side by side, until all are found.
-fn halve_all(
-    table: &StringTable,
-    hashes: &[u32; 64],
-    n: usize,
-    low: &mut [usize; 64],
-    high: &mut [usize; 64],
-)
-    requires { (n ≤ 64) × (length hashes.now ≡ 64) × AllSearching (lent_table table.now) hashes.now n low.old high.old }
-    ensures { AllSearching (lent_table table.now) hashes.now n low.new high.new }
+fn halve_all(table: &StringTable, hashes: &[u32; 64], n: usize, left: &mut [Bounds; 64])
+    requires { (n ≤ 64) × (length hashes.now ≡ 64) × AllSearching (lent_table table.now) hashes.now n left.old }
+    ensures { AllSearching (lent_table table.now) hashes.now n left.new }
 {
     for _ in 0..crate::MOST_ROUNDS {
         let mut more = false;
         for j in 0..n {
-            if advance(table, hashes, low, high, j) {
+            let x = halve(table, le::wide(hashes[j]), left[j]);
+            left[j] = x;
+            if x.lo < x.hi {
                 more = true;
             }
         }
@@ -70,13 +47,13 @@ fn halve_all(
 }
 
 // Where hash h stands in its bucket: what is left of the search is halved until nothing is.
-fn finish(table: &StringTable, h: usize, lo: usize, hi: usize) -> usize
-    requires { Searching (lent_table table.now) (bucket_of (length table.now.buckets.now) h) h lo hi }
+fn finish(table: &StringTable, h: usize, left: Bounds) -> usize
+    requires { Searching (lent_table table.now) (bucket_of (length table.now.buckets.now) h) h left }
     ensures { Near (lent_table table.now) (bucket_of (length table.now.buckets.now) h) h result }
 {
-    let mut x = Bounds { lo, hi };
+    let mut x = left;
     while x.lo < x.hi {
-        x = halve(table, h, x.lo, x.hi);
+        x = halve(table, h, x);
     }
     x.lo
 }
@@ -92,20 +69,16 @@ fn gather(hashes: &[u32; 64], which: &[usize; 64], m: usize, rest: &mut [u32; 64
 }
 
 // Begins the search of each of n hashes: its whole bucket is left.
-fn begin_each(
-    table: &StringTable,
-    hashes: &[u32; 64],
-    n: usize,
-    low: &mut [usize; 64],
-    high: &mut [usize; 64],
-)
-    requires { (n ≤ 64) × Lengths hashes.now low.old high.old }
-    ensures { AllSearching (lent_table table.now) hashes.now n low.new high.new }
+fn begin_each(table: &StringTable, hashes: &[u32; 64], n: usize, left: &mut [Bounds; 64])
+    requires { (n ≤ 64) × (length hashes.now ≡ 64) × (length left.old ≡ 64) }
+    ensures { AllSearching (lent_table table.now) hashes.now n left.new }
 {
     for j in 0..n {
         let k = hash::bucket(le::wide(hashes[j]), table.buckets.len());
-        low[j] = 0;
-        high[j] = entry::entry_count(table, k);
+        left[j] = Bounds {
+            lo: 0,
+            hi: entry::entry_count(table, k),
+        };
     }
 }
 
@@ -114,12 +87,11 @@ pub fn find_all(table: &StringTable, hashes: &[u32; 64], n: usize, low: &mut [us
     requires { (length hashes.now ≡ 64) × (n ≤ 64) × (length low.old ≡ 64) }
     ensures { AllNear (lent_table table.now) hashes.now n low.new }
 {
-    let mut lo = [0usize; 64];
-    let mut hi = [0usize; 64];
-    begin_each(table, hashes, n, &mut lo, &mut hi);
-    halve_all(table, hashes, n, &mut lo, &mut hi);
+    let mut left = [Bounds { lo: 0, hi: 0 }; 64];
+    begin_each(table, hashes, n, &mut left);
+    halve_all(table, hashes, n, &mut left);
     for j in 0..n {
-        low[j] = finish(table, le::wide(hashes[j]), lo[j], hi[j]);
+        low[j] = finish(table, le::wide(hashes[j]), left[j]);
     }
 }
 

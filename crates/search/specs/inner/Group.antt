@@ -1,7 +1,9 @@
 -- The places of many hashes.
-use Rattle.std.specs.Prelude.{ℕ, ◌+◌, ◌≤◌, ◌<◌, ◌≡◌, ◌⊎◌, List, length, get_or, set}
+use Rattle.std.specs.Prelude.{ℕ, ◌+◌, ◌≤◌, ◌<◌, ◌≡◌, ◌⊎◌, List, length, get_or}
 use Rattle.hash.specs.Hash.{bucket_of}
 use Rattle.layout.specs.Table.{Table}
+use Rattle.search.specs.declared.Bounds.{Bounds}
+use Rattle.search.specs.declared.group.Window.{Window}
 use Rattle.search.specs.inner.LowerBound.{LowerBound, Near, Searching}
 
 -- Each of the first n hashes stands at its place in its bucket, or would.
@@ -10,22 +12,13 @@ pub record LowerBounds (t : Table) (hashes : List ℕ) (n : ℕ) (low : List ℕ
   pub each : (j : ℕ) → j < n → LowerBound t (bucket_of t.buckets (get_or hashes j 0)) (get_or hashes j 0) (get_or low j 0)
 
 -- How far the search of hash j has come, in its bucket.
-abbrev pub SearchingAt : Table → List ℕ → ℕ → ℕ → ℕ → Type 0
-SearchingAt t hashes j lo hi = Searching t (bucket_of t.buckets (get_or hashes j 0)) (get_or hashes j 0) lo hi
-
--- That search goes on, the others stay as they are.
-pub record Advanced (t : Table) (hashes : List ℕ) (j : ℕ) (low high low' high' : List ℕ) : Type 0 where
-  pub lo : ℕ
-  pub hi : ℕ
-  pub low_is : low' ≡ set low j lo
-  pub high_is : high' ≡ set high j hi
-  pub searching : SearchingAt t hashes j lo hi
+abbrev pub SearchingAt : Table → List ℕ → ℕ → Bounds → Type 0
+SearchingAt t hashes j x = Searching t (bucket_of t.buckets (get_or hashes j 0)) (get_or hashes j 0) x
 
 -- How far the searches of the first n hashes have come.
-pub record AllSearching (t : Table) (hashes : List ℕ) (n : ℕ) (low high : List ℕ) : Type 0 where
-  pub lows : length low ≡ 64
-  pub highs : length high ≡ 64
-  pub each : (j : ℕ) → j < n → SearchingAt t hashes j (get_or low j 0) (get_or high j 0)
+pub record AllSearching (t : Table) (hashes : List ℕ) (n : ℕ) (left : List Bounds) : Type 0 where
+  pub long : length left ≡ 64
+  pub each : (j : ℕ) → j < n → SearchingAt t hashes j (get_or left j (record { lo = 0; hi = 0 }))
 
 -- The first m of a list are numbers below n.
 pub record ListedBelow (n m : ℕ) (xs : List ℕ) : Type 0 where
@@ -57,18 +50,17 @@ pub record Looked (t : Table) (hashes : List ℕ) (n : ℕ) (low which : List �
   pub fewer : m ≤ n
   pub each : (j : ℕ) → j < n → NearAt t hashes j (get_or low j 0) ⊎ ListedFrom which m i j
 
--- Four bytes of the file stand at each of the first n offsets.
-pub record Within (b : List ℕ) (n : ℕ) (at : List ℕ) : Type 0 where
-  pub long : length at ≡ 64
-  pub each : (j : ℕ) → j < n → get_or at j 0 + 4 ≤ length b
+-- Four bytes of the file stand where a window begins, and where its last entry does.
+abbrev pub Readable : List ℕ → Window → Type 0
+Readable b x = (x.first + 4 ≤ length b) × (x.last + 4 ≤ length b)
 
--- A estimate for each, and an offset to look at.
-pub record Estimated (b : List ℕ) (n : ℕ) (estimate at : List ℕ) : Type 0 where
-  pub estimates : length estimate ≡ 64
-  pub within : Within b n at
+-- So they do for the first n of the windows.
+pub record Within (b : List ℕ) (n : ℕ) (windows : List Window) : Type 0 where
+  pub long : length windows ≡ 64
+  pub each : (j : ℕ) → j < n → Readable b (get_or windows j (record { start = 0; first = 0; last = 0 }))
 
 -- Three arrays have the length of a group.
-pub record Lengths (a b c : List ℕ) : Type 0 where
+pub record Lengths {A B C : Type 0} (a : List A) (b : List B) (c : List C) : Type 0 where
   pub first : length a ≡ 64
   pub second : length b ≡ 64
   pub third : length c ≡ 64

@@ -4,6 +4,7 @@ use Rattle.std.specs.Prelude.{ℕ, zero, suc, ◌+◌, ◌-◌, ◌≤◌, ◌�
 use Rattle.laws.specs.Halving.{FirstNotBelow, halving, Rounds}
 use Rattle.laws.specs.inner.Halfway.{Halfway}
 use Rattle.layout.specs.Table.{Table, entries, hash_of}
+use Rattle.search.specs.declared.Bounds.{Bounds}
 
 -- r is the first entry of bucket k whose hash is not below h, or the bucket's end.
 abbrev pub LowerBound : Table → ℕ → ℕ → ℕ → Type 0
@@ -43,9 +44,9 @@ pub data Near (t : Table) (k h r : ℕ) : Type 0 where
       → Near t k h r
   halved : Halved t k h r → Near t k h r
 
--- How far the search of hash h in bucket k has come. What is left lies from lo on and before hi: nothing, where the entries that were read told
+-- How far the search of hash h in bucket k has come. What is left lies from x.lo on and before x.hi: nothing, where the entries that were read told
 -- where it stands; or what the halving of the bucket has come to.
-pub data Searching (t : Table) (k h lo hi : ℕ) : Type 0 where
-  told : hi ≤ lo → Near t k h lo → Searching t k h lo hi
+pub data Searching (t : Table) (k h : ℕ) (x : Bounds) : Type 0 where
+  told : x.hi ≤ x.lo → Near t k h x.lo → Searching t k h x
   going_on : (rounds left : ℕ) → Rounds (entries t k) rounds
-      → Halfway (hash_of t k) (entries t k) h (halving (hash_of t k) h rounds 0 (entries t k)) left lo hi → Searching t k h lo hi
+      → Halfway (hash_of t k) (entries t k) h (halving (hash_of t k) h rounds 0 (entries t k)) left x.lo x.hi → Searching t k h x

@@ -3,4 +3,4 @@ use lib.ListN.{length}
 use Rattle.search.proofs.group.probe.Given as goal
 
 abbrev pub invariant-loop-j : goal.invariant-loop-j
-invariant-loop-j l = length l.met ≡ 64
+invariant-loop-j g l = length l.met ≡ 64

@@ -6,7 +6,7 @@ use Rattle.search.proofs.group.probe_each.Goals.{then-is_none, else-is_none}
 pub loop-j-preserved : goal.loop-j-preserved
 loop-j-preserved c = let w = c.loop-j.invariant in
     let l = c.loop-j-test.true in
-    let n = c.requires.1 in
+    let n = c.requires.0 in
     elim c.if-is_none.branch [
       | then-is_none z ↦ rw z.m-is (looked_not _ _ _ _ _ _ w (omega (arith, l, n)) _)
       | else-is_none z ↦ rw z.m-is (looked_told _ _ _ _ _ _ w (omega (arith, l, n)) _ _ _ c.wide-h.ensures.0

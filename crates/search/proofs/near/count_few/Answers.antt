@@ -10,7 +10,7 @@ loop-i-init c = counting_start _ _
 
 pub loop-i-preserved : goal.loop-i-preserved
 loop-i-preserved c = let i = c.loop-i.invariant in
-    let x = few-read _ _ _ _ _ _ _ c.requires.2 c.min.ensures (hash_at _ _ _ _ _ c.entry_at-e.ensures.0 c.hash.ensures.0) in
+    let x = few-read _ _ _ _ _ _ _ c.requires.1 c.min.ensures (hash_at _ _ _ _ _ c.entry_at-e.ensures.0 c.hash.ensures.0) in
     elim c.if-hash-h.branch [
       | then-hash-h w ↦ rw w.c-is (counting_one _ _ _ _ i _ x w.if-hash-h.true)
       | else-hash-h w ↦ rw w.c-is (counting_other _ _ _ _ i _ x w.if-hash-h.false)

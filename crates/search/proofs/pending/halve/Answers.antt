@@ -5,10 +5,10 @@ use Rattle.search.proofs.pending.halve.Goals as goal
 
 pub returns-then-hash-h : goal.returns-then-hash-h
 returns-then-hash-h c = let h = hash_at _ _ _ _ _ c.entry_at-e.ensures.0 c.hash.ensures.0 in
-    let s = c.requires.1 in
-    halve_up _ _ _ _ _ _ c.bucket-k.ensures.0 s c.if-hi-lo.false _ _ refl h c.if-hash-h.true
+    let s = c.requires in
+    halve_up _ _ _ _ _ c.bucket-k.ensures.0 s c.if-x.false _ _ refl h c.if-hash-h.true
 
 pub returns : goal.returns
 returns c = let h = hash_at _ _ _ _ _ c.entry_at-e.ensures.0 c.hash.ensures.0 in
-    let s = c.requires.1 in
-    halve_down _ _ _ _ _ _ c.bucket-k.ensures.0 s c.if-hi-lo.false _ _ refl h c.if-hash-h.false
+    let s = c.requires in
+    halve_down _ _ _ _ _ c.bucket-k.ensures.0 s c.if-x.false _ _ refl h c.if-hash-h.false

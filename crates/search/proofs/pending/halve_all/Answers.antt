@@ -1,14 +1,9 @@
-use Rattle.search.proofs.Searches.{searches_on}
+use Rattle.search.proofs.Searches.{searching-of, searches_on}
 use native.Mathlib.Omega.{arith}
 use Rattle.search.proofs.pending.halve_all.Goals as goal
 
-pub advance-requires : goal.advance-requires
-advance-requires c = let p = c.requires in
-    let w = c.loop-j.invariant in
-    let l = c.loop-j-test.true in
-    (p.0, record { first = p.2; second = w.lows; third = w.highs }, omega (arith, l, p.1), w.each _ l)
+pub halve-x-requires : goal.halve-x-requires
+halve-x-requires c = searching-of _ _ _ _ c.wide.ensures.0 (c.loop-j.invariant.each _ c.loop-j-test.true)
 
 pub loop-j-preserved : goal.loop-j-preserved
-loop-j-preserved c = let p = c.requires in
-    let l = c.loop-j-test.true in
-    searches_on _ _ _ _ _ c.loop-j.invariant _ _ _ (omega (arith, l, p.1)) c.advance.ensures
+loop-j-preserved c = searches_on _ _ _ _ c.loop-j.invariant _ (omega (arith, c.loop-j-test.true, c.requires.0)) _ _ c.wide.ensures.0 c.halve-x.ensures.0

@@ -4,5 +4,5 @@ use Rattle.search.proofs.run.run_has.Goals as goal
 
 pub returns-then-hash-h : goal.returns-then-hash-h
 returns-then-hash-h c = let p = c.requires in
-    read_over _ _ _ _ _ _ _ c.loop-j.invariant p.2 p.1 c.loop-j-test.true _
+    read_over _ _ _ _ _ _ _ c.loop-j.invariant p.1 p.0 c.loop-j-test.true _
     (hash_at _ _ _ _ _ c.entry_at-e.ensures.0 c.hash.ensures.0) c.if-hash-h.true
