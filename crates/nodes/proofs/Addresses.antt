@@ -101,11 +101,8 @@ spot-fits b p seg el l g z =
     let s = spot_in _ _ _ _ (sym g ∙ z) in
     omega (arith, room_fits b p seg el l s.0, s.1, s.2)
 
-pub clean_entries : (ed : Edition) (b : List ℕ) (t : Table) → t ≡ values ed b → Clean (string_checks (values ed b)) → Clean (all_entry_checks t)
-clean_entries ed b t same ok = subst (λ (u : Table). Clean (all_entry_checks u)) (sym same) (strings_parts (values ed b) ok).0
-
 module _ (ed : Edition) (b : List ℕ) (q w y : ℕ) (e : w ≡ type_word b q) (f : y ≡ type_of w) where
-  module _ (three : y ≡ 3) (t : Table) (same : t ≡ values ed b) (ok : Clean (string_checks (values ed b))) where
+  module _ (three : y ≡ 3) (t : Table) (same : t ≡ values ed b) (ok : Clean (string_checks t)) where
     abbrev seg : ℕ
     seg = text_segment b q
 
@@ -113,7 +110,7 @@ module _ (ed : Edition) (b : List ℕ) (q w y : ℕ) (e : w ≡ type_word b q) (
     el = text_element b q
 
     passed : Clean (all_entry_checks t)
-    passed = clean_entries ed b t same ok
+    passed = (strings_parts t ok).0
 
     there : (P : Table → ℕ → ℕ → Type 0) → P t seg el → P (values ed b) seg el
     there P h = subst (λ (u : Table). P u seg el) same h

@@ -1,7 +1,7 @@
 // The fields of nodes and attributes (FORMAT, "Nodes", "Attributes"). Their offsets stand here and nowhere else.
 #![tactic(auto, unfolding(crate::specs::Node::node_name, crate::specs::Node::key_word, crate::specs::Node::attribute_field, crate::specs::Node::child_field, crate::specs::Node::attribute_segment, crate::specs::Node::attribute_element, crate::specs::Node::child_segment, crate::specs::Node::child_element, crate::specs::Attribute::attribute_name, crate::specs::Attribute::type_word, crate::specs::Attribute::value_word, crate::specs::Attribute::text_segment, crate::specs::Attribute::text_element,))]
 
-ghost use Rattle.std.specs.Prelude.{◌≡◌, ◌+◌, ◌≤◌, ◌<◌, ◌^◌, length};
+ghost use Rattle.std.specs.Prelude.{◌≡◌, ℕ, ◌+◌, ◌≤◌, ◌<◌, ◌^◌, length, get_or};
 ghost use Rattle.layout.specs.Edition.{attribute_size, node_size};
 ghost use Rattle.layout.specs.declared.Edition.TheVariants.{Bits64};
 ghost use Rattle.nodes.specs.Node.{node_name, key_word, attribute_field, child_field, attribute_segment, attribute_element, child_segment, child_element};
@@ -84,10 +84,10 @@ pub fn type_word(b: &[u8], q: usize) -> usize
     le::u16_at(b, q + 2)
 }
 
-// The value as one word.
+// The value as one word. Two texts' addresses are alike where their words are, since each byte is below 256.
 pub fn value_word(b: &[u8], q: usize) -> usize
     requires { q + attribute_size Bits64 ≤ length b.now }
-    ensures { (result ≡ value_word b.now q) × (result < 2 ^ 32) }
+    ensures { (result ≡ value_word b.now q) × (result < 2 ^ 32) × ((k : ℕ) → get_or b.now k 0 < 256) }
 {
     le::u32_at(b, q + 4)
 }

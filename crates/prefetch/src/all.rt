@@ -7,6 +7,7 @@ ghost use Rattle.memo.specs.inner.Memo.{Remembers};
 ghost use Rattle.layout.specs.Edition.{attribute_size};
 ghost use Rattle.layout.specs.Layout.{values};
 ghost use Rattle.layout.specs.declared.Edition.TheVariants.{Bits64};
+ghost use Rattle.strings.specs.inner.Lent.{lent_table};
 ghost use Rattle.positions.specs.inner.Packed.{Packed};
 ghost use Rattle.nodes.specs.inner.Doubts.{Trusted, AllTrusted, NoDoubt};
 ghost use Rattle.nodes.specs.Order.{all_node_checks};
@@ -71,7 +72,7 @@ fn examine_batch(
     doubts: &mut [u32; 4096],
     memo: &mut [u32; 3072],
 ) -> bool
-    requires batch { (length slots.now ≡ 64) × SlotsIn Bits64 values.now.checked.table.file.now slots.now n × (n ≤ 64) × Sure (Packed (values Bits64 values.now.checked.table.file.now)) packed × Remembers (noted values.now.checked.table.file.now) memo.old }
+    requires batch { (length slots.now ≡ 64) × SlotsIn Bits64 values.now.checked.table.file.now slots.now n × (n ≤ 64) × Sure (Packed (lent_table values.now.checked.table)) packed × Remembers (noted values.now.checked.table.file.now) memo.old }
     requires doubts_len { (length doubts.old ≡ 4096) × Sure (NoDoubt doubts.old) known }
     ensures answer { Sure (NoDoubt doubts.new) result }
     ensures doubts { Examined Bits64 values.now.checked.table.file.now slots.now n doubts.old doubts.new }
@@ -110,16 +111,7 @@ fn find_doubts(
         let mut el = 0;
         while el < used {
             let taken = slots::take_texts(b, at + SEGMENT_HEADER, el, used, &mut slots);
-            known = examine_batch(
-                prepared,
-                t,
-                packed,
-                &slots,
-                taken.count,
-                known,
-                doubts,
-                memo,
-            );
+            known = examine_batch(&values, t, packed, &slots, taken.count, known, doubts, memo);
             el = taken.next;
         }
         at = region::next_start(b, at, ATTRIBUTE_SIZE);

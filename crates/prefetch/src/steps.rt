@@ -11,7 +11,6 @@ ghost use Rattle.region.specs.inner.Samples.{Mapped, Starts};
 ghost use Rattle.text.specs.Text.{text_in};
 ghost use Rattle.memo.specs.inner.Memo.{Remembers};
 ghost use Rattle.layout.specs.Edition.{attribute_size};
-ghost use Rattle.layout.specs.Layout.{values};
 ghost use Rattle.layout.specs.declared.Edition.TheVariants.{Bits64};
 ghost use Rattle.strings.specs.Rules.{EntryAddress};
 ghost use Rattle.strings.specs.Order.{all_entry_checks};
@@ -28,7 +27,7 @@ use hash::HashTables;
 use nodes::{fields, long};
 use region::{Region, SAMPLES};
 use search::{group, run};
-use strings::checked::{CheckedTable, ValuesTable};
+use strings::checked::ValuesTable;
 use strings::{StringTable, ahead, spot};
 
 // Where the texts stand, and how many characters are left there.
@@ -199,7 +198,7 @@ pub fn batch_right(
     packed: bool,
     memo: &mut [u32; 3072],
 ) -> bool
-    requires { (length slots.now ≡ 64) × SlotsIn Bits64 values.now.checked.table.file.now slots.now n × (n ≤ 64) × Sure (Packed (values Bits64 values.now.checked.table.file.now)) packed × Remembers (noted values.now.checked.table.file.now) memo.old }
+    requires { (length slots.now ≡ 64) × SlotsIn Bits64 values.now.checked.table.file.now slots.now n × (n ≤ 64) × Sure (Packed (lent_table values.now.checked.table)) packed × Remembers (noted values.now.checked.table.file.now) memo.old }
     ensures answer { Sure (AllRight Bits64 values.now.checked.table.file.now slots.now n) result }
     ensures memo { Remembers (noted values.now.checked.table.file.now) memo.new }
 {

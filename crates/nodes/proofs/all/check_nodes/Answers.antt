@@ -27,40 +27,42 @@ stops (Ok x) e = absurd (cc)
 stops (Err x) e = (x, refl)
 
 -- the segment that a turn is at lies in the file
-turn : (c : In-segments) → let b = c.args.b.now in let at = c.segments.at in at + 8 + u32_at b at * node_size Bits64 ≤ length b
-turn c = segment-fits (node_size Bits64) _ _ c.requires.1.placed.nodes _ _ c.segments-test.true c.segments.invariant.at_is
+turn : (c : In-segments) → let b = c.args.prepared.now.file.now in let at = c.segments.at in at + 8 + u32_at b at * node_size Bits64 ≤ length b
+turn c = segment-fits (node_size Bits64) _ _ c.args.prepared.now.ready.placed.nodes _ _ c.segments-test.true c.segments.invariant.at_is
 
 -- the node that a turn is at
-here : (c : In-loop-el) → let b = c.args.b.now in Resolves (node_size Bits64) b (nodes_at Bits64 b) c.segments.seg c.loop-el.el
-here c = node_in Bits64 _ _ c.requires.1.placed.nodes _ _ c.segments-test.true c.segments.invariant.at_is _ _ c.used_count-el-end.ensures.0 c.loop-el-test.true
+here : (c : In-loop-el) → let b = c.args.prepared.now.file.now in Resolves (node_size Bits64) b (nodes_at Bits64 b) c.segments.seg c.loop-el.el
+here c = node_in Bits64 _ _ c.args.prepared.now.ready.placed.nodes _ _ c.segments-test.true c.segments.invariant.at_is _ _ c.used_count-el-end.ensures.0 c.loop-el-test.true
 
 pub returns-then-nodes-eq0-clause-answer : goal.returns-then-nodes-eq0-clause-answer
-returns-then-nodes-eq0-clause-answer c = no_segment Bits64 _ _ c.requires.1.placed.nodes c.if-nodes-eq0.true
+returns-then-nodes-eq0-clause-answer c = no_segment Bits64 _ _ c.args.prepared.now.ready.placed.nodes c.if-nodes-eq0.true
 
 pub used_count-requires : goal.used_count-requires
-used_count-requires c = let w = c.requires.1.placed.nodes in
+used_count-requires c = let w = c.args.prepared.now.ready.placed.nodes in
     omega (arith, segment-fits (node_size Bits64) _ _ w 0 _ (omega (arith, c.if-nodes-eq0.false)) (first-at Bits64 _ _ w _ c.first_start-at.ensures))
 
 pub returns-then-used_count-eq0-clause-answer : goal.returns-then-used_count-eq0-clause-answer
-returns-then-used_count-eq0-clause-answer c = no_node Bits64 _ _ c.requires.1.placed.nodes _ _ c.first_start-at.ensures c.used_count.ensures.0 c.if-used_count-eq0.true
+returns-then-used_count-eq0-clause-answer c = no_node Bits64 _ _ c.args.prepared.now.ready.placed.nodes _ _ c.first_start-at.ensures c.used_count.ensures.0 c.if-used_count-eq0.true
 
 pub segments-init : goal.segments-init
-segments-init c = let w = c.requires.1.placed.nodes in
+segments-init c = let w = c.args.prepared.now.ready.placed.nodes in
     let e = c.first_start-at.ensures in
     record {
       at_is = first-at Bits64 _ _ w _ e;
       none = refl;
       left = nodes_start Bits64 _ _ w _ _ e c.used_count.ensures.0 c.if-nodes-eq0.false c.if-used_count-eq0.false;
-      memo = c.requires.4;
+      memo = c.requires.2;
     }
 
 pub loop-el-init : goal.loop-el-init
 loop-el-init c = let i = c.segments.invariant in
-    record { none = i.none; left = i.left ∙ left_open _ _ _ _ (omega (arith, c.segments-test.true, c.requires.1.placed.nodes.count_is)); memo = i.memo }
+    record { none = i.none; left = i.left ∙ left_open _ _ _ _ (omega (arith, c.segments-test.true, c.args.prepared.now.ready.placed.nodes.count_is)); memo = i.memo }
 
 pub check_node-answer-requires : goal.check_node-answer-requires
-check_node-answer-requires c = let p = c.requires in
-    (p.0, p.1, here (goal.at.check_node-answer-requires c).In-loop-el, node-place Bits64 _ _ _ _ c.segments.invariant.at_is, p.2, p.3, c.loop-el.invariant.memo)
+check_node-answer-requires c = record {
+  node = (here (goal.at.check_node-answer-requires c).In-loop-el, node-place Bits64 _ _ _ _ c.segments.invariant.at_is);
+  doubts = (c.requires.0, c.requires.1, c.loop-el.invariant.memo);
+}
 
 pub loop-el-preserved : goal.loop-el-preserved
 loop-el-preserved c = let w = c.check_node-answer.ensures in
@@ -82,7 +84,7 @@ segments-preserved c = let q = c.segments.invariant.at_is in
 
 pub returns-after-segments-clause-answer : goal.returns-after-segments-clause-answer
 returns-after-segments-clause-answer c = let i = c.segments.invariant in
-    i.none ∙ sym (i.left ∙ left_none _ _ _ _ (omega (arith, c.segments-test.false, c.requires.1.placed.nodes.count_is)))
+    i.none ∙ sym (i.left ∙ left_none _ _ _ _ (omega (arith, c.segments-test.false, c.args.prepared.now.ready.placed.nodes.count_is)))
 
 pub returns-then-is_err-clause-answer : goal.returns-then-is_err-clause-answer
 returns-then-is_err-clause-answer c = let w = c.check_node-answer.ensures in

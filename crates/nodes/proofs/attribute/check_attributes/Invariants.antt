@@ -8,4 +8,4 @@ use Rattle.nodes.proofs.Attributes.{attributes_left}
 use Rattle.nodes.proofs.attribute.check_attributes.Given as goal
 
 abbrev pub invariant-loop-i : goal.invariant-loop-i
-invariant-loop-i l = (first_fault (node_attribute_checks Bits64 l.b l.p) ≡ attributes_left Bits64 l.b l.p l.i) × Remembers (noted l.b) l.memo
+invariant-loop-i l = (first_fault (node_attribute_checks Bits64 l.values.checked.table.file.now l.p) ≡ attributes_left Bits64 l.values.checked.table.file.now l.p l.i) × Remembers (noted l.values.checked.table.file.now) l.memo

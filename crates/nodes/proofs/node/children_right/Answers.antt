@@ -9,19 +9,20 @@ use Rattle.nodes.proofs.Ways.{child-count}
 use Rattle.nodes.proofs.node.children_right.Goals as goal
 use Rattle.nodes.proofs.node.children_right.Goals.{After-child_field-n, After-range_at-r}
 
-count : (c : After-child_field-n) → let a = c.args in c.child_field-n.result ≡ child_count a.b.now a.p
-count c = child-count _ _ c.requires.node_size_in_bounds.1 _ c.child_field-n.ensures.0
+count : (c : After-child_field-n) → c.child_field-n.result ≡ child_count c.args.prepared.now.file.now c.args.p
+count c = child-count _ _ c.requires.1 _ c.child_field-n.ensures.0
 
 range : (c : After-range_at-r)
-    → let a = c.args in
-    c.range_at-r.result ≡ range_at (node_size Bits64) a.b.now (nodes_at Bits64 a.b.now) (child_segment Bits64 a.b.now a.p) (child_element Bits64 a.b.now a.p) c.child_field-n.result
-range c = children_sought Bits64 _ _ _ _ c.requires.mapped.0 _ _ c.child_segment.ensures.0 c.child_element.ensures.0 _ c.range_at-r.ensures
+    → let b = c.args.prepared.now.file.now in
+    let p = c.args.p in
+    c.range_at-r.result ≡ range_at (node_size Bits64) b (nodes_at Bits64 b) (child_segment Bits64 b p) (child_element Bits64 b p) c.child_field-n.result
+range c = children_sought Bits64 _ _ _ _ c.args.prepared.now.ready.placed.nodes _ _ c.child_segment.ensures.0 c.child_element.ensures.0 _ c.range_at-r.ensures
 
 pub returns-then-n-eq0 : goal.returns-then-n-eq0
 returns-then-n-eq0 c = children-none Bits64 _ _ _ (count (goal.at.returns-then-n-eq0 c).After-child_field-n) c.if-n-eq0.true
 
 pub rising-requires : goal.rising-requires
-rising-requires c = children_fit Bits64 _ _ _ (count (goal.at.rising-requires c).After-child_field-n) _ (range (goal.at.rising-requires c).After-range_at-r) _ c.in-Some.is c.requires.mapped.0.laid
+rising-requires c = children_fit Bits64 _ _ _ (count (goal.at.rising-requires c).After-child_field-n) _ (range (goal.at.rising-requires c).After-range_at-r) _ c.in-Some.is c.args.prepared.now.ready.placed.nodes.laid
 
 pub returns : goal.returns
 returns c = children-told Bits64 _ _ _ (count (goal.at.returns c).After-child_field-n) _ (range (goal.at.returns c).After-range_at-r) _ c.in-Some.is _ c.rising.ensures

@@ -7,4 +7,4 @@ use Rattle.layout.specs.declared.Edition.TheVariants.{Bits64}
 use Rattle.prefetch.proofs.all.doubt_wrong.Given as goal
 
 abbrev pub invariant-loop-j : goal.invariant-loop-j
-invariant-loop-j l = (length l.doubts ≡ 4096) × Examined Bits64 l.b l.slots l.j l.initial.doubts l.doubts × Remembers (noted l.b) l.memo
+invariant-loop-j l = (length l.doubts ≡ 4096) × Examined Bits64 l.values.checked.table.file.now l.slots l.j l.initial.doubts l.doubts × Remembers (noted l.values.checked.table.file.now) l.memo

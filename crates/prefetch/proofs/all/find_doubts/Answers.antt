@@ -3,33 +3,41 @@ use Rattle.region.proofs.Samples.{start_more, used-at}
 use Rattle.prefetch.proofs.Rights.{rows_start, segment_in, row_in, rows_none, rows_still, rows_more}
 use Rattle.prefetch.proofs.Doubting.{still}
 use Prim.Native.Nat.{◌+◌, ◌*◌, ◌≤◌}
-use mathlib.Core.Path.{refl, ◌∙◌}
+use mathlib.Core.Path.{refl, ap, sym, subst, ◌∙◌}
 use lib.ListN.{length}
 use Rattle.layout.specs.Edition.{attribute_size}
 use Rattle.layout.specs.declared.Edition.TheVariants.{Bits64}
+use Rattle.layout.specs.Layout.{values}
+use Rattle.positions.specs.inner.Packed.{Packed}
 use Rattle.prefetch.proofs.Taking.{passed_trusted}
 use native.Mathlib.Omega.{arith}
 use Rattle.prefetch.proofs.all.find_doubts.Goals as goal
 use Rattle.prefetch.proofs.all.find_doubts.Goals.{After-used_count-used, In-loop-seg}
 
 -- the segment that a turn is at lies in the file, and so does its used part
-turn : (c : In-loop-seg) → let at = c.loop-seg.at in at + 8 + u32_at c.args.b.now at * attribute_size Bits64 ≤ length c.args.b.now
-turn c = segment_in Bits64 _ c.requires.tables.5 _ _ c.loop-seg-test.true c.loop-seg.invariant.0
+turn : (c : In-loop-seg) → let at = c.loop-seg.at in at + 8 + u32_at c.args.prepared.now.file.now at * attribute_size Bits64 ≤ length c.args.prepared.now.file.now
+turn c = segment_in Bits64 _ c.args.prepared.now.ready.placed.attributes _ _ c.loop-seg-test.true c.loop-seg.invariant.0
 
-row : (c : After-used_count-used) → c.loop-seg.at + 8 + c.used_count-used.result * attribute_size Bits64 ≤ length c.args.b.now
-row c = row_in Bits64 _ c.requires.tables.5 _ _ c.loop-seg-test.true c.loop-seg.invariant.0 _ c.used_count-used.ensures.0
+row : (c : After-used_count-used) → c.loop-seg.at + 8 + c.used_count-used.result * attribute_size Bits64 ≤ length c.args.prepared.now.file.now
+row c = row_in Bits64 _ c.args.prepared.now.ready.placed.attributes _ _ c.loop-seg-test.true c.loop-seg.invariant.0 _ c.used_count-used.ensures.0
 
 pub loop-seg-init : goal.loop-seg-init
-loop-seg-init c = (rows_start Bits64 _ c.requires.tables.5 _ c.first_start-at.ensures, refl, c.requires.doubts_len.0, λ z. c.requires.doubts_len.1, rows_none Bits64 _ _, c.requires.tables.6)
+loop-seg-init c = (rows_start Bits64 _ c.args.prepared.now.ready.placed.attributes _ c.first_start-at.ensures, refl, c.requires.doubts_len.0, λ z. c.requires.doubts_len.1, rows_none Bits64 _ _, c.requires.batch.1)
 
 pub take_texts-taken-requires : goal.take_texts-taken-requires
-take_texts-taken-requires c = (row (goal.at.take_texts-taken-requires c).After-used_count-used, omega (arith, c.requires.tables.1.small), c.loop-el.invariant.0, c.loop-el.invariant.1)
+take_texts-taken-requires c = (row (goal.at.take_texts-taken-requires c).After-used_count-used, omega (arith, c.args.prepared.now.ready.strings.small), c.loop-el.invariant.0, c.loop-el.invariant.1)
+
+pub examine_batch-known-requires-clause-batch : goal.examine_batch-known-requires-clause-batch
+examine_batch-known-requires-clause-batch c = let t = c.take_texts-taken.ensures in
+    let e = c.values-values.ensures in
+    let v = c.values-values.result.of_file ∙ ap (values Bits64) e in
+    (t.slotted.long, rw e t.slotted.within, t.slotted.few, λ z. subst Packed (sym v) (c.requires.batch.0 z), rw e c.loop-el.invariant.6)
 
 pub loop-el-preserved : goal.loop-el-preserved
 loop-el-preserved c = let t = c.take_texts-taken.ensures in
     let i = c.loop-el.invariant in
-    let d = c.examine_batch-known.ensures.doubts in
-    (t.upto, t.slotted.long, d.kept.long ∙ i.2, c.examine_batch-known.ensures.answer, rows_still Bits64 _ _ _ _ d.kept i.4, passed_trusted Bits64 _ _ _ _ _ _ _ t.slotted d.each (λ n l. still d.kept (i.5 n l)), c.examine_batch-known.ensures.memo)
+    let d = rw c.values-values.ensures at c.examine_batch-known.ensures.doubts in
+    (t.upto, t.slotted.long, d.kept.long ∙ i.2, c.examine_batch-known.ensures.answer, rows_still Bits64 _ _ _ _ d.kept i.4, passed_trusted Bits64 _ _ _ _ _ _ _ t.slotted d.each (λ n l. still d.kept (i.5 n l)), rw c.values-values.ensures at c.examine_batch-known.ensures.memo)
 
 pub next_start-at-requires : goal.next_start-at-requires
 next_start-at-requires c = turn (goal.at.next_start-at-requires c).In-loop-seg

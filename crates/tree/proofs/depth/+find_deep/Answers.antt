@@ -12,25 +12,26 @@ use Rattle.tree.proofs.depth.+find_deep.Goals as goal
 use Rattle.tree.proofs.depth.+find_deep.Goals.{In-loop-j, After-node_name, then-node_name-ne0+in_default, else-node_name-ne0}
 
 pub returns-then-left-eq0 : goal.returns-then-left-eq0
-returns-then-left-eq0 t c = ap Some c.requires.2 ∙ sym (deep_here Bits64 _ _ _ c.if-left-eq0.true)
+returns-then-left-eq0 t c = ap Some c.requires.1 ∙ sym (deep_here Bits64 _ _ _ c.if-left-eq0.true)
 
 pub children_of-k-requires : goal.children_of-k-requires
-children_of-k-requires t c = let p = c.requires in
-    (p.0, node_reached p.0 _ _ p.1 p.2, node-fits p.0 _ _ p.1 p.2)
+children_of-k-requires t c = let y = c.args.nodes.now.ready in
+    let p = c.requires in
+    (node_reached y _ _ p.0 p.1, node-fits y _ _ p.0 p.1)
 
 pub loop-j-init : goal.loop-j-init
 loop-j-init t c = let k = c.children_of-k.ensures in
-    deep_open Bits64 _ _ _ _ _ c.if-left-eq0.false (first_is _ c.requires.2 k) (count_is _ c.requires.2 k)
+    deep_open Bits64 _ _ _ _ _ c.if-left-eq0.false (first_is _ c.requires.1 k) (count_is _ c.requires.1 k)
 
 -- the child lies in the file
 child : (t : ℕ) (c : In-loop-j t)
-    → c.children_of-k.result.place + c.loop-j.j * node_size Bits64 + node_size Bits64 ≤ length c.args.b.now
-child t c = child_fits c.requires.0 c.children_of-k.ensures c.loop-j.j (omega arith)
+    → c.children_of-k.result.place + c.loop-j.j * node_size Bits64 + node_size Bits64 ≤ length c.args.nodes.now.file.now
+child t c = child_fits c.args.nodes.now.ready c.children_of-k.ensures c.loop-j.j (omega arith)
 
 -- the name read is the child's
 named : (t : ℕ) (c : After-node_name t)
-    → c.node_name.result ≡ (tree_of Bits64 c.args.b.now).name (c.children_of-k.result.first + c.loop-j.j)
-named t c = child-name c.requires.0 c.children_of-k.ensures c.loop-j.j (omega arith) c.node_name.ensures.0
+    → c.node_name.result ≡ (tree_of Bits64 c.args.nodes.now.file.now).name (c.children_of-k.result.first + c.loop-j.j)
+named t c = child-name c.args.nodes.now.ready c.children_of-k.ensures c.loop-j.j (omega arith) c.node_name.ensures.0
 
 pub overflow_add-c : goal.overflow_add-c
 overflow_add-c t c = record { fits = omega (arith, child t (goal.at.overflow_add-c t c).In-loop-j) }

@@ -11,4 +11,4 @@ abbrev pub decreases-find_deep : goal.decreases-find_deep
 decreases-find_deep l = l.left
 
 abbrev pub invariant-loop-j : goal.invariant-loop-j
-invariant-loop-j l = first_place Bits64 l.b (ends (tree_of Bits64 l.b) l.left l.a) ≡ deep_from Bits64 l.b (l.left - 1) (l.k.first + l.j) (l.k.count - l.j)
+invariant-loop-j l = first_place Bits64 l.nodes.file.now (ends (tree_of Bits64 l.nodes.file.now) l.left l.a) ≡ deep_from Bits64 l.nodes.file.now (l.left - 1) (l.k.first + l.j) (l.k.count - l.j)

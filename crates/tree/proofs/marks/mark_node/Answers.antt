@@ -13,16 +13,16 @@ use Rattle.tree.proofs.marks.mark_node.Goals as goal
 use Rattle.tree.proofs.marks.mark_node.Goals.{After-child_field-n, After-number-i}
 
 -- what the code has read: the child count and the first child's number
-counted : (c : After-child_field-n) → c.child_field-n.result ≡ child_count c.args.b.now c.args.p
+counted : (c : After-child_field-n) → c.child_field-n.result ≡ child_count c.args.nodes.now.file.now c.args.p
 counted c = child-count _ _ (live-node _ _ _ c.node_name.ensures.0 c.if-node_name-eq0.false) _ c.child_field-n.ensures.0
 
-numbered : (c : After-number-i) → c.number-i.result ≡ first_number Bits64 c.args.b.now c.args.p
+numbered : (c : After-number-i) → c.number-i.result ≡ first_number Bits64 c.args.nodes.now.file.now c.args.p
 numbered c =
-    first-number Bits64 _ _ _ _ _ _ c.requires.tree_ready.0.nodes.at_is c.child_segment.ensures.0 c.child_element.ensures.0 c.number-i.ensures
+    first-number Bits64 _ _ _ _ _ _ c.args.nodes.now.ready.nodes.at_is c.child_segment.ensures.0 c.child_element.ensures.0 c.number-i.ensures
 
 -- the range lies in the workspace
-fits : (c : After-number-i) → c.child_field-n.result ≡ child_count c.args.b.now c.args.p → c.number-i.result + c.child_field-n.result ≤ length c.args.ws.now
-fits c k = range_there Bits64 c.args.b.now c.args.p _ _ c.args.ws.now (numbered c) k c.if-n-eq0.false c.requires.reached c.requires.tree_ready.3
+fits : (c : After-number-i) → c.child_field-n.result ≡ child_count c.args.nodes.now.file.now c.args.p → c.number-i.result + c.child_field-n.result ≤ length c.args.ws.now
+fits c k = range_there Bits64 c.args.nodes.now.file.now c.args.p _ _ c.args.ws.now (numbered c) k c.if-n-eq0.false c.requires.reached c.requires.within.2
 
 pub returns-then-node_name-eq0 : goal.returns-then-node_name-eq0
 returns-then-node_name-eq0 c = marked-none Bits64 _ _ _ (nameless_children _ _ (sym c.node_name.ensures.0 ∙ c.if-node_name-eq0.true))
@@ -31,8 +31,8 @@ pub returns-then-n-eq0 : goal.returns-then-n-eq0
 returns-then-n-eq0 c = marked-none Bits64 _ _ _ (sym (counted (goal.at.returns-then-n-eq0 c).After-child_field-n) ∙ c.if-n-eq0.true)
 
 pub number-i-requires-clause-seg_lt_count : goal.number-i-requires-clause-seg_lt_count
-number-i-requires-clause-seg_lt_count c = let seg = segment_there Bits64 c.args.b.now c.args.p _ _ (counted (goal.at.number-i-requires-clause-seg_lt_count c).After-child_field-n) c.child_segment.ensures.0 c.if-n-eq0.false c.requires.reached in
-    (omega (arith, c.requires.tree_ready.0.nodes.count_is), search rules)
+number-i-requires-clause-seg_lt_count c = let seg = segment_there Bits64 c.args.nodes.now.file.now c.args.p _ _ (counted (goal.at.number-i-requires-clause-seg_lt_count c).After-child_field-n) c.child_segment.ensures.0 c.if-n-eq0.false c.requires.reached in
+    (omega (arith, c.args.nodes.now.ready.nodes.count_is), search rules)
 
 pub range_free-requires : goal.range_free-requires
 range_free-requires c = let p = fits (goal.at.range_free-requires c).After-number-i (counted (goal.at.range_free-requires c).After-child_field-n) in (omega (arith, c.if-n-eq0.false), p)

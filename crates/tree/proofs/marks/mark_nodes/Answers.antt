@@ -18,23 +18,23 @@ use Rattle.tree.proofs.marks.mark_nodes.Goals as goal
 use Rattle.tree.proofs.marks.mark_nodes.Goals.{Start, In-loop-el, In-segments}
 
 -- the cleared workspace has room for the used nodes
-room : (c : Start) → used_node_count Bits64 c.args.b.now ≤ length (cleared Bits64 c.args.b.now c.args.ws.now)
-room c = cleared-room Bits64 c.args.b.now c.args.ws.now c.requires.3
+room : (c : Start) → used_node_count Bits64 c.args.nodes.now.file.now ≤ length (cleared Bits64 c.args.nodes.now.file.now c.args.ws.now)
+room c = cleared-room Bits64 c.args.nodes.now.file.now c.args.ws.now c.requires.2
 
 -- the code is in a segment
-here : (c : In-segments) → Inside Bits64 c.args.b.now c.segments.seg c.segments.at
-here c = inside Bits64 c.args.b.now c.requires.0.nodes _ _ c.segments-test.true c.segments.invariant.segment.at_is
+here : (c : In-segments) → Inside Bits64 c.args.nodes.now.file.now c.segments.seg c.segments.at
+here c = inside Bits64 c.args.nodes.now.file.now c.args.nodes.now.ready.nodes _ _ c.segments-test.true c.segments.invariant.segment.at_is
 
 -- the code is at a node
-there : (c : In-loop-el) → Resolves (node_size Bits64) c.args.b.now (nodes_at Bits64 c.args.b.now) c.segments.seg c.loop-el.el
+there : (c : In-loop-el) → Resolves (node_size Bits64) c.args.nodes.now.file.now (nodes_at Bits64 c.args.nodes.now.file.now) c.segments.seg c.loop-el.el
 there c =
-    let s = inside Bits64 c.args.b.now c.requires.0.nodes _ _ c.segments-test.true c.segments.invariant.segment.at_is in
+    let s = inside Bits64 c.args.nodes.now.file.now c.args.nodes.now.ready.nodes _ _ c.segments-test.true c.segments.invariant.segment.at_is in
     record { seg_in = s.seg_in; el_in = omega (arith, c.loop-el-test.true, c.used_count-el-end.ensures.0, s.used) }
 
 pub segments-init : goal.segments-init
 segments-init c = record {
   none = refl;
-  segment = pass_start Bits64 c.args.b.now c.args.ws.now _ _ _ c.requires.3 c.first_start-at.ensures c.requires.0.nodes.at_is (cleared_by Bits64 c.args.b.now c.args.ws.now c.args.used c.fill.new.self c.requires.2 (search rules));
+  segment = pass_start Bits64 c.args.nodes.now.file.now c.args.ws.now _ _ _ c.requires.2 c.first_start-at.ensures c.args.nodes.now.ready.nodes.at_is (cleared_by Bits64 c.args.nodes.now.file.now c.args.ws.now c.args.used c.fill.new.self c.requires.1 (search rules));
 }
 
 pub loop-el-init : goal.loop-el-init
@@ -45,20 +45,19 @@ pub mark_node-requires : goal.mark_node-requires
 mark_node-requires c = let k = there (goal.at.mark_node-requires c).In-loop-el in
     let p = node-place Bits64 _ _ _ c.loop-el.el c.segments.invariant.segment.at_is in
     record {
-      tree_ready = (
+      within = (
         c.requires.0,
-        c.requires.1,
-        node-fits Bits64 _ _ _ _ c.requires.0.laid.nodes k p,
+        node-fits Bits64 _ _ _ _ c.args.nodes.now.ready.laid.nodes k p,
         omega (arith, room (goal.at.mark_node-requires c).Start, c.loop-el.invariant.node.marks.long),
       );
-      reached = rw p ((rules-hold c.requires.0).each _ _ k).children.reach;
+      reached = rw p ((rules-hold c.args.nodes.now.ready).each _ _ k).children.reach;
     }
 
 pub loop-el-preserved : goal.loop-el-preserved
 loop-el-preserved c = let i = c.loop-el.invariant in
     record {
       none = i.none;
-      node = pass_node Bits64 _ _ (room (goal.at.loop-el-preserved c).Start) c.requires.0.laid.nodes (rules-hold c.requires.0) _ _ _ (there (goal.at.loop-el-preserved c).In-loop-el)
+      node = pass_node Bits64 _ _ (room (goal.at.loop-el-preserved c).Start) c.args.nodes.now.ready.laid.nodes (rules-hold c.args.nodes.now.ready) _ _ _ (there (goal.at.loop-el-preserved c).In-loop-el)
           (node-place Bits64 _ _ _ _ c.segments.invariant.segment.at_is) _ _ _ c.mark_node.ensures i.node c.if-not-mark_node.false;
     }
 
@@ -70,18 +69,18 @@ segments-preserved c = let s = here (goal.at.segments-preserved c).In-segments i
     let i = c.loop-el.invariant in
     record {
       none = i.none;
-      segment = pass_next Bits64 _ _ (room (goal.at.segments-preserved c).Start) c.requires.0.laid.nodes _ _ _ _ _ _ c.next_start-at.ensures s.seg_in
+      segment = pass_next Bits64 _ _ (room (goal.at.segments-preserved c).Start) c.args.nodes.now.ready.laid.nodes _ _ _ _ _ _ c.next_start-at.ensures s.seg_in
           (omega (arith, c.loop-el-test.false, c.used_count-el-end.ensures.0, s.used)) c.segments.invariant.segment i.node;
     }
 
 pub returns-then-not-mark_node : goal.returns-then-not-mark_node
 returns-then-not-mark_node c = let long = room (goal.at.returns-then-not-mark_node c).Start in
     let fits : c.args.used ≤ length c.mark_node.new.ws = omega (arith, c.loop-el.invariant.node.marks.long) in
-    let e = pass_stop Bits64 c.args.b.now c.args.ws.now long c.requires.0.laid.nodes (rules-hold c.requires.0) _ _ _ (there (goal.at.returns-then-not-mark_node c).In-loop-el)
-    (node-place Bits64 _ _ _ _ c.segments.invariant.segment.at_is) _ _ _ c.mark_node.ensures c.loop-el.invariant.node _ c.if-not-mark_node.true (cleared_by Bits64 _ _ _ _ c.requires.2 (search rules)) in
+    let e = pass_stop Bits64 c.args.nodes.now.file.now c.args.ws.now long c.args.nodes.now.ready.laid.nodes (rules-hold c.args.nodes.now.ready) _ _ _ (there (goal.at.returns-then-not-mark_node c).In-loop-el)
+    (node-place Bits64 _ _ _ _ c.segments.invariant.segment.at_is) _ _ _ c.mark_node.ensures c.loop-el.invariant.node _ c.if-not-mark_node.true (cleared_by Bits64 _ _ _ _ c.requires.1 (search rules)) in
     record { answer = e.0; workspace = e.1 }
 
 pub returns-after-segments : goal.returns-after-segments
 returns-after-segments c = let i = c.segments.invariant in
-    let e = pass_end Bits64 c.args.b.now c.args.ws.now (room (goal.at.returns-after-segments c).Start) c.requires.0.laid.nodes _ _ _ (omega (arith, c.segments-test.false, c.requires.0.nodes.count_is)) i.segment in
+    let e = pass_end Bits64 c.args.nodes.now.file.now c.args.ws.now (room (goal.at.returns-after-segments c).Start) c.args.nodes.now.ready.laid.nodes _ _ _ (omega (arith, c.segments-test.false, c.args.nodes.now.ready.nodes.count_is)) i.segment in
     record { answer = rw i.none e.0; workspace = e.1 }

@@ -6,7 +6,7 @@ use Rattle.tree.proofs.Passing.{AtSegment, AtNode}
 use Rattle.tree.proofs.marks.mark_nodes.Given as goal
 
 abbrev pub invariant-loop-el : goal.invariant-loop-el
-invariant-loop-el l = record { none : l.answer ≡ Ok tt; node : AtNode Bits64 l.b (cleared Bits64 l.b l.fn.ws) l.seg l.el l.ws }
+invariant-loop-el l = record { none : l.answer ≡ Ok tt; node : AtNode Bits64 l.nodes.file.now (cleared Bits64 l.nodes.file.now l.fn.ws) l.seg l.el l.ws }
 
 abbrev pub invariant-segments : goal.invariant-segments
-invariant-segments l = record { none : l.answer ≡ Ok tt; segment : AtSegment Bits64 l.b (cleared Bits64 l.b l.fn.ws) l.seg l.at l.ws }
+invariant-segments l = record { none : l.answer ≡ Ok tt; segment : AtSegment Bits64 l.nodes.file.now (cleared Bits64 l.nodes.file.now l.fn.ws) l.seg l.at l.ws }
