@@ -85,7 +85,7 @@ fn unborne(q: &[u8], p: usize, n: usize, count: usize) -> Lookup
 // The entry that bears the n characters at p of what is asked, whose hash is h: from `low` on, the first entry of its bucket whose hash
 // is not below h. Among equal hashes all are read. Where none bears the text, these are all entries of the table with the hash.
 fn find_entry(checked: &CheckedTable, h: usize, low: usize, q: &[u8], p: usize, n: usize) -> Lookup
-    requires n_in_bounds { (p + 2 * n ≤ length q.now) × (h ≡ hash_text (chars q.now p n))
+    requires { (p + 2 * n ≤ length q.now) × (h ≡ hash_text (chars q.now p n))
         × LowerBound (lent_table checked.now.table) (bucket_of (length checked.now.table.buckets.now) h) h low }
     ensures { result ≡ entry_of_text (lent_table checked.now.table) (chars q.now p n) }
 {
@@ -125,7 +125,7 @@ pub(crate) fn find_from(
     p: usize,
     n: usize,
 ) -> Lookup
-    requires n_in_bounds { (p + 2 * n ≤ length q.now) × (h ≡ hash_text (chars q.now p n))
+    requires { (p + 2 * n ≤ length q.now) × (h ≡ hash_text (chars q.now p n))
         × LowerBound (lent_table checked.now.table) (bucket_of (length checked.now.table.buckets.now) h) h low }
     ensures { result ≡ told_in kind (lent_table checked.now.table) (chars q.now p n) }
 {

@@ -6,4 +6,4 @@ pub alike-requires : goal.alike-requires
 alike-requires c = let e = rw c.in-Some.is at c.requires.picked_entry in (omega (arith, e.ends, e.fits), c.requires.n_in_bounds.0)
 
 pub returns : goal.returns
-returns c = told_there _ _ _ c.requires.held.1 (rw c.in-Some.is at c.requires.picked_entry) (c.alike.ensures.so c.if-alike.true)
+returns c = told_there _ _ _ c.args.checked.now.checked (rw c.in-Some.is at c.requires.picked_entry) (c.alike.ensures.so c.if-alike.true)
