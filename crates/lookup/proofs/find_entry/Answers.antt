@@ -12,7 +12,7 @@ inside c = omega (arith, c.loop-j-test.true)
 
 pub loop-j-init : goal.loop-j-init
 loop-j-init c = let k = c.bucket-k.ensures in
-    searched_start _ _ _ _ _ _ c.args.checked.now.checked c.requires.1 k.0 k.1 c.entry_count-m.ensures c.requires.2
+    searched_start _ _ _ _ _ _ c.args.checked.now.checked c.requires.0 k.0 k.1 c.entry_count-m.ensures c.requires.1
 
 pub entry_at-e-requires : goal.entry_at-e-requires
 entry_at-e-requires c = let i = c.loop-j.invariant in here_in _ _ _ _ i.bucket i.many (inside (goal.at.entry_at-e-requires c).In-loop-j)
@@ -23,7 +23,7 @@ returns-then-hash-h c = searched_over _ _ _ _ _ _ _ c.loop-j.invariant c.args.ch
 
 pub entry_bears-requires : goal.entry_bears-requires
 entry_bears-requires c = let i = c.loop-j.invariant in
-    (here_in _ _ _ _ i.bucket i.many (inside (goal.at.entry_bears-requires c).In-loop-j), c.requires.0)
+    here_in _ _ _ _ i.bucket i.many (inside (goal.at.entry_bears-requires c).In-loop-j)
 
 pub returns-then-entry_bears : goal.returns-then-entry_bears
 returns-then-entry_bears c = let i = c.loop-j.invariant in
