@@ -3,6 +3,7 @@ use Prim.Native.Nat.{ℕ, ◌≤◌}
 use mathlib.Core.Path.{◌≡◌, ◌∙◌}
 use mathlib.Core.Logic.{◌↔◌}
 use mathlib.Core.List.{List}
+use Rattle.verdict.specs.Checks.{first_fault}
 use Rattle.verdict.specs.Verdict.{Accepted}
 use Rattle.verdict.proofs.Laws.{append_inv, fault_append}
 use Rattle.layout.specs.Layout.{layout_checks, values, names}
@@ -58,3 +59,14 @@ module _ (ed : Edition) (b : List ℕ) (room : ℕ) where
 
   pub accepted_iff : verdict_of ed b room ≡ Accepted ↔ (FileRules ed b × (used_node_count ed b ≤ room))
   accepted_iff = (accepted_file, file_accepted)
+
+-- so its tables passed 7 to 13, and its nodes 16 to 19 and 23
+module _ (ed : Edition) (b : List ℕ) (room : ℕ) (e : verdict_of ed b room ≡ Accepted) where
+  pub values-clean : first_fault (string_checks (values ed b)) ≡ Accepted
+  values-clean = (strings_iff (values ed b)).1 ((accepted_iff ed b room).0 e).0.value-table
+
+  pub names-clean : first_fault (string_checks (names ed b)) ≡ Accepted
+  names-clean = (strings_iff (names ed b)).1 ((accepted_iff ed b room).0 e).0.name-table
+
+  pub nodes-clean : first_fault (all_node_checks ed b) ≡ Accepted
+  nodes-clean = (nodes_iff ed b).1 ((accepted_iff ed b room).0 e).0.nodes

@@ -54,6 +54,10 @@ module _ (b : List ℕ) (at n most : ℕ) (s : Strings) (segments buckets : List
     list = l ∙ ap list_at (sym held-table);
   }
 
+-- what passes of a table passes of the same table
+pub clean_same : {t u : Table} → t ≡ u → first_fault (string_checks u) ≡ Accepted → first_fault (string_checks t) ≡ Accepted
+clean_same e h = ap (λ (x : Table). first_fault (string_checks x)) e ∙ h
+
 -- what a check of a held table answers is what one of the table does
 pub table_answer : {t u : Table} {r : Result Bool Refusal} → t ≡ u → Gives (first_fault (string_checks t)) (Sure (Packed t)) r
     → Gives (first_fault (string_checks u)) (Sure (Packed u)) r

@@ -8,9 +8,9 @@ ghost use Rattle.strings.specs.inner.Lent.{lent_table};
 ghost use Rattle.tree.specs.File.{used_node_count};
 ghost use Rattle.accept.specs.Verdict.{verdict_of};
 
+use crate::tables;
 use layout::View;
 use strings::checked::CheckedTable;
-use strings::{StringTable, Strings};
 use tree::Nodes;
 
 // With room for each used node its verdict is acceptance: every rule but 20, which is about the workspace, holds of it.
@@ -28,15 +28,7 @@ impl<'a> AcceptedFile<'a> {
         ensures { (lent_table result.table ≡ names Bits64 self.now.file.now) × (result.table.file.now ≡ self.now.file.now) }
     {
         CheckedTable {
-            table: StringTable {
-                file: self.file,
-                parts: Strings {
-                    chars: self.view.places.name_chars,
-                    list: self.view.places.name_list,
-                },
-                segments: &self.view.name_segments,
-                buckets: &self.view.name_buckets,
-            },
+            table: tables::names_of(self.file, self.view),
         }
     }
 
@@ -45,15 +37,7 @@ impl<'a> AcceptedFile<'a> {
         ensures { (lent_table result.table ≡ values Bits64 self.now.file.now) × (result.table.file.now ≡ self.now.file.now) }
     {
         CheckedTable {
-            table: StringTable {
-                file: self.file,
-                parts: Strings {
-                    chars: self.view.places.value_chars,
-                    list: self.view.places.value_list,
-                },
-                segments: &self.view.value_segments,
-                buckets: &self.view.value_buckets,
-            },
+            table: tables::values_of(self.file, self.view),
         }
     }
 

@@ -10,10 +10,13 @@ ghost use Rattle.accept.specs.Verdict.{verdict_of};
 ghost use Rattle.accept.specs.inner.Accepted.{Judged};
 
 pub mod file;
+mod tables;
 
 use hash::HashTables;
 use layout::View;
-use strings::Strings;
+use nodes::prepared::PreparedFile;
+use strings::checked::CheckedTable;
+use tree::Nodes;
 use verdict::Refusal;
 
 // Refusals 7 to 23 of a file that is laid out, with what they leave in the workspace.
@@ -23,38 +26,25 @@ fn check_contents(b: &[u8], v: &View, ws: &mut [u8]) -> Result<(), Refusal>
     ensures workspace { ws.new ≡ workspace_after Bits64 b.now ws.old (verdict_of Bits64 b.now (length ws.old)) }
 {
     let t = HashTables::new();
-    let p = v.places;
-    let values = Strings {
-        chars: p.value_chars,
-        list: p.value_list,
-    };
-    let names = Strings {
-        chars: p.name_chars,
-        list: p.name_list,
-    };
-    let packed = positions::check_table(b, &t, values, &v.value_segments, &v.value_buckets)?;
-    positions::check_table(b, &t, names, &v.name_segments, &v.name_buckets)?;
-    let special = keys::special::check_special(b, names, &v.name_segments, &v.name_buckets)?;
+    let values = tables::values_of(b, v);
+    let packed = positions::check_table(&values, &t)?;
+    let names = tables::names_of(b, v);
+    positions::check_table(&names, &t)?;
+    let checked = CheckedTable { table: names };
+    let special = keys::special::check_special(&checked)?;
     keys::list::check_keys(b, special)?;
-    prefetch::all::check_nodes_in_batches(
-        b,
-        &t,
-        p,
-        special,
-        &v.attribute_segments,
-        &v.node_segments,
-        &v.value_segments,
-        &v.value_buckets,
-        packed,
-    )?;
-    tree::check_tree(
-        b,
-        p.nodes,
-        &v.node_segments,
-        &v.node_counts,
-        p.used_nodes,
-        ws,
-    )
+    let prepared = PreparedFile {
+        file: b,
+        view: v,
+        names: special,
+    };
+    prefetch::all::check_nodes_in_batches(&prepared, &t, packed)?;
+    let nodes = Nodes {
+        file: b,
+        region: v.places.nodes,
+        segments: &v.node_segments,
+    };
+    tree::check_tree(&nodes, &v.node_counts, v.places.used_nodes, ws)
 }
 
 // Accepts a file, with its view, or refuses it.
