@@ -8,9 +8,8 @@ ghost use Rattle.text.specs.Text.{text_in};
 ghost use Rattle.memo.specs.inner.Memo.{Remembers};
 ghost use Rattle.nodes.specs.inner.Noted.{noted};
 
-use std::ops::ControlFlow;
-
 use hash::HashTables;
+use std::ops::ControlFlow;
 
 // Whether a text with n characters left is worth remembering: at most 65,535 characters are left anywhere.
 fn worth(n: usize) -> bool

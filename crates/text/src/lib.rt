@@ -9,9 +9,8 @@ ghost use Rattle.text.specs.Text.{chars, text_in, HoldsZero};
 ghost use Rattle.text.specs.inner.Zeros.{zeros_in};
 ghost use Rattle.text.specs.inner.Measure.{MeasuredOn, Measured, ValueRun, CharOrEnd};
 
-use std::ops::ControlFlow;
-
 use hash::HashTables;
+use std::ops::ControlFlow;
 
 pub mod fingerprint;
 pub mod parts;
