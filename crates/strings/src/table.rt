@@ -10,10 +10,10 @@ ghost use Rattle.strings.specs.inner.Ahead.{Prefetched};
 ghost use Rattle.strings.specs.inner.Held.{Here};
 ghost use Rattle.strings.specs.inner.Lent.{lent_table};
 
-use hash::HashTables;
 use crate::ahead::PrefetchedText;
 use crate::apart::Span;
 use crate::{StringTable, ahead, apart, entry, fields, listed};
+use hash::HashTables;
 use verdict::Refusal;
 
 // Whether the text of entry j of bucket k, which passed, stands where one can begin; and so do those before it.

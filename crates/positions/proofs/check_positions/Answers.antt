@@ -8,7 +8,7 @@ pub returns-then-n-entry_total : goal.returns-then-n-entry_total
 returns-then-n-entry_total c = sym (none-refused _ c.requires _ (list_is _ _ _ _ c.args.table.now.held _ c.u32_at-n.ensures.0) (omega (arith, c.if-n-entry_total.true, c.entry_total.ensures.0)))
 
 pub first_uncarried-i-requires : goal.first_uncarried-i-requires
-first_uncarried-i-requires c = 
+first_uncarried-i-requires c =
     (c.requires, list_is _ _ _ _ c.args.table.now.held _ c.u32_at-n.ensures.0, omega (arith, c.if-n-entry_total.false, c.entry_total.ensures.0))
 
 pub position_at-requires : goal.position_at-requires

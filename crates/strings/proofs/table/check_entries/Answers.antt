@@ -64,9 +64,9 @@ left : (c : After-branch-answer) → let w = c.buckets-test in let t = lent_tabl
     Gives {T = Unit} (first_fault (all_entry_checks t)) (λ x. Sure (AllBegun t) w.begun) w.answer
 left c = elim c.buckets-test.branch [
   | else-buckets-test w ↦ let b = c.buckets.invariant in rw (w.answer-is, w.begun-is) (record {
-      answer = b.none ∙ sym (b.rest ∙ left_none _ _ w.buckets-test.false);
-      value = λ x e z. before-all _ _ (b.begun z) w.buckets-test.false;
-    })
+    answer = b.none ∙ sym (b.rest ∙ left_none _ _ w.buckets-test.false);
+    value = λ x e z. before-all _ _ (b.begun z) w.buckets-test.false;
+  })
   | then-buckets-test+then-loop-j-test+then-is_err w ↦
       let e = stops _ w.check_entry-answer.ensures (cc) in
       rw (w.answer-is, w.begun-is, e.1)
