@@ -1,5 +1,6 @@
 -- A file is accepted exactly when every rule holds of it and the workspace has a byte for each used node. Assumes nothing.
 use Prim.Native.Nat.{ℕ, ◌≤◌}
+use native.Mathlib.Omega.{arith}
 use mathlib.Core.Path.{◌≡◌, ◌∙◌}
 use mathlib.Core.Logic.{◌↔◌}
 use mathlib.Core.List.{List}
@@ -60,7 +61,11 @@ module _ (ed : Edition) (b : List ℕ) (room : ℕ) where
   pub accepted_iff : verdict_of ed b room ≡ Accepted ↔ (FileRules ed b × (used_node_count ed b ≤ room))
   accepted_iff = (accepted_file, file_accepted)
 
--- so its tables passed 7 to 13, and its nodes 16 to 19 and 23
+-- so room for each used node is room enough
+pub enough_room : (ed : Edition) (b : List ℕ) (room : ℕ) → verdict_of ed b room ≡ Accepted → verdict_of ed b (used_node_count ed b) ≡ Accepted
+enough_room ed b room e = (accepted_iff ed b (used_node_count ed b)).1 (((accepted_iff ed b room).0 e).0, omega arith)
+
+-- and its tables passed 7 to 13, and its nodes 16 to 19 and 23
 module _ (ed : Edition) (b : List ℕ) (room : ℕ) (e : verdict_of ed b room ≡ Accepted) where
   pub values-clean : first_fault (string_checks (values ed b)) ≡ Accepted
   values-clean = (strings_iff (values ed b)).1 ((accepted_iff ed b room).0 e).0.value-table

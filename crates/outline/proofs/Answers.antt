@@ -10,7 +10,6 @@ use Rattle.verdict.specs.declared.Rule.TheVariants.{OutlineRoom}
 use Rattle.verdict.specs.declared.Refusal.{Refusal}
 use Rattle.verdict.proofs.Laws.{pass, stop, fault_none}
 use Rattle.verdict.proofs.Gives.{gives_ok, gives_err}
-use Rattle.layout.specs.declared.Places.{Places}
 use Rattle.layout.specs.declared.Edition.{Edition}
 use Rattle.nodes.specs.Node.{Live, node_name}
 use Rattle.tree.specs.Chain.{deepest_level}
@@ -21,19 +20,18 @@ use Rattle.print.proofs.Puts.{put_length, put_front}
 use Rattle.outline.specs.Outline.{block, outline_of}
 use Rattle.outline.specs.Outlined.{outline_checks, outline_after}
 use Rattle.outline.specs.inner.Answer.{OutlineWritten}
-use Rattle.outline.specs.inner.Ready.{OutlineReady}
 use Rattle.outline.proofs.Fits.{outline-fits}
 
 -- ---- the root is live
 
-module _ {ed : Edition} {b : List ℕ} {p : Places} {xs ns vs ms : List ℕ} (r : OutlineReady ed b p xs ns vs ms) where
+module _ {ed : Edition} {b : List ℕ} (r : FileRules ed b) where
   pub root-used : Used ed b 0
-  root-used = r.line.rules.nodes.root
+  root-used = r.nodes.root
 
   pub root_live : {x : ℕ} → x ≡ node_of ed b 0 → Live b x
   unfolding node_of
   root_live e z =
-      let k = ((r.line.rules.nodes.each 0 0 r.line.rules.nodes.root).node.root refl refl).named.low in
+      let k = ((r.nodes.each 0 0 r.nodes.root).node.root refl refl).named.low in
       omega (arith, ap (node_name b) e)
 
 -- ---- the ways out

@@ -7,15 +7,14 @@ use mathlib.Core.Path.{◌≡◌, refl, ap, sym, ◌∙◌}
 use mathlib.Core.List.{List, [], ◌++◌}
 use borrow.Author.Tests.{eq-eqb, ne_eqb}
 use Rattle.region.specs.Region.{range_at}
-use Rattle.region.specs.inner.Samples.{Mapped, Starts}
 use Rattle.std.specs.Prelude.{Option, Some, None, IsSome}
 use Rattle.layout.specs.Edition.{attribute_size}
 use Rattle.layout.specs.Layout.{attributes_at}
+use Rattle.layout.specs.inner.View.{PlacesFit}
 use Rattle.layout.specs.declared.Places.{Places}
 use Rattle.layout.specs.declared.Edition.{Edition}
 use Rattle.nodes.specs.Node.{attribute_field, attribute_segment, attribute_element, attribute_count, attribute_at}
 use Rattle.nodes.proofs.Attributes.{attribute_is}
-use Rattle.nodes.proofs.Sought.{lent}
 use Rattle.nodes.proofs.Ways.{attribute-count, attributes_sought, attributes-nowhere, attributes_start}
 use Rattle.tree.specs.Chain.{ranged}
 use Rattle.tree.specs.File.{node_of, tree_of}
@@ -24,7 +23,7 @@ use Rattle.tree.specs.declared.ranges.Children.{Children}
 use Rattle.tree.proofs.Children.{first_is, count_is}
 use Rattle.print.proofs.Puts.{Left}
 use Rattle.outline.specs.Outline.{attribute_text, line, shown, block}
-use Rattle.outline.specs.inner.Ready.{AttributeReady, NodeReady, LineReady}
+use Rattle.outline.specs.inner.Ready.{AttributeReady, NodeReady}
 
 -- what is left of a run, with the place and the buffer by other names
 pub left_same : {d d' d'' : List ℕ} {i p q : ℕ} {s t : List ℕ} → Left d i s p t d' → q ≡ p → d'' ≡ d' → Left d i s q t d''
@@ -42,17 +41,13 @@ pub record Attributes (ed : Edition) (b : List ℕ) (x n q : ℕ) : Type 0 where
   pub count : n ≡ attribute_count b x
   pub place : (i : ℕ) → q + i * attribute_size ed ≡ attribute_at ed b x i
 
-pub regions : {ed : Edition} {b : List ℕ} {p : Places} {xs vs ns : List ℕ} → LineReady ed b p xs vs ns
-    → Mapped (attribute_size ed) b p.attributes.at p.attributes × Starts (attribute_size ed) b p.attributes.at p.attributes.shift xs
-regions g = lent g.placed.attributes g.attributes
-
-module _ {ed : Edition} {b : List ℕ} {p : Places} {xs vs ns : List ℕ} (g : LineReady ed b p xs vs ns) {x : ℕ} (k : NodeReady ed b x) where
+module _ {ed : Edition} {b : List ℕ} {x : ℕ} (k : NodeReady ed b x) where
   pub attributes-count : {n : ℕ} → n ≡ attribute_field b x → n ≡ attribute_count b x
   attributes-count {n} e = attribute-count b x k.live n e
 
-  module _ {n seg el : ℕ} (c : n ≡ attribute_field b x) (s : seg ≡ attribute_segment b x) (l : el ≡ attribute_element b x) {r : Option ℕ} (f : r ≡ range_at (attribute_size ed) b p.attributes.at seg el n) where
+  module _ {p : Places} (w : PlacesFit ed b p) {n seg el : ℕ} (c : n ≡ attribute_field b x) (s : seg ≡ attribute_segment b x) (l : el ≡ attribute_element b x) {r : Option ℕ} (f : r ≡ range_at (attribute_size ed) b p.attributes.at seg el n) where
     sought : r ≡ range_at (attribute_size ed) b (attributes_at b) (attribute_segment b x) (attribute_element b x) n
-    sought = attributes_sought ed b x n p.attributes g.placed.attributes seg el s l r f
+    sought = attributes_sought ed b x n p.attributes w.attributes seg el s l r f
 
     pub attributes_there : (n ≡ 0 → ⊥) → IsSome r
     attributes_there z = is_there r (λ e. attributes-nowhere ed b x n (attributes-count c) r sought (omega arith) e k.attributes)

@@ -5,38 +5,20 @@ use mathlib.Core.Path.{◌≡◌}
 use mathlib.Core.Logic.{⊎_elim}
 use mathlib.Core.List.{List}
 use lib.ListN.{length}
-use Rattle.verdict.specs.Verdict.{Accepted}
 use Rattle.region.proofs.Laws.{range-each, place-fits}
 use Rattle.layout.specs.Edition.{attribute_size, node_size}
 use Rattle.layout.specs.Layout.{attributes_at}
-use Rattle.layout.specs.inner.View.{Fits}
-use Rattle.layout.specs.declared.View.{View}
-use Rattle.layout.specs.declared.Places.{Places}
 use Rattle.layout.specs.declared.Edition.{Edition}
+use Rattle.layout.specs.declared.Edition.TheVariants.{Bits64}
 use Rattle.nodes.specs.Node.{Live, attribute_count, node_at, attribute_at}
 use Rattle.nodes.specs.Rules.{NodeRules, AttributesReach}
-use Rattle.nodes.proofs.Accepted.{nodes_iff}
 use Rattle.tree.specs.File.{node_of, Used}
 use Rattle.tree.specs.inner.Marking.{TreeReady}
 use Rattle.tree.proofs.Children.{node-fits}
 use Rattle.accept.specs.Rules.{FileRules}
-use Rattle.accept.specs.Verdict.{verdict_of}
-use Rattle.accept.proofs.Accepted.{accepted_iff}
-use Rattle.outline.specs.inner.Ready.{NodeReady, OutlineReady}
-
--- a view that fits an accepted file
-pub outline_ready : (ed : Edition) (b : List ℕ) (room : ℕ) (v : View) → Fits ed b v → verdict_of ed b room ≡ Accepted
-    → OutlineReady ed b v.places v.attribute_segments v.node_segments v.value_segments v.name_segments
-outline_ready ed b room v f e = record {
-  line = record {
-    rules = ((accepted_iff ed b room).0 e).0;
-    placed = f.places;
-    attributes = f.attribute_segments;
-    values = f.value_segments;
-    names = f.name_segments;
-  };
-  nodes = f.node_segments;
-}
+use Rattle.accept.proofs.Accepted.{accepted_iff, nodes-clean}
+use Rattle.outline.specs.inner.Ready.{NodeReady}
+use Rattle.outline.specs.declared.source.Source.{Source}
 
 module _ (ed : Edition) (b : List ℕ) (r : FileRules ed b) where
   -- an attribute of a range that resolves lies in the file
@@ -62,18 +44,17 @@ module _ (ed : Edition) (b : List ℕ) (r : FileRules ed b) where
     };
   }
 
-module _ {ed : Edition} {b : List ℕ} {p : Places} {xs ns vs ms : List ℕ} (g : OutlineReady ed b p xs ns vs ms) where
-  pub tree_held : TreeReady ed b p.nodes ns
-  tree_held = record {
-    laid = g.line.rules.laid;
-    nodes = g.line.placed.nodes;
-    sampled = g.nodes;
-    accepted = (nodes_iff ed b).1 g.line.rules.nodes;
-  }
+-- what a source holds
+module _ (s : Source) where
+  pub rules_of : FileRules Bits64 s.file.now
+  rules_of = ((accepted_iff Bits64 _ _).0 s.accepted).0
+
+  pub tree_held : TreeReady Bits64 s.file.now s.view.now.places.nodes s.view.now.node_segments
+  tree_held = record { laid = rules_of.laid; nodes = s.placed.nodes; sampled = s.nodes; accepted = nodes-clean Bits64 _ _ s.accepted }
 
   -- a live node, wherever it stands
-  pub node_ready : (a x : ℕ) → Used ed b a → x ≡ node_of ed b a → Live b x → NodeReady ed b x
+  pub node_ready : (a x : ℕ) → Used Bits64 s.file.now a → x ≡ node_of Bits64 s.file.now a → Live s.file.now x → NodeReady Bits64 s.file.now x
   unfolding node_of
   node_ready a x u q l =
-      let r = g.line.rules in
-      rw q (rules_ready ed b r (a / 65536) (a % 65536) (r.nodes.each _ _ u) (rw q at (node-fits tree_held a x u q)) (rw q at l))
+      let r = rules_of in
+      rw q (rules_ready Bits64 s.file.now r (a / 65536) (a % 65536) (r.nodes.each _ _ u) (rw q at (node-fits tree_held a x u q)) (rw q at l))

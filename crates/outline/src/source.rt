@@ -10,7 +10,9 @@ ghost use Rattle.tree.specs.File.{used_node_count};
 ghost use Rattle.accept.specs.Verdict.{verdict_of};
 ghost use Rattle.outline.specs.inner.Ready.{ValueStarts, NameStarts};
 
+use accept::file::AcceptedFile;
 use layout::View;
+use tree::Nodes;
 
 // With room for each used node its verdict is acceptance: every rule but 20, which is about the workspace, holds of it.
 #[derive(Clone, Copy)]
@@ -23,4 +25,28 @@ pub struct Source<'a> {
     pub ghost nodes: { Starts (node_size Bits64) file.now (nodes_at Bits64 file.now) view.now.places.nodes.shift view.now.node_segments },
     pub ghost values: { ValueStarts Bits64 file.now view.now.places view.now.value_segments },
     pub ghost names: { NameStarts Bits64 file.now view.now.places view.now.name_segments },
+}
+
+impl<'a> Source<'a> {
+    // Its nodes.
+    pub(crate) fn nodes(&self) -> Nodes<'a>
+        ensures { result.file.now ≡ self.now.file.now }
+    {
+        Nodes {
+            file: self.file,
+            region: self.view.places.nodes,
+            segments: &self.view.node_segments,
+        }
+    }
+}
+
+impl<'a> From<AcceptedFile<'a>> for Source<'a> {
+    ghost from_gives = { λ accepted source. source.file.now ≡ accepted.file.now };
+
+    fn from(accepted: AcceptedFile<'a>) -> Self {
+        Source {
+            file: accepted.file,
+            view: accepted.view,
+        }
+    }
 }

@@ -1,15 +1,13 @@
 // Escaped texts: of an address, and of a name index.
 ghost use Rattle.std.specs.Prelude.{◌+◌, ◌*◌, ◌≤◌, length};
 ghost use Rattle.text.specs.Text.{text_in, text_at};
-ghost use Rattle.layout.specs.inner.View.{PlacesFit};
 ghost use Rattle.layout.specs.declared.Edition.TheVariants.{Bits64};
 ghost use Rattle.keys.specs.Names.{name_count, name_text};
-ghost use Rattle.accept.specs.Rules.{FileRules};
 ghost use Rattle.print.specs.inner.Put.{Put};
 ghost use Rattle.print.specs.Text.{escaped};
-ghost use Rattle.outline.specs.inner.Ready.{NameStarts, TextHeld};
+ghost use Rattle.outline.specs.inner.Ready.{TextHeld};
 
-use layout::Places;
+use crate::source::Source;
 use region::{Region, SAMPLES};
 use strings::spot;
 
@@ -47,22 +45,16 @@ pub fn put_text(
 }
 
 // The text of a name index.
-pub fn put_name(
-    b: &[u8],
-    p: Places,
-    segments: &[u32; SAMPLES],
-    i: usize,
-    out: &mut [u8],
-    at: usize,
-) -> usize
-    requires { FileRules Bits64 b.now × PlacesFit Bits64 b.now p × NameStarts Bits64 b.now p segments.now × (1 ≤ i) × (i ≤ name_count Bits64 b.now) }
-    ensures { Put out.old at (escaped (name_text Bits64 b.now i)) result out.new }
+pub fn put_name(source: &Source, i: usize, out: &mut [u8], at: usize) -> usize
+    requires { (1 ≤ i) × (i ≤ name_count Bits64 source.now.file.now) }
+    ensures { Put out.old at (escaped (name_text Bits64 source.now.file.now i)) result out.new }
 {
-    let x = p.name_list + 4 * i;
+    let b = source.file;
+    let x = source.view.places.name_list + 4 * i;
     put_text(
         b,
-        p.name_chars,
-        segments,
+        source.view.places.name_chars,
+        &source.view.name_segments,
         le::u16_at(b, x),
         le::u16_at(b, x + 2),
         out,

@@ -1,5 +1,5 @@
 -- Code that holds the view of an accepted file and asks without a second check is told what the exported questions answer: the laws tie
--- what the contracts of the held forms say, on the view's parts, to the exported definitions. Assumes nothing.
+-- what the contracts of the held forms say, on a table that is lent, to the exported definitions. Assumes nothing.
 use Prim.Native.Nat.{ℕ, ◌%◌}
 use mathlib.Core.Path.{◌≡◌, refl, sym, ap, ◌∙◌}
 use mathlib.Core.List.{List}
@@ -8,12 +8,9 @@ use Rattle.std.specs.Prelude.{Result}
 use Rattle.std.specs.Result.{result_unwrap_or}
 use Rattle.verdict.specs.Verdict.{Accepted, answer_of}
 use Rattle.verdict.specs.declared.Refusal.{Refusal}
-use Rattle.layout.specs.inner.View.{Fits}
-use Rattle.layout.specs.declared.View.{View}
+use Rattle.layout.specs.Layout.{values, names}
 use Rattle.layout.specs.Table.{Table}
 use Rattle.layout.specs.declared.Edition.{Edition}
-use Rattle.strings.specs.inner.Held.{held_table}
-use Rattle.nodes.specs.inner.Held.{value_strings}
 use Rattle.lookup.specs.Lookup.{text_from}
 use Rattle.lookup.specs.Asked.{text_checks}
 use Rattle.lookup.specs.Kinds.{told_in, table_of, kind_of, told_number}
@@ -27,12 +24,10 @@ use Rattle.batch.specs.inner.Answer.{Answered}
 use Rattle.outline.specs.Outlined.{outline_after}
 use Rattle.outline.specs.inner.Answer.{OutlineWritten}
 use Rattle.accept.specs.Verdict.{verdict_of}
-use Rattle.accept.specs.inner.Held.{name_strings}
 use Rattle.taplinen.specs.Answers.{answered}
 use Rattle.taplinen.specs.Questions.{text_verdict, text_answer, name_answer, value_answer, path_verdict, path_answer, path_listing, outline_verdict, outline_answer, outline_buffer}
 use Rattle.taplinen.specs.Batches.{batch_verdict, batch_answer, batch_places, name_places, value_places}
 use Rattle.taplinen.proofs.Laws.{text-even}
-use Rattle.taplinen.proofs.Tables.{table_is}
 use Rattle.taplinen.proofs.Filled.{own_answer, own_told}
 
 -- an accepted file asked for a text of an even number of bytes
@@ -41,7 +36,7 @@ pub text-told : (ed : Edition) (k : Kind) (b : List ℕ) (room : ℕ) (q : List 
 unfolding text_answer text_verdict
 text-told ed k b room q e even = sym (own_answer ed b room (text_checks q) _ _ e (text-even q even) (λ z. (refl, refl)) refl)
 
-module _ (ed : Edition) (b : List ℕ) (room : ℕ) (v : View) (f : Fits ed b v) (e : verdict_of ed b room ≡ Accepted) where
+module _ (ed : Edition) (b : List ℕ) (room : ℕ) (e : verdict_of ed b room ≡ Accepted) where
   -- lookup::find_text
   module _ (q : List ℕ) (even : length q % 2 ≡ 0) where
     told-by : (k : Kind) {t : Table} {l : Lookup} → t ≡ table_of ed k b → l ≡ told_in k t (text_from q) → text_answer ed k b room q ≡ answered Accepted (kind_of l) (told_number l)
@@ -49,15 +44,15 @@ module _ (ed : Edition) (b : List ℕ) (room : ℕ) (v : View) (f : Fits ed b v)
         text-told ed k b room q e even
         ∙ sym (ap (λ (x : Lookup). answered Accepted (kind_of x) (told_number x)) (h ∙ ap (λ (y : Table). told_in k y (text_from q)) s))
 
-    pub held_name : {l : Lookup} → l ≡ told_in Name (held_table b (name_strings v.places) v.name_buckets) (text_from q)
+    pub held_name : {t : Table} {l : Lookup} → t ≡ names ed b → l ≡ told_in Name t (text_from q)
         → name_answer ed b room q ≡ answered Accepted (kind_of l) (told_number l)
     unfolding name_answer text_answer told_in table_of
-    held_name h = told-by Name (table_is ed b v f Name) h
+    held_name s h = told-by Name s h
 
-    pub held_value : {l : Lookup} → l ≡ told_in Value (held_table b (value_strings v.places) v.value_buckets) (text_from q)
+    pub held_value : {t : Table} {l : Lookup} → t ≡ values ed b → l ≡ told_in Value t (text_from q)
         → value_answer ed b room q ≡ answered Accepted (kind_of l) (told_number l)
     unfolding value_answer text_answer told_in table_of
-    held_value h = told-by Value (table_is ed b v f Value) h
+    held_value s h = told-by Value s h
 
   -- path::listing::list_path
   pub held_path : (path list : List ℕ) {r : Result ℕ Refusal} → PathListed ed b path (length list) r
@@ -80,12 +75,12 @@ module _ (ed : Edition) (b : List ℕ) (room : ℕ) (v : View) (f : Fits ed b v)
         let w = own_told ed b room _ _ (answers_after (told_in k (table_of ed k b)) texts d) {r = r} e h in
         (w.0, w.1 ∙ sym (ap (λ (y : Table). answers_after (told_in k y) texts d (answer_of r)) s))
 
-    pub held_names : (batch_answer ed b room texts (length d) ≡ answered (answer_of r) 0 (result_unwrap_or r 0))
-        × (name_places ed b room texts d ≡ answers_after (told_in Name (held_table b (name_strings v.places) v.name_buckets)) texts d (answer_of r))
+    pub held_names : {t : Table} → t ≡ names ed b → (batch_answer ed b room texts (length d) ≡ answered (answer_of r) 0 (result_unwrap_or r 0))
+        × (name_places ed b room texts d ≡ answers_after (told_in Name t) texts d (answer_of r))
     unfolding name_places batch_places told_in table_of
-    held_names = each_by Name (table_is ed b v f Name)
+    held_names s = each_by Name s
 
-    pub held_values : (batch_answer ed b room texts (length d) ≡ answered (answer_of r) 0 (result_unwrap_or r 0))
-        × (value_places ed b room texts d ≡ answers_after (told_in Value (held_table b (value_strings v.places) v.value_buckets)) texts d (answer_of r))
+    pub held_values : {t : Table} → t ≡ values ed b → (batch_answer ed b room texts (length d) ≡ answered (answer_of r) 0 (result_unwrap_or r 0))
+        × (value_places ed b room texts d ≡ answers_after (told_in Value t) texts d (answer_of r))
     unfolding value_places batch_places told_in table_of
-    held_values = each_by Value (table_is ed b v f Value)
+    held_values s = each_by Value s

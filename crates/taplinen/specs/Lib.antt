@@ -4,4 +4,3 @@ pub mod Batches
 pub mod Hashes
 pub mod Version
 pub mod Demands
-pub mod inner

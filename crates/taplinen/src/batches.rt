@@ -6,6 +6,7 @@ ghost use Rattle.taplinen.specs.Batches.{batch_answer, batch_places, name_places
 
 use crate::answer::Answer;
 use crate::lookups;
+use accept::file::AcceptedFile;
 use lookup::Kind;
 
 // Asks for many texts in either table.
@@ -15,7 +16,7 @@ fn ask_each(file: &[u8], ws: &mut [u8], kind: Kind, texts: &[u8], answers: &mut 
     ensures answers { answers.new ≡ batch_places Bits64 kind file.now (length ws.old) texts.now answers.old }
 {
     match &accept::accept(file, ws) {
-        Ok(view) => lookups::find_texts(file, view, kind, texts, answers).into(),
+        Ok(view) => lookups::find_texts(&AcceptedFile { file, view }, kind, texts, answers).into(),
         Err(refusal) => (*refusal).into(),
     }
 }

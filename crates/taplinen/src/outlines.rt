@@ -4,6 +4,8 @@ ghost use Rattle.layout.specs.declared.Edition.TheVariants.{Bits64};
 ghost use Rattle.taplinen.specs.Questions.{outline_answer, outline_buffer, workspace_left};
 
 use crate::answer::Answer;
+use accept::file::AcceptedFile;
+use outline::source::Source;
 
 // The outline of a file, written to a buffer: its length in bytes, or the bytes needed.
 pub fn taplinen_outline(file: &[u8], ws: &mut [u8], out: &mut [u8]) -> Answer
@@ -12,16 +14,10 @@ pub fn taplinen_outline(file: &[u8], ws: &mut [u8], out: &mut [u8]) -> Answer
     ensures outline { out.new ≡ outline_buffer Bits64 file.now (length ws.old) out.old }
 {
     match &accept::accept(file, ws) {
-        Ok(view) => outline::write_outline(
-            file,
-            view.places,
-            &view.attribute_segments,
-            &view.node_segments,
-            &view.value_segments,
-            &view.name_segments,
-            out,
-        )
-        .into(),
+        Ok(view) => {
+            let source = Source::from(AcceptedFile { file, view });
+            outline::write_outline(&source, out).into()
+        }
         Err(refusal) => (*refusal).into(),
     }
 }

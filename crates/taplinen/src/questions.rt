@@ -5,8 +5,9 @@ ghost use Rattle.taplinen.specs.Questions.{accept_answer, text_answer, name_answ
 
 use crate::answer::Answer;
 use crate::lookups;
+use accept::file::AcceptedFile;
+use hash::HashTables;
 use lookup::Kind;
-use strings::Strings;
 use verdict::{Refusal, Rule};
 
 // Accepts a file: the number of used nodes, which is the workspace that every question needs.
@@ -27,7 +28,7 @@ fn ask(file: &[u8], ws: &mut [u8], kind: Kind, text: &[u8]) -> Answer
 {
     match &accept::accept(file, ws) {
         Ok(_) if text.len() % 2 != 0 => Refusal(Rule::AskedText, text.len()).into(),
-        Ok(view) => lookups::find(file, view, kind, text).into(),
+        Ok(view) => lookups::find(&AcceptedFile { file, view }, kind, text).into(),
         Err(refusal) => (*refusal).into(),
     }
 }
@@ -56,23 +57,9 @@ pub fn taplinen_path(file: &[u8], ws: &mut [u8], path: &[u8], list: &mut [u8]) -
 {
     match &accept::accept(file, ws) {
         Ok(view) => {
-            let t = hash::tables();
-            let names = Strings {
-                chars: view.places.name_chars,
-                list: view.places.name_list,
-            };
-            path::listing::list_path(
-                file,
-                &t,
-                names,
-                &view.name_segments,
-                &view.name_buckets,
-                view.places.nodes,
-                &view.node_segments,
-                path,
-                list,
-            )
-            .into()
+            let accepted = AcceptedFile { file, view };
+            let t = HashTables::new();
+            path::listing::list_path(&accepted.names(), &accepted.nodes(), &t, path, list).into()
         }
         Err(refusal) => (*refusal).into(),
     }

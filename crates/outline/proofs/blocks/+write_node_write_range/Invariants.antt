@@ -15,5 +15,5 @@ decreases-write_range l = 2 * l.left + 1
 
 abbrev pub invariant-write_range-loop-j : goal.invariant-write_range-loop-j
 invariant-write_range-loop-j l =
-    Left l.initial.out l.at (ranged (shown Bits64 l.b (block Bits64 l.b l.left l.level)) ((tree_of Bits64 l.b).first l.a) ((tree_of Bits64 l.b).count l.a)) l.e
-    (ranged_from (shown Bits64 l.b (block Bits64 l.b l.left l.level)) l.k.first l.k.count l.j) l.out
+    Left l.initial.out l.at (ranged (shown Bits64 l.source.file.now (block Bits64 l.source.file.now l.left l.level)) ((tree_of Bits64 l.source.file.now).first l.a) ((tree_of Bits64 l.source.file.now).count l.a)) l.e
+    (ranged_from (shown Bits64 l.source.file.now (block Bits64 l.source.file.now l.left l.level)) l.k.first l.k.count l.j) l.out

@@ -4,13 +4,13 @@ use Rattle.outline.proofs.Written.{put_four, line_is, node-named}
 use Rattle.outline.proofs.blocks.put_node.Goals as goal
 
 pub overflow_mul-level : goal.overflow_mul-level
-overflow_mul-level c = omega (arith, c.requires.2)
+overflow_mul-level c = omega (arith, c.requires.1)
 
 pub node_name-requires : goal.node_name-requires
-node_name-requires c = omega (arith, c.requires.1.fits)
+node_name-requires c = omega (arith, c.requires.0.fits)
 
 pub put_name-d-requires : goal.put_name-d-requires
-put_name-d-requires c = let p = c.requires in let n = node-named Bits64 _ _ c.node_name.ensures.0 p.1 in (p.0.rules, p.0.placed, p.0.names, n.0, n.1)
+put_name-d-requires c = node-named Bits64 _ _ c.node_name.ensures.0 c.requires.0
 
 -- a buffer's length is a number of 64 bits
 pub returns : goal.returns

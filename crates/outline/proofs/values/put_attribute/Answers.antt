@@ -4,7 +4,7 @@ use Rattle.outline.proofs.Written.{put_four, attribute_is, attribute-named}
 use Rattle.outline.proofs.values.put_attribute.Goals as goal
 
 pub put_name-d-requires : goal.put_name-d-requires
-put_name-d-requires c = let p = c.requires in let n = attribute-named Bits64 _ _ c.attribute_name.ensures.0 p.4 in (p.0, p.1, p.3, n.0, n.1)
+put_name-d-requires c = attribute-named Bits64 _ _ c.attribute_name.ensures.0 c.requires
 
 -- a buffer's length is a number of 64 bits
 pub returns : goal.returns

@@ -6,11 +6,12 @@ use mir.Syntax.{w32}
 use Rattle.layout.specs.declared.Edition.TheVariants.{Bits64}
 use Rattle.print.proofs.Puts.{put_then, put_same}
 use Rattle.outline.proofs.Addressed.{value_held, value-text}
+use Rattle.outline.proofs.Rules.{rules_of}
 use Rattle.outline.proofs.Written.{whole_is, truth_is, float_is, text_is}
 use Rattle.outline.proofs.values.put_value.Goals as goal
 
 pub put_text-requires : goal.put_text-requires
-put_text-requires c = let p = c.requires in value_held p.0 p.1 p.3 (sym c.value_at-v.ensures ∙ c.in-Text.is) p.2
+put_text-requires c = let s = c.args.source.now in value_held (rules_of s) s.placed c.requires (sym c.value_at-v.ensures ∙ c.in-Text.is) s.values
 
 -- a buffer's length is a number of 64 bits, here and below
 pub returns-in-Whole : goal.returns-in-Whole
@@ -24,7 +25,7 @@ pub returns-in-Float : goal.returns-in-Float
 returns-in-Float c = put_same (float_is Bits64 _ c.value_at-v.ensures c.in-Float.is) (put_then (omega arith) c.put_bytes-e-in-Float.ensures c.put_hex.ensures)
 
 pub returns-in-Text : goal.returns-in-Text
-returns-in-Text c = let p = c.requires in
+returns-in-Text c = let s = c.args.source.now in
     let e = c.value_at-v.ensures in
     let v = c.in-Text.is in
-    put_same (text_is Bits64 _ e v (value-text p.0 p.1 p.3 (sym e ∙ v))) (put_then (omega arith) c.put_bytes-e-in-Text.ensures c.put_text.ensures)
+    put_same (text_is Bits64 _ e v (value-text (rules_of s) s.placed c.requires (sym e ∙ v))) (put_then (omega arith) c.put_bytes-e-in-Text.ensures c.put_text.ensures)

@@ -2,13 +2,13 @@ use mathlib.Core.Path.{refl}
 use Rattle.verdict.proofs.Gives.{given, refuses}
 use Rattle.batch.specs.Places.{answers_after}
 use Rattle.taplinen.specs.Batches.{batch_verdict, batch_answer, batch_places}
-use Rattle.taplinen.proofs.Asked.{to_find}
+use Rattle.accept.proofs.Accepted.{enough_room}
 use Rattle.taplinen.proofs.Filled.{first-filled, own_filled}
 use Rattle.layout.specs.declared.Edition.TheVariants.{Bits64}
 use Rattle.taplinen.proofs.batches.ask_each.Goals as goal
 
-pub find_texts-requires : goal.find_texts-requires
-find_texts-requires c = to_find Bits64 _ _ (given c.accept.ensures.answer c.in-Ok.is)
+pub invariant_of-find_texts : goal.invariant_of-find_texts
+invariant_of-find_texts c = let g = given c.accept.ensures.answer c.in-Ok.is in record { fits = g.1; accepted = enough_room Bits64 _ _ g.0 }
 
 pub returns-in-Ok : goal.returns-in-Ok
 unfolding batch_answer batch_places batch_verdict

@@ -1,12 +1,11 @@
-use mathlib.Core.Path.{refl}
-use Rattle.nodes.specs.inner.Held.{value_strings}
-use Rattle.accept.specs.inner.Held.{name_strings}
+use mathlib.Core.Path.{◌≡◌}
+use Rattle.lookup.specs.Kinds.{table_of}
 use Rattle.taplinen.proofs.lookups.asked_table.Goals as goal
 
 pub returns-in-Name : goal.returns-in-Name
-unfolding name_strings
-returns-in-Name c = rw c.in-Name.is (record { strings = refl; segments = refl; buckets = refl })
+unfolding table_of
+returns-in-Name c = rw c.in-Name.is c.names.ensures.0
 
 pub returns-in-Value : goal.returns-in-Value
-unfolding value_strings
-returns-in-Value c = rw c.in-Value.is (record { strings = refl; segments = refl; buckets = refl })
+unfolding table_of
+returns-in-Value c = rw c.in-Value.is c.values.ensures.0

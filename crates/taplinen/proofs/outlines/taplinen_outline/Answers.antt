@@ -2,13 +2,13 @@ use mathlib.Core.Path.{refl}
 use Rattle.verdict.proofs.Gives.{given, refuses}
 use Rattle.outline.specs.Outlined.{outline_after}
 use Rattle.taplinen.specs.Questions.{outline_verdict, outline_answer, outline_buffer}
-use Rattle.taplinen.proofs.Asked.{to_outline}
+use Rattle.accept.proofs.Accepted.{enough_room}
 use Rattle.taplinen.proofs.Filled.{first-filled, own_filled}
 use Rattle.layout.specs.declared.Edition.TheVariants.{Bits64}
 use Rattle.taplinen.proofs.outlines.taplinen_outline.Goals as goal
 
-pub write_outline-requires : goal.write_outline-requires
-write_outline-requires c = to_outline Bits64 _ _ (given c.accept.ensures.answer c.in-Ok.is)
+pub invariant_of-from-source : goal.invariant_of-from-source
+invariant_of-from-source c = let g = given c.accept.ensures.answer c.in-Ok.is in record { fits = g.1; accepted = enough_room Bits64 _ _ g.0 }
 
 pub returns-in-Ok : goal.returns-in-Ok
 unfolding outline_answer outline_buffer outline_verdict

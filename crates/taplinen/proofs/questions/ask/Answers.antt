@@ -4,7 +4,7 @@ use Rattle.verdict.proofs.Gives.{given, refuses}
 use Rattle.lookup.specs.Kinds.{kind_of, told_number}
 use Rattle.taplinen.specs.Questions.{text_verdict, text_answer, workspace_left}
 use Rattle.taplinen.proofs.Laws.{text_odd, text-even}
-use Rattle.taplinen.proofs.Asked.{to_find}
+use Rattle.accept.proofs.Accepted.{enough_room}
 use Rattle.taplinen.proofs.Filled.{first-answer, own_answer}
 use Rattle.layout.specs.declared.Edition.TheVariants.{Bits64}
 use Rattle.taplinen.proofs.questions.ask.Goals as goal
@@ -16,8 +16,11 @@ returns-in-Ok c = record {
   workspace = c.accept.ensures.workspace;
 }
 
+pub invariant_of-find : goal.invariant_of-find
+invariant_of-find c = let g = given c.accept.ensures.answer c.in-Ok-2.is in record { fits = g.1; accepted = enough_room Bits64 _ _ g.0 }
+
 pub find-requires : goal.find-requires
-find-requires c = let f = to_find Bits64 _ _ (given c.accept.ensures.answer c.in-Ok-2.is) in (f.0, f.1, c.if-text-ne0.false)
+find-requires c = c.if-text-ne0.false
 
 pub returns-in-Ok-2 : goal.returns-in-Ok-2
 unfolding text_answer text_verdict workspace_left
