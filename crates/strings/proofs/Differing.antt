@@ -1,11 +1,13 @@
 -- Entries whose texts are known to differ (specs/inner/Apart.antt). Assumes nothing.
 use Prim.Native.Nat.{ℕ, ◌+◌, ◌-◌, ◌≤◌, ◌<◌, ◌^◌}
 use native.Mathlib.Omega.{arith}
-use mathlib.Core.Path.{◌≡◌, ap, sym, subst, ◌∙◌}
+use mathlib.Core.Path.{◌≡◌, refl, ap, sym, subst, ◌∙◌}
 use mathlib.Core.Bool.{Bool, true, false, true≢false, false≢true}
 use mathlib.Core.Logic.{⊎_elim}
 use mathlib.Core.List.{List}
 use lib.ListN.{length}
+use Rattle.std.specs.Prelude.{Option, None, Some}
+use Rattle.std.specs.Option.{ForSome}
 use Rattle.laws.proofs.Order.{le_or_lt}
 use Rattle.verdict.specs.inner.Tells.{Tells}
 use Rattle.multimap.specs.inner.Multimap.{number_at, Filled, LastWith, PutBehind}
@@ -53,38 +55,61 @@ module _ (t : Table) (k j : ℕ) where
 
 -- ---- one entry against the collected ones
 
--- it differs from all of them from c on, and c is one with its fingerprint
-pub record Meeting (t : Table) (k s n j x : ℕ) (map : List ℕ) (c : ℕ) : Type 0 where
-  pub within : c ≤ n
-  pub rest : (i : ℕ) → c ≤ i → i < n → Differ t k (s + i) j
-  pub number : (i : ℕ) → i + 1 ≡ c → number_at map i ≡ x
+-- how many of them are left where c is the next to compare with
+abbrev pub left : Option ℕ → ℕ
+left None = 0
+left (Some i) = i + 1
+
+-- it differs from all of them behind c, and c is one with its fingerprint
+pub record Meeting (t : Table) (k s n j x : ℕ) (map : List ℕ) (c : Option ℕ) : Type 0 where
+  pub within : left c ≤ n
+  pub rest : (i : ℕ) → left c ≤ i → i < n → Differ t k (s + i) j
+  pub number : ForSome c (λ i. number_at map i ≡ x)
+
+module _ {map : List ℕ} {n x : ℕ} where
+  left_within : (c : Option ℕ) → LastWith map n x c → left c ≤ n
+  left_within None w = omega arith
+  left_within (Some i) w = omega (arith, (w.some i refl).within)
+
+  none_behind : (c : Option ℕ) → LastWith map n x c → (i : ℕ) → left c ≤ i → i < n → number_at map i ≡ x → ⊥
+  none_behind None w i l h = w.none refl i h
+  none_behind (Some a) w i l h = (w.some a refl).after i (omega arith) h
+
+  pub left_less : {c : Option ℕ} → c ≡ Some n → (d : Option ℕ) → LastWith map n x d → left d < left c
+  left_less q d w = omega (arith, ap left q, left_within d w)
 
 module _ (t : Table) (k s n j x : ℕ) (map : List ℕ) (f : Collected t k s n map) (p : Fingerprinted t k j x) where
   other_fingerprint : (i : ℕ) → i < n → (number_at map i ≡ x → ⊥) → Differ t k (s + i) j
   other_fingerprint i l d = record { texts = λ a b e. d ((f.each i l).value a ∙ ap fingerprint_of e ∙ sym (p.value b)) }
 
-  pub meeting_start : (c : ℕ) → LastWith map n x c → Meeting t k s n j x map c
-  meeting_start c w = record { within = w.within; rest = λ i l h. other_fingerprint i h (w.after i l h); number = w.number }
-
-  pub meeting_next : (c d : ℕ) → Meeting t k s n j x map c → 0 < c → Differ t k (s + (c - 1)) j → LastWith map (c - 1) x d → Meeting t k s n j x map d
-  meeting_next c d m l a w = record {
-    within = omega (arith, w.within, m.within);
-    rest = λ i g h.
-        ⊎_elim
-        (λ u. m.rest i u h)
-        (λ u. ⊎_elim
-        (λ v. let z : c - 1 ≡ i = omega arith in subst (λ (y : ℕ). Differ t k (s + y) j) z a)
-        (λ v. other_fingerprint i h (w.after i g (omega arith)))
-        (le_or_lt c (i + 1)))
-        (le_or_lt c i);
-    number = w.number;
+  pub meeting_start : (c : Option ℕ) → LastWith map n x c → Meeting t k s n j x map c
+  meeting_start c w = record {
+    within = left_within c w;
+    rest = λ i l h. other_fingerprint i h (none_behind c w i l h);
+    number = λ i q. (w.some i q).number;
   }
 
-  pub met_some : (c : ℕ) → Meeting t k s n j x map c → 0 < c → Met t k s n j true
-  met_some c m l = record { some = λ e. omega (arith, m.within); none = λ e. absurd (true≢false e) }
+  module _ {c : Option ℕ} (m : Meeting t k s n j x map c) where
+    pub meeting_here : (a : ℕ) → c ≡ Some a → a < n
+    meeting_here a q = omega (arith, ap left q, m.within)
 
-  pub met-none : (c : ℕ) → Meeting t k s n j x map c → c ≤ 0 → Met t k s n j false
-  met-none c m l = record { some = λ e. absurd (false≢true e); none = λ e i h. m.rest i (omega arith) h }
+    pub meeting_next : (a : ℕ) (d : Option ℕ) → c ≡ Some a → Differ t k (s + a) j → LastWith map a x d → Meeting t k s n j x map d
+    meeting_next a d q f w = record {
+      within = omega (arith, left_within d w, meeting_here a q);
+      rest = λ i g h.
+          ⊎_elim
+          (λ u. ⊎_elim (λ v. m.rest i (omega (arith, ap left q)) h) (λ v. let z : a ≡ i = omega arith in subst (λ (y : ℕ). Differ t k (s + y) j) z f)
+          (le_or_lt (a + 1) i))
+          (λ u. other_fingerprint i h (none_behind d w i g u))
+          (le_or_lt a i);
+      number = λ i e. (w.some i e).number;
+    }
+
+    pub met_some : (a : ℕ) → c ≡ Some a → Met t k s n j true
+    met_some a q = record { some = λ e. omega (arith, meeting_here a q); none = λ e. absurd (true≢false e) }
+
+    pub met-none : c ≡ None → Met t k s n j false
+    met-none q = record { some = λ e. absurd (false≢true e); none = λ e i h. m.rest i (omega (arith, ap left q)) h }
 
 -- what no collected entry met differs from each of them
 met_none : (t : Table) (k s n e : ℕ) {r : Bool} → Met t k s n e r → r ≡ false → (i j : ℕ) → s ≤ i → i < s + n → e ≡ j → Differ t k i j

@@ -53,12 +53,12 @@ fn met(
     requires { Here (lent_table table.now) k j × (from + n ≤ j) × Fingerprinted (lent_table table.now) k j x × Collected (lent_table table.now) k from n map.now }
     ensures { Met (lent_table table.now) k from n j result }
 {
-    let mut c = multimap::last(map, n, x);
-    while c > 0 {
-        if entry::same_text(table, k, from + (c - 1), j) {
+    let mut next = multimap::last(map, n, x);
+    while let Some(i) = next {
+        if entry::same_text(table, k, from + i, j) {
             return true;
         }
-        c = multimap::before(map, n, c - 1, x);
+        next = multimap::before(map, n, i, x);
     }
     false
 }
