@@ -7,12 +7,11 @@ use native.Mathlib.Nat.{not-suc-le-zero}
 use native.Mathlib.Decide.{ℕ_discrete}
 use native.Mathlib.Omega.{arith}
 use borrow.Author.Tests.{eq-eqb, ne_eqb}
-use lib.ListN.{length, take, drop, length-drop}
-use lib.Seq.{length-take-le, get_or-take, get_or-drop}
+use lib.ListN.{length, take, drop}
 use Rattle.le.specs.Le.{u16_at}
 use Rattle.text.specs.Text.{chars}
-use Rattle.text.proofs.OneByOne.{chars-same}
 use Rattle.lookup.specs.Lookup.{text_from}
+use Rattle.lookup.proofs.Parts.{part_length, part_text}
 use Rattle.path.specs.Names.{add_char, split, names_of, name_at}
 use Rattle.path.proofs.Split.{length_add}
 
@@ -61,24 +60,6 @@ stands b (suc n) p i h =
     let e = ne_eqb (u16_at b p) 0 f in
     let l : i < length (split (chars b (p + 2) n)) = omega (arith, rw e at h, length_add (u16_at b p) (split (chars b (p + 2) n))) in
     rw e (stands_more b p n i _ l (stands b n (p + 2) i l)))
-
--- n characters of b, as a text of its own
-module _ (b : List ℕ) (at n : ℕ) (h : at + 2 * n ≤ length b) where
-  part_length : length (take (2 * n) (drop at b)) ≡ 2 * n
-  part_length = length-take-le (2 * n) (drop at b) (omega (arith, length-drop at b))
-
-  part_char : (i : ℕ) → i < n → u16_at (take (2 * n) (drop at b)) (0 + 2 * i) ≡ u16_at b (at + 2 * i)
-  unfolding u16_at
-  part_char i l =
-      let z : 0 + 2 * i ≡ 2 * i = omega arith in
-      let e : at + 2 * i + 1 ≡ at + (2 * i + 1) = omega arith in
-      rw (z, e, get_or-take (2 * n) (drop at b) (2 * i) 0 (omega arith), get_or-take (2 * n) (drop at b) (2 * i + 1) 0 (omega arith), get_or-drop at b (2 * i) 0, get_or-drop at b (2 * i + 1) 0)
-
-  part_text : text_from (take (2 * n) (drop at b)) ≡ chars b at n
-  unfolding text_from
-  part_text =
-      let k : length (take (2 * n) (drop at b)) / 2 ≡ n = omega (arith, part_length) in
-      ap (chars (take (2 * n) (drop at b)) 0) k ∙ chars-same (take (2 * n) (drop at b)) b n 0 at part_char
 
 -- each text of some texts is that of its own bytes among them, which are even in number
 pub own_bytes : (texts : List ℕ) (i : ℕ) → i < length (names_of texts)

@@ -149,9 +149,6 @@ module _ {kind : Kind} {t : Table} {lengths : List ℕ} where
       each = fill_next (λ (i : ℕ) (y : Option Candidate). IfSome y (PickedEntry kind t (get_or lengths i 0))) picked n x None (omega (arith, w.long)) w.each (rw (sym e) f);
     }
 
-    pub picked_read : (j : ℕ) → j < n → {k : ℕ} {x : Option Candidate} → k ≡ get_or lengths j 0 → x ≡ get_or picked j None → IfSome x (PickedEntry kind t k)
-    picked_read j l e f = rw (e, f) (w.each j l)
-
 -- what is read of one slot
 pub near_read : {t : Table} {hashes low : List ℕ} {n : ℕ} → PackedBounds t hashes n low → (j : ℕ) → j < n → {h r : ℕ} → h ≡ get_or hashes j 0 → r ≡ get_or low j 0
     → LowerBound t (bucket_of t.buckets h) h (r % 4294967296)

@@ -43,9 +43,8 @@ fn put_place(answers: &mut [u8], at: usize, l: Lookup)
     requires { at + 8 ≤ length answers.old }
     ensures { answers.new ≡ splice answers.old at (place l) }
 {
-    let x = lookup::as_numbers(l);
-    le::put_u32(answers, at, le::wide(x.kind));
-    le::put_u32(answers, at + VALUE_AT, x.value);
+    le::put_u32(answers, at, le::wide(l.code()));
+    le::put_u32(answers, at + VALUE_AT, l.value());
 }
 
 // Writes what each text's lookup answers, a group of texts at a time.
@@ -74,9 +73,7 @@ fn put_places(checked: &CheckedTable, t: &HashTables, kind: Kind, texts: &[u8], 
                 le::wide(hashes[j]),
                 low[j] % 4294967296,
                 picked[j],
-                texts,
-                at,
-                k,
+                &texts[at..at + 2 * k],
             );
             put_place(answers, i, l);
             i += PLACE_SIZE;

@@ -33,20 +33,6 @@ unfolding told_in
 collided-told Name t x ok q n f = index-collided t x ok q n f
 collided-told Value t x ok q n f = address-collided t x ok q n f
 
--- the two numbers, case by case
-module _ {l : Lookup} where
-  pub found-numbers : (n : ℕ) → l ≡ Found n → (0 ≡ kind_of l) × (n ≡ told_number l)
-  unfolding kind_of told_number
-  found-numbers n e = rw e (refl, refl)
-
-  pub absent-numbers : l ≡ Absent → (1 ≡ kind_of l) × (0 ≡ told_number l)
-  unfolding kind_of told_number
-  absent-numbers e = rw e (refl, refl)
-
-  pub collided-numbers : (n : ℕ) → l ≡ Collided n → (2 ≡ kind_of l) × (n ≡ told_number l)
-  unfolding kind_of told_number
-  collided-numbers n e = rw e (refl, refl)
-
 pub kind-low : (l : Lookup) → kind_of l < 2 ^ 32
 unfolding kind_of
 kind-low (Found n) = omega arith

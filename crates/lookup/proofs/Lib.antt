@@ -4,3 +4,4 @@ pub mod Bucket
 pub mod Told
 pub mod ByKind
 pub mod Picked
+pub mod Parts

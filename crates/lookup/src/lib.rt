@@ -26,21 +26,26 @@ pub enum Lookup {
     Absent,
 }
 
-// What is found as two numbers, for C.
-#[derive(Clone, Copy, Debug, PartialEq, Eq)]
-pub struct Numbers {
-    pub kind: u32,
-    pub value: usize,
-}
+// As two numbers, for C.
+#[tactic(auto, unfolding(crate::specs::Kinds::kind_of, crate::specs::Kinds::told_number))]
+impl Lookup {
+    pub fn code(self) -> u32
+        ensures { result ≡ kind_of self }
+    {
+        match self {
+            Lookup::Found(_) => 0,
+            Lookup::Absent => 1,
+            Lookup::Collided(_) => 2,
+        }
+    }
 
-// The numbers of what is found.
-pub fn as_numbers(l: Lookup) -> Numbers
-    ensures { (result.kind ≡ kind_of l) × (result.value ≡ told_number l) }
-{
-    match l {
-        Lookup::Found(n) => Numbers { kind: 0, value: n },
-        Lookup::Absent => Numbers { kind: 1, value: 0 },
-        Lookup::Collided(n) => Numbers { kind: 2, value: n },
+    pub fn value(self) -> usize
+        ensures { result ≡ told_number self }
+    {
+        match self {
+            Lookup::Found(n) | Lookup::Collided(n) => n,
+            Lookup::Absent => 0,
+        }
     }
 }
 

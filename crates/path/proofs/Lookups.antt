@@ -1,7 +1,7 @@
 -- The names of a path looked up one after the other: what is known after n of them. Assumes nothing.
 use Rattle.tree.specs.Chain.{most_levels}
 use mathlib.Core.Path.{◌≡◌, refl, sym, ap, ◌∙◌}
-use mathlib.Core.Logic.{inl, inr}
+use mathlib.Core.Logic.{inr}
 use mathlib.Core.List.{List, ◌∷◌}
 use Prim.Native.Nat.{ℕ, suc, ◌+◌, ◌-◌, ◌*◌, ◌/◌, ◌%◌, ◌≤◌, ◌<◌}
 use native.Mathlib.Nat.{not-suc-le-zero, add-zero, zero-add}
@@ -64,10 +64,6 @@ module _ {ed : Edition} {b path : List ℕ} {n at : ℕ} {indices : List ℕ} (o
   -- all names
   pub sofar_all : n < most_levels → at ≡ length path → WantedIs ed b path (record { count = n; indices = indices })
   sofar_all l h = record { long = w.long; few = omega arith; many = omega (arith, w.left, ap length (names_end path at (omega arith))); index = w.index }
-
-  -- more names than a chain can bear
-  pub sofar_long : most_levels ≤ n → Unborne ed b path
-  sofar_long l = inl (omega (arith, w.left))
 
   -- a name that is no name of the file
   pub sofar_absent : (k : ℕ) → NameEnd path at (at + 2 * k) → ((i : ℕ) → Bears ed b i (chars path at k) → ⊥) → Unborne ed b path

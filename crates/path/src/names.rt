@@ -60,7 +60,8 @@ pub(crate) fn find_names(checked: &CheckedTable, t: &HashTables, path: &[u8]) ->
             return Some(Wanted { count, indices });
         }
         let n = name_length(path, at);
-        let Lookup::Found(i) = lookup::find_text(checked, t, Kind::Name, path, at, n) else {
+        let name = &path[at..at + 2 * n];
+        let Lookup::Found(i) = lookup::find_text(checked, t, Kind::Name, name) else {
             return None;
         };
         indices[count] = i as u32;

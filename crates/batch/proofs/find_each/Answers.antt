@@ -1,4 +1,3 @@
-use native.Mathlib.Omega.{arith}
 use Rattle.verdict.proofs.Gives.{clean_of, refused_of}
 use Rattle.verdict.proofs.Laws.{Clean}
 use Rattle.path.specs.Names.{path_checks}
@@ -23,10 +22,6 @@ pub returns-then-answers-n : goal.returns-then-answers-n
 returns-then-answers-n c =
     let both = too_few _ _ _ (formed (goal.at.returns-then-answers-n c).In_ok-check_path) c.count_texts-n.ensures c.if-answers-n.true in
     record { answer = both.0; answers = both.1 }
-
-pub put_places-requires : goal.put_places-requires
-put_places-requires c =
-    (formed (goal.at.put_places-requires c).In_ok-check_path, omega (arith, c.if-answers-n.false, c.count_texts-n.ensures))
 
 pub returns : goal.returns
 returns c =

@@ -14,16 +14,9 @@ pub loop-j-init : goal.loop-j-init
 loop-j-init c = let k = c.bucket-k.ensures in
     searched_start _ _ _ _ _ _ c.args.checked.now.checked c.requires.0 k.0 k.1 c.entry_count-m.ensures c.requires.1
 
-pub entry_at-e-requires : goal.entry_at-e-requires
-entry_at-e-requires c = let i = c.loop-j.invariant in here_in _ _ _ _ i.bucket i.many (inside (goal.at.entry_at-e-requires c).In-loop-j)
-
 pub returns-then-hash-h : goal.returns-then-hash-h
 returns-then-hash-h c = searched_over _ _ _ _ _ _ _ c.loop-j.invariant c.args.checked.now.checked _ c.unborne.ensures _ (inside (goal.at.returns-then-hash-h c).In-loop-j)
     (hash_at _ _ _ _ _ c.entry_at-e.ensures.0 c.hash.ensures.0) c.if-hash-h.true
-
-pub entry_bears-requires : goal.entry_bears-requires
-entry_bears-requires c = let i = c.loop-j.invariant in
-    here_in _ _ _ _ i.bucket i.many (inside (goal.at.entry_bears-requires c).In-loop-j)
 
 pub returns-then-entry_bears : goal.returns-then-entry_bears
 returns-then-entry_bears c = let i = c.loop-j.invariant in

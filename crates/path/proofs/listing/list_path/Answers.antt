@@ -58,9 +58,6 @@ returns-in_default c =
     let both = none_match Bits64 _ _ _ (formed (goal.at.returns-in_default c).In_ok-check_path) (unborne-none Bits64 _ _ c.requires.rules c.in_default.ensures) in
     record { answer = both.0; listing = both.1 }
 
-pub root_at-root-requires : goal.root_at-root-requires
-root_at-root-requires c = let m = c.args.nodes.now.ready.nodes in omega (arith, m.short, m.at_is, m.laid.head)
-
 pub list_below-k-requires : goal.list_below-k-requires
 list_below-k-requires c = let at = goal.at.list_below-k-requires c in record { used = rooted at.After-root_at-root; few = few_wanted at.In-Some }
 

@@ -1,11 +1,19 @@
+use mathlib.Core.Path.{◌≡◌}
 use native.Mathlib.Omega.{arith}
+use Rattle.text.specs.Text.{chars}
+use Rattle.strings.specs.inner.Lent.{lent_table}
+use Rattle.lookup.specs.Kinds.{told_in}
+use Rattle.lookup.specs.declared.Kind.TheVariants.{Name}
+use Rattle.lookup.proofs.Parts.{slice_text}
 use Rattle.layout.specs.declared.Edition.TheVariants.{Bits64}
 use Rattle.path.proofs.Bearers.{found_bears, unfound_bears, index-low}
-use Rattle.path.proofs.Lookups.{sofar_start, sofar_more, sofar_absent, sofar_all, sofar_long}
+use Rattle.path.proofs.Lookups.{sofar_start, sofar_more, sofar_absent, sofar_all}
 use Rattle.path.proofs.names.find_names.Goals as goal
+use Rattle.path.proofs.names.find_names.Goals.{After-find_text}
 
-pub find_text-requires : goal.find_text-requires
-find_text-requires c = omega (arith, c.name_length-n.ensures.within)
+-- what the lookup tells, of the name's characters
+told : (c : After-find_text) → let a = c.args in c.find_text.result ≡ told_in Name (lent_table a.checked.now.table) (chars a.path.now c.loop-count.at c.name_length-n.result)
+told c = rw (slice_text c.args.path.now c.loop-count.at c.name_length-n.result (omega (arith, c.name_length-n.ensures.within))) at c.find_text.ensures
 
 pub loop-count-init : goal.loop-count-init
 loop-count-init c = sofar_start Bits64 _ _
@@ -15,14 +23,11 @@ returns-then-at-path c = sofar_all c.requires.1 c.loop-count.invariant c.loop-co
 
 pub returns-in_default : goal.returns-in_default
 returns-in_default c = sofar_absent c.requires.1 c.loop-count.invariant _ c.name_length-n.ensures
-    (unfound_bears Bits64 _ _ c.args.checked.now.checked c.requires.0 c.find_text.ensures c.in_default.not-Found)
+    (unfound_bears Bits64 _ _ c.args.checked.now.checked c.requires.0 (told (goal.at.returns-in_default c).After-find_text) c.in_default.not-Found)
 
 pub overflow_cast-indices : goal.overflow_cast-indices
-overflow_cast-indices c = record { fits = index-low Bits64 _ _ _ _ c.requires.0 c.args.checked.now.table.held.laid (found_bears Bits64 _ _ c.args.checked.now.checked c.requires.0 c.find_text.ensures c.in-Found.is) }
+overflow_cast-indices c = record { fits = index-low Bits64 _ _ _ _ c.requires.0 c.args.checked.now.table.held.laid (found_bears Bits64 _ _ c.args.checked.now.checked c.requires.0 (told (goal.at.overflow_cast-indices c).After-find_text) c.in-Found.is) }
 
 pub loop-count-preserved : goal.loop-count-preserved
 loop-count-preserved c =
-    sofar_more c.requires.1 c.loop-count.invariant _ c.name_length-n.ensures c.loop-count-test.true _ (found_bears Bits64 _ _ c.args.checked.now.checked c.requires.0 c.find_text.ensures c.in-Found.is)
-
-pub returns : goal.returns
-returns c = sofar_long c.requires.1 c.loop-count.invariant c.loop-count-test.false
+    sofar_more c.requires.1 c.loop-count.invariant _ c.name_length-n.ensures c.loop-count-test.true _ (found_bears Bits64 _ _ c.args.checked.now.checked c.requires.0 (told (goal.at.loop-count-preserved c).After-find_text) c.in-Found.is)
