@@ -50,7 +50,7 @@ fn put_place(answers: &mut [u8], at: usize, l: Lookup)
 
 // Writes what each text's lookup answers, a group of texts at a time.
 fn put_places(checked: &CheckedTable, t: &HashTables, kind: Kind, texts: &[u8], answers: &mut [u8])
-    requires texts_value { (first_fault (path_checks texts.now) ≡ Accepted) × (8 * length (names_of texts.now) ≤ length answers.old) }
+    requires { (first_fault (path_checks texts.now) ≡ Accepted) × (8 * length (names_of texts.now) ≤ length answers.old) }
     ensures { answers.new
         ≡ splice answers.old 0 (places (told_in kind (lent_table checked.now.table)) (names_of texts.now)) }
 {

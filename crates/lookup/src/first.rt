@@ -1,13 +1,13 @@
 // A lookup whose text is compared later: what is known before any text of the table is read, so that a caller with many can have their
 // texts read ahead.
-ghost use Rattle.std.specs.Prelude.{◌≡◌, ◌+◌, ◌*◌, ◌≤◌, IfSome, length};
+ghost use Rattle.std.specs.Prelude.{◌≡◌, ◌+◌, ◌/◌, ◌≤◌, IfSome, length};
 ghost use Rattle.hash.specs.Hash.{hash_text, bucket_of};
 ghost use Rattle.region.specs.Region.{place_of, Resolves};
 ghost use Rattle.region.specs.inner.Samples.{Mapped, Starts};
-ghost use Rattle.text.specs.Text.{chars};
 ghost use Rattle.layout.specs.Table.{entry_segment, entry_element};
 ghost use Rattle.strings.specs.inner.Lent.{lent_table};
 ghost use Rattle.search.specs.inner.LowerBound.{LowerBound};
+ghost use Rattle.lookup.specs.Lookup.{text_from};
 ghost use Rattle.lookup.specs.Kinds.{told_in};
 ghost use Rattle.lookup.specs.inner.PickedEntry.{PickedEntry};
 
@@ -56,8 +56,8 @@ pub fn pick(checked: &CheckedTable, kind: Kind, h: usize, low: usize, n: usize) 
     })
 }
 
-// What is told of the n characters at p of what is asked, for a caller that has their hash, its place in the bucket, and what was picked
-// there. Where that bears another text, all entries with the hash are read.
+// What is told of a text, for a caller that has its hash, the hash's place in the bucket, and what was picked there. Where that bears
+// another text, all entries with the hash are read.
 pub fn find_picked(
     checked: &CheckedTable,
     kind: Kind,
@@ -65,19 +65,16 @@ pub fn find_picked(
     low: usize,
     picked: Option<Candidate>,
     q: &[u8],
-    p: usize,
-    n: usize,
 ) -> Lookup
-    requires n_in_bounds { (p + 2 * n ≤ length q.now) × (h ≡ hash_text (chars q.now p n))
+    requires hashed { (h ≡ hash_text (text_from q.now))
         × LowerBound (lent_table checked.now.table) (bucket_of (length checked.now.table.buckets.now) h) h low }
-    requires picked_entry { IfSome picked (PickedEntry kind (lent_table checked.now.table) n) }
-    ensures { result ≡ told_in kind (lent_table checked.now.table) (chars q.now p n) }
+    requires picked_entry { IfSome picked (PickedEntry kind (lent_table checked.now.table) (length q.now / 2)) }
+    ensures { result ≡ told_in kind (lent_table checked.now.table) (text_from q.now) }
 {
-    let table = &checked.table;
     if let Some(c) = picked
-        && text::alike(table.file, c.text, q, p, n)
+        && text::alike(checked.table.file, c.text, q, 0, q.len() / 2)
     {
         return Lookup::Found(c.result);
     }
-    crate::find_from(checked, kind, h, low, q, p, n)
+    crate::find_from(checked, kind, h, low, q)
 }

@@ -1,15 +1,15 @@
 // Name by text and value by text in an accepted string table (FORMAT, "Questions").
 #![tactic(auto)]
 
-ghost use Rattle.std.specs.Prelude.{◌≡◌, ◌+◌, ◌*◌, ◌≤◌, length};
+ghost use Rattle.std.specs.Prelude.{◌≡◌, ◌+◌, ◌≤◌, length};
 ghost use Rattle.verdict.specs.inner.Tells.{Tells};
 ghost use Rattle.hash.specs.Hash.{hash_text, bucket_of};
-ghost use Rattle.text.specs.Text.{chars, holds_zero?};
+ghost use Rattle.text.specs.Text.{holds_zero?};
 ghost use Rattle.strings.specs.Texts.{text_of};
 ghost use Rattle.strings.specs.inner.Held.{Here};
 ghost use Rattle.strings.specs.inner.Lent.{lent_table};
 ghost use Rattle.search.specs.inner.LowerBound.{LowerBound};
-ghost use Rattle.lookup.specs.Lookup.{entry_of_text, told_unborne};
+ghost use Rattle.lookup.specs.Lookup.{text_from, entry_of_text, told_unborne};
 ghost use Rattle.lookup.specs.Kinds.{told_in, tells_at, kind_of, told_number};
 
 pub mod first;
@@ -51,12 +51,13 @@ pub enum Kind {
     Value,
 }
 
-// Whether entry j of bucket k bears the n characters at p of what is asked. Its length is right: where that fits, no 0 is looked for.
-fn entry_bears(checked: &CheckedTable, k: usize, j: usize, q: &[u8], p: usize, n: usize) -> bool
-    requires { Here (lent_table checked.now.table) k j × (p + 2 * n ≤ length q.now) }
-    ensures { Tells (text_of (lent_table checked.now.table) k j ≡ chars q.now p n) result }
+// Whether entry j of bucket k bears the text that is asked. Its length is right: where that fits, no 0 is looked for.
+fn entry_bears(checked: &CheckedTable, k: usize, j: usize, q: &[u8]) -> bool
+    requires { Here (lent_table checked.now.table) k j }
+    ensures { Tells (text_of (lent_table checked.now.table) k j ≡ text_from q.now) result }
 {
     let table = &checked.table;
+    let n = q.len() / 2;
     let e = entry::entry_at(table, k, j);
     if fields::length(table.file, e) != n + 1 {
         return false;
@@ -64,30 +65,28 @@ fn entry_bears(checked: &CheckedTable, k: usize, j: usize, q: &[u8], p: usize, n
     let Some(spot) = spot::entry_spot(table.file, table.parts.chars, table.segments, e) else {
         return false;
     };
-    text::alike(table.file, spot.at, q, p, n)
+    text::alike(table.file, spot.at, q, 0, n)
 }
 
-// What is told of the n characters at p of what is asked, which no entry bears, when `count` entries have their hash. A 0 is looked for only
-// where it matters.
-fn unborne(q: &[u8], p: usize, n: usize, count: usize) -> Lookup
-    requires { p + 2 * n ≤ length q.now }
-    ensures { result ≡ told_unborne (chars q.now p n) (holds_zero? (chars q.now p n)) count }
+// What is told of a text that no entry bears, when `count` entries have its hash. A 0 is looked for only where it matters.
+fn unborne(q: &[u8], count: usize) -> Lookup
+    ensures { result ≡ told_unborne (text_from q.now) (holds_zero? (text_from q.now)) count }
 {
     if count == 0 {
         return Lookup::Absent;
     }
-    if text::holds_zero(q, p, n) {
+    if text::holds_zero(q, 0, q.len() / 2) {
         return Lookup::Absent;
     }
     Lookup::Collided(count)
 }
 
-// The entry that bears the n characters at p of what is asked, whose hash is h: from `low` on, the first entry of its bucket whose hash
-// is not below h. Among equal hashes all are read. Where none bears the text, these are all entries of the table with the hash.
-fn find_entry(checked: &CheckedTable, h: usize, low: usize, q: &[u8], p: usize, n: usize) -> Lookup
-    requires n_in_bounds { (p + 2 * n ≤ length q.now) × (h ≡ hash_text (chars q.now p n))
+// The entry that bears the text that is asked, whose hash is h: from `low` on, the first entry of its bucket whose hash is not below h.
+// Among equal hashes all are read. Where none bears the text, these are all entries of the table with the hash.
+fn find_entry(checked: &CheckedTable, h: usize, low: usize, q: &[u8]) -> Lookup
+    requires { (h ≡ hash_text (text_from q.now))
         × LowerBound (lent_table checked.now.table) (bucket_of (length checked.now.table.buckets.now) h) h low }
-    ensures { result ≡ entry_of_text (lent_table checked.now.table) (chars q.now p n) }
+    ensures { result ≡ entry_of_text (lent_table checked.now.table) (text_from q.now) }
 {
     let table = &checked.table;
     let k = hash::bucket(h, table.buckets.len());
@@ -95,13 +94,13 @@ fn find_entry(checked: &CheckedTable, h: usize, low: usize, q: &[u8], p: usize, 
     for j in low..m {
         let e = entry::entry_at(table, k, j);
         if fields::hash(table.file, e) != h {
-            return unborne(q, p, n, j - low);
+            return unborne(q, j - low);
         }
-        if entry_bears(checked, k, j, q, p, n) {
+        if entry_bears(checked, k, j, q) {
             return Lookup::Found(e);
         }
     }
-    unborne(q, p, n, m - low)
+    unborne(q, m - low)
 }
 
 // What is told of the entry at e.
@@ -115,43 +114,32 @@ fn result_at(b: &[u8], kind: Kind, e: usize) -> usize
     }
 }
 
-// What is told of those characters, for a caller that has their hash, and its place in the bucket.
+// What is told of that text, for a caller that has its hash, and the hash's place in the bucket.
 pub(crate) fn find_from(
     checked: &CheckedTable,
     kind: Kind,
     h: usize,
     low: usize,
     q: &[u8],
-    p: usize,
-    n: usize,
 ) -> Lookup
-    requires n_in_bounds { (p + 2 * n ≤ length q.now) × (h ≡ hash_text (chars q.now p n))
+    requires { (h ≡ hash_text (text_from q.now))
         × LowerBound (lent_table checked.now.table) (bucket_of (length checked.now.table.buckets.now) h) h low }
-    ensures { result ≡ told_in kind (lent_table checked.now.table) (chars q.now p n) }
+    ensures { result ≡ told_in kind (lent_table checked.now.table) (text_from q.now) }
 {
-    let table = &checked.table;
-    match find_entry(checked, h, low, q, p, n) {
-        Lookup::Found(e) => Lookup::Found(result_at(table.file, kind, e)),
+    match find_entry(checked, h, low, q) {
+        Lookup::Found(e) => Lookup::Found(result_at(checked.table.file, kind, e)),
         Lookup::Collided(others) => Lookup::Collided(others),
         Lookup::Absent => Lookup::Absent,
     }
 }
 
-// The same for a caller that has the text only.
-pub fn find_text(
-    checked: &CheckedTable,
-    t: &HashTables,
-    kind: Kind,
-    q: &[u8],
-    p: usize,
-    n: usize,
-) -> Lookup
-    requires { p + 2 * n ≤ length q.now }
-    ensures { result ≡ told_in kind (lent_table checked.now.table) (chars q.now p n) }
+// The same for a caller that has the text only. It comes as bytes, two a character; an odd last byte is no part of it.
+pub fn find_text(checked: &CheckedTable, t: &HashTables, kind: Kind, q: &[u8]) -> Lookup
+    ensures { result ≡ told_in kind (lent_table checked.now.table) (text_from q.now) }
 {
     let table = &checked.table;
-    let h = text::hash_chars(q, t, p, n, 0);
+    let h = text::hash_chars(q, t, 0, q.len() / 2, 0);
     let k = hash::bucket(h, table.buckets.len());
     let low = search::lower_bound(table, k, h);
-    find_from(checked, kind, h, low, q, p, n)
+    find_from(checked, kind, h, low, q)
 }

@@ -67,11 +67,11 @@ module _ (ed : Edition) (b path : List ℕ) (r : FileRules ed b) where
   pub unborne-none : Unborne ed b path → path_matches ed b path ≡ []
   unborne-none u = ⊎_elim (long-none ed b r path) (λ x. unknown_none ed b r path x.0 x.1 x.2) u
 
-  pub wanted-matches : {w : Wanted} → WantedIs ed b path w → matches_at (tree_of ed b) (take w.count w.indices) 0 ≡ path_matches ed b path
+  pub wanted-matches : {w : Wanted} {d : List ℕ} → d ≡ b → WantedIs ed b path w → matches_at (tree_of ed d) (take w.count w.indices) 0 ≡ path_matches ed b path
   unfolding path_matches
-  wanted-matches {w} h =
-      let l = length-take-le w.count w.indices (omega (arith, h.few, h.long)) in
+  wanted-matches {w} e h =
+      rw e (let l = length-take-le w.count w.indices (omega (arith, h.few, h.long)) in
       sym
       (matches_by_index ed b r (λ i k x. one_name ed b x ((strings_iff (names ed b)).1 r.name-table) i k) (names_of path) _
       (record { many = l ∙ h.many; each = λ i m. rw (get_or-take w.count w.indices i 0 (omega (arith, h.many))) (h.index i (omega (arith, h.many))) })
-      0 r.nodes.root)
+      0 r.nodes.root))

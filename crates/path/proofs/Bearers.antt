@@ -27,24 +27,27 @@ module _ (ed : Edition) (b x : List ℕ) (ok : Clean (string_checks (names ed b)
       let q = bears_found k g in
       cc
 
-  -- what a lookup in that table tells
-  module _ {t : Table} {r : Lookup} (same : t ≡ names ed b) (told : r ≡ told_in Name t x) where
-    told_names : r ≡ index_of_text (names ed b) x
-    unfolding told_in
-    told_names = told ∙ ap (λ (y : Table). index_of_text y x) same
+-- what a lookup in that table tells
+module _ (ed : Edition) (b x : List ℕ) {t : Table} {r : Lookup} (checked : Clean (string_checks t)) (same : t ≡ names ed b) (told : r ≡ told_in Name t x) where
+  ok : Clean (string_checks (names ed b))
+  ok = subst (λ (y : Table). Clean (string_checks y)) same checked
 
-    pub found_bears : {i : ℕ} → r ≡ Found i → Bears ed b i x
-    unfolding name_count name_text
-    found_bears {i} e =
-        let w = (index_listed (names ed b) x ok i).0 (sym told_names ∙ e) in
-        record { low = w.0; high = omega (arith, w.1); text = w.2 }
+  told_names : r ≡ index_of_text (names ed b) x
+  unfolding told_in
+  told_names = told ∙ ap (λ (y : Table). index_of_text y x) same
 
-    pub unfound_bears : ((i : ℕ) → r ≡ Found i → ⊥) → (i : ℕ) → Bears ed b i x → ⊥
-    unfound_bears f i h = f i (told_names ∙ bears_found i h)
+  pub found_bears : {i : ℕ} → r ≡ Found i → Bears ed b i x
+  unfolding name_count name_text
+  found_bears {i} e =
+      let w = (index_listed (names ed b) x ok i).0 (sym told_names ∙ e) in
+      record { low = w.0; high = omega (arith, w.1); text = w.2 }
 
-    -- so none bears a collided text
-    pub collided_bears : {n : ℕ} → r ≡ Collided n → (i : ℕ) → Bears ed b i x → ⊥
-    collided_bears e i h = unfound_bears (λ j q. let z : ◌≡◌ {A = ℕ} 0 1 = cc in omega arith) i h
+  pub unfound_bears : ((i : ℕ) → r ≡ Found i → ⊥) → (i : ℕ) → Bears ed b i x → ⊥
+  unfound_bears f i h = f i (told_names ∙ bears_found ed b x ok i h)
+
+  -- so none bears a collided text
+  pub collided_bears : {n : ℕ} → r ≡ Collided n → (i : ℕ) → Bears ed b i x → ⊥
+  collided_bears e i h = unfound_bears (λ j q. let z : ◌≡◌ {A = ℕ} 0 1 = cc in omega arith) i h
 
 -- an index has 32 bits
 pub index-low : (ed : Edition) (b x : List ℕ) (i : ℕ) (t : Table) → t ≡ names ed b → TableLaid t values_most → Bears ed b i x → i < 2 ^ 32

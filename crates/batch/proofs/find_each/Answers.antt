@@ -26,7 +26,7 @@ returns-then-answers-n c =
 
 pub put_places-requires : goal.put_places-requires
 put_places-requires c =
-    record { tables = c.requires; texts_value = (formed (goal.at.put_places-requires c).In_ok-check_path, omega (arith, c.if-answers-n.false, c.count_texts-n.ensures)) }
+    (formed (goal.at.put_places-requires c).In_ok-check_path, omega (arith, c.if-answers-n.false, c.count_texts-n.ensures))
 
 pub returns : goal.returns
 returns c =

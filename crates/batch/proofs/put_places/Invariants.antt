@@ -1,7 +1,7 @@
 use Prim.Native.Nat.{◌-◌}
 use mathlib.Core.Path.{◌≡◌}
 use lib.ListN.{length}
-use Rattle.strings.specs.inner.Held.{held_table}
+use Rattle.strings.specs.inner.Lent.{lent_table}
 use Rattle.lookup.specs.Kinds.{told_in}
 use Rattle.search.specs.inner.Group.{Lengths}
 use Rattle.batch.proofs.Placed.{Writing}
@@ -9,11 +9,11 @@ use Rattle.batch.proofs.Groupwise.{Going}
 use Rattle.batch.proofs.put_places.Given as goal
 
 abbrev pub invariant-loop-j : goal.invariant-loop-j
-invariant-loop-j l = Going (told_in l.kind (held_table l.b l.s l.buckets)) l.texts l.initial.answers l.initial.i l.initial.at l.n l.lengths l.hashes l.j l.answers l.i l.at
+invariant-loop-j l = Going (told_in l.kind (lent_table l.checked.table)) l.texts l.initial.answers l.initial.i l.initial.at l.n l.lengths l.hashes l.j l.answers l.i l.at
 
 abbrev pub invariant-loop-at : goal.invariant-loop-at
 invariant-loop-at l = record {
-  writing : Writing (told_in l.kind (held_table l.b l.s l.buckets)) l.texts l.initial.answers l.i l.at l.answers;
+  writing : Writing (told_in l.kind (lent_table l.checked.table)) l.texts l.initial.answers l.i l.at l.answers;
   lengths : Lengths l.lengths l.hashes l.low;
   picked : length l.picked ≡ 64;
 }

@@ -3,13 +3,13 @@ use Rattle.lookup.proofs.ByKind.{none_told, collided-told}
 use Rattle.lookup.proofs.find_from.Goals as goal
 
 pub result_at-requires : goal.result_at-requires
-result_at-requires c = let p = c.requires.held in entry-inside _ _ p.1 c.find_entry.ensures _ c.in-Found.is _ p.0.laid
+result_at-requires c = let a = c.args.checked.now in entry-inside _ _ a.checked c.find_entry.ensures _ c.in-Found.is _ a.table.held.laid
 
 pub returns-in-Found : goal.returns-in-Found
-returns-in-Found c = entry-told _ _ c.requires.held.1 c.find_entry.ensures _ c.in-Found.is _ _ c.result_at.ensures
+returns-in-Found c = entry-told _ _ c.args.checked.now.checked c.find_entry.ensures _ c.in-Found.is _ _ c.result_at.ensures
 
 pub returns-in-Collided : goal.returns-in-Collided
-returns-in-Collided c = collided-told _ _ _ c.requires.held.1 c.find_entry.ensures _ c.in-Collided.is
+returns-in-Collided c = collided-told _ _ _ c.args.checked.now.checked c.find_entry.ensures _ c.in-Collided.is
 
 pub returns-in-Absent : goal.returns-in-Absent
-returns-in-Absent c = none_told _ _ _ c.requires.held.1 c.find_entry.ensures c.in-Absent.is
+returns-in-Absent c = none_told _ _ _ c.args.checked.now.checked c.find_entry.ensures c.in-Absent.is

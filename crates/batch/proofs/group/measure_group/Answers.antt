@@ -9,14 +9,14 @@ use Rattle.batch.proofs.group.measure_group.Goals.{After-measure-x}
 found : (c : After-measure-x) → TextAt c.args.texts.now c.loop-n.p c.measure-x.result.length c.measure-x.result.hash
 found c =
     let p = c.requires in
-    text_measured _ _ p.1 (omega (arith, c.loop-n.invariant.stands, stands_even c.args.at c.loop-n.lengths c.loop-n.n p.2)) c.if-p-texts.false (read_of c.measure-x.ensures)
+    text_measured _ _ p.0 (omega (arith, c.loop-n.invariant.stands, stands_even c.args.at c.loop-n.lengths c.loop-n.n p.1)) c.if-p-texts.false (read_of c.measure-x.ensures)
 
 pub loop-n-init : goal.loop-n-init
-loop-n-init c = let p = c.requires in record { group = group_none _ _ _ _ p.4 p.5; stands = sym (stands_first _ _) }
+loop-n-init c = let p = c.requires in record { group = group_none _ _ _ _ p.3 p.4; stands = sym (stands_first _ _) }
 
 pub returns-then-p-texts : goal.returns-then-p-texts
 returns-then-p-texts c = let i = c.loop-n.invariant in
-    (some_taken _ _ _ _ _ i.stands c.requires.3 c.if-p-texts.true, i.group)
+    (some_taken _ _ _ _ _ i.stands c.requires.2 c.if-p-texts.true, i.group)
 
 pub overflow_cast-hashes : goal.overflow_cast-hashes
 overflow_cast-hashes c = record { fits = omega (arith, read_small (read_of c.measure-x.ensures)) }

@@ -14,13 +14,13 @@ use Rattle.path.proofs.below.+list_below.Goals.{In-loop-j, After-node_name, then
 
 -- the child lies in the file
 child : (t : ℕ) (c : In-loop-j t)
-    → c.children_of-c.result.place + c.loop-j.j * node_size Bits64 + node_size Bits64 ≤ length c.args.b.now
-child t c = child_fits c.requires.tree_ready.0 c.children_of-c.ensures c.loop-j.j (omega arith)
+    → c.children_of-c.result.place + c.loop-j.j * node_size Bits64 + node_size Bits64 ≤ length c.args.nodes.now.file.now
+child t c = child_fits c.args.nodes.now.ready c.children_of-c.ensures c.loop-j.j (omega arith)
 
 -- the name read is the child's
 named : (t : ℕ) (c : After-node_name t)
-    → c.node_name.result ≡ (tree_of Bits64 c.args.b.now).name (c.children_of-c.result.first + c.loop-j.j)
-named t c = child-name c.requires.tree_ready.0 c.children_of-c.ensures c.loop-j.j (omega arith) c.node_name.ensures.0
+    → c.node_name.result ≡ (tree_of Bits64 c.args.nodes.now.file.now).name (c.children_of-c.result.first + c.loop-j.j)
+named t c = child-name c.args.nodes.now.ready c.children_of-c.ensures c.loop-j.j (omega arith) c.node_name.ensures.0
 
 pub returns-in_default : goal.returns-in_default
 returns-in_default t c =
@@ -32,8 +32,8 @@ returns-in_default t c =
     (at_end Bits64 _ _ _ c.in_default.len_below) refl refl
 
 pub children_of-c-requires : goal.children_of-c-requires
-children_of-c-requires t c = let p = c.requires.tree_ready in
-    (p.0, node_reached p.0 _ _ p.1 p.2, node-fits p.0 _ _ p.1 p.2)
+children_of-c-requires t c = let p = c.requires.used in
+    (node_reached c.args.nodes.now.ready _ _ p.0 p.1, node-fits c.args.nodes.now.ready _ _ p.0 p.1)
 
 pub loop-j-init : goal.loop-j-init
 unfolding ranged
@@ -51,11 +51,11 @@ list_below-m-requires t c =
     let k = c.children_of-c.ensures in
     let w = k.row.node l.j (omega arith) in
     let e = sym (named t (goal.at.list_below-m-requires t c).After-node_name) ∙ c.if-node_name-name.true in
-    let p = c.requires.tree_ready in
+    let p = c.requires.used in
     let q = c.requires.few in
     let s = indices-split c.args.wanted.now c.in-len1-up.len_at_least c.wide-name.ensures.0 in
-    let h = hit_le Bits64 c.args.b.now _ _ s c.args.a (first_is _ p.2 k) (count_is _ p.2 k) l.j (omega arith) e in
-    (omega (arith, c.decreases, ap length s), ((p.0, w.0, w.1), (omega (arith, q.0, ap length s), omega (arith, l.invariant.next_is, q.1))))
+    let h = hit_le Bits64 c.args.nodes.now.file.now _ _ s c.args.a (first_is _ p.1 k) (count_is _ p.1 k) l.j (omega arith) e in
+    (omega (arith, c.decreases, ap length s), (w, (omega (arith, q.0, ap length s), omega (arith, l.invariant.next_is, q.1))))
 
 pub loop-j-preserved : goal.loop-j-preserved
 loop-j-preserved t c =
@@ -63,13 +63,13 @@ loop-j-preserved t c =
     let n = named t (goal.at.loop-j-preserved t c).After-node_name in
     elim c.if-node_name-name.branch [
       | then-node_name-name w ↦
-          wrote_same (wrote_then l.invariant w.list_below-m.ensures) (range_hit Bits64 c.args.b.now _ _ _ l.j (sym n ∙ w.if-node_name-name.true)) w.m-is w.list-is
-      | else-node_name-name w ↦ wrote_same l.invariant (range_skip Bits64 c.args.b.now _ _ _ l.j (λ z. w.if-node_name-name.false (n ∙ z))) w.m-is w.list-is
+          wrote_same (wrote_then l.invariant w.list_below-m.ensures) (range_hit Bits64 c.args.nodes.now.file.now _ _ _ l.j (sym n ∙ w.if-node_name-name.true)) w.m-is w.list-is
+      | else-node_name-name w ↦ wrote_same l.invariant (range_skip Bits64 c.args.nodes.now.file.now _ _ _ l.j (λ z. w.if-node_name-name.false (n ∙ z))) w.m-is w.list-is
     ]
 
 pub returns : goal.returns
 returns t c =
     let k = c.children_of-c.ensures in
-    let q = c.requires.tree_ready.2 in
+    let q = c.requires.used.1 in
     wrote_same c.loop-j.invariant
     (whole Bits64 _ _ _ (indices-split c.args.wanted.now c.in-len1-up.len_at_least c.wide-name.ensures.0) _ (first_is _ q k) (count_is _ q k) c.loop-j.j (omega arith)) refl refl

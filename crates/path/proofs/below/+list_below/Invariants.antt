@@ -8,4 +8,4 @@ abbrev pub decreases-list_below : goal.decreases-list_below
 decreases-list_below l = length l.wanted.now
 
 abbrev pub invariant-loop-j : goal.invariant-loop-j
-invariant-loop-j l = Wrote l.initial.list l.k (passed Bits64 l.b l.name l.rest l.c.first l.j) l.m l.list
+invariant-loop-j l = Wrote l.initial.list l.k (passed Bits64 l.nodes.file.now l.name l.rest l.c.first l.j) l.m l.list

@@ -7,10 +7,8 @@ use lib.Seq.{length-take-le}
 use Rattle.verdict.proofs.Laws.{Clean}
 use Rattle.verdict.proofs.Gives.{clean_of, refused_of}
 use Rattle.layout.specs.declared.Edition.TheVariants.{Bits64}
-use Rattle.strings.proofs.Accepted.{strings_iff}
 use Rattle.tree.specs.Chain.{deepest_level}
 use Rattle.tree.specs.File.{Used, node_of, tree_of}
-use Rattle.tree.specs.inner.Marking.{TreeReady}
 use Rattle.tree.proofs.Outcomes.{root-place}
 use Rattle.path.specs.Names.{path_checks}
 use Rattle.path.specs.Listing.{path_matches}
@@ -28,24 +26,24 @@ formed c = clean_of c.check_path.ensures c.in_ok-check_path.was
 found : (c : In-Some)
     → let a = c.args in
     let w = c.in-Some.w in
-    matches_at (tree_of Bits64 a.b.now) (take w.count w.indices) 0 ≡ path_matches Bits64 a.b.now a.path.now
-found c = wanted-matches Bits64 _ _ c.requires.4 c.in-Some.ensures
+    matches_at (tree_of Bits64 a.nodes.now.file.now) (take w.count w.indices) 0 ≡ path_matches Bits64 a.checked.now.table.file.now a.path.now
+found c = wanted-matches Bits64 _ _ c.requires.rules c.requires.file.1 c.in-Some.ensures
 
 -- the number of matches
-counted : (c : After-list_below-k) → c.list_below-k.result ≡ length (path_matches Bits64 c.args.b.now c.args.path.now)
-counted c = c.list_below-k.ensures.next_is ∙ zero-add _ ∙ ap length (wanted-matches Bits64 _ _ c.requires.4 c.in-Some.ensures)
+counted : (c : After-list_below-k) → c.list_below-k.result ≡ length (path_matches Bits64 c.args.checked.now.table.file.now c.args.path.now)
+counted c = c.list_below-k.ensures.next_is ∙ zero-add _ ∙ ap length (wanted-matches Bits64 _ _ c.requires.rules c.requires.file.1 c.in-Some.ensures)
 
 -- what both passes require
 rooted : (c : After-root_at-root) → let a = c.args in
-    TreeReady Bits64 a.b.now a.nodes a.node_segments.now × Used Bits64 a.b.now 0 × (c.root_at-root.result ≡ node_of Bits64 a.b.now 0)
-rooted c = (c.requires.3, c.requires.4.nodes.root, root-place Bits64 _ _ _ c.root_at-root.ensures c.requires.3.nodes.at_is)
+    Used Bits64 a.nodes.now.file.now 0 × (c.root_at-root.result ≡ node_of Bits64 a.nodes.now.file.now 0)
+rooted c = (rw c.requires.file.1 c.requires.rules.nodes.root, root-place Bits64 _ _ _ c.root_at-root.ensures c.args.nodes.now.ready.nodes.at_is)
 
 few_wanted : (c : In-Some)
     → let a = c.args in
     let w = take c.in-Some.w.count c.in-Some.w.indices in
-    (length w ≤ deepest_level) × (0 + length (matches_at (tree_of Bits64 a.b.now) w 0) ≤ 4294967296)
+    (length w ≤ deepest_level) × (0 + length (matches_at (tree_of Bits64 a.nodes.now.file.now) w 0) ≤ 4294967296)
 few_wanted c = let w = c.in-Some.ensures in
-    (omega (arith, w.few, w.long, length-take-le c.in-Some.w.count c.in-Some.w.indices), omega (arith, ap length (wanted-matches Bits64 _ _ c.requires.4 w), few Bits64 _ c.requires.4 c.args.path.now))
+    (omega (arith, w.few, w.long, length-take-le c.in-Some.w.count c.in-Some.w.indices), omega (arith, ap length (wanted-matches Bits64 _ _ c.requires.rules c.requires.file.1 w), few Bits64 _ c.requires.rules c.args.path.now))
 
 pub returns-in_err-check_path : goal.returns-in_err-check_path
 returns-in_err-check_path c =
@@ -53,18 +51,18 @@ returns-in_err-check_path c =
     record { answer = both.0; listing = both.1 }
 
 pub find_names-requires : goal.find_names-requires
-find_names-requires c = (c.requires.0, c.requires.1, c.requires.2, (strings_iff _).1 c.requires.4.name-table, formed (goal.at.find_names-requires c).In_ok-check_path)
+find_names-requires c = (c.requires.file.0, formed (goal.at.find_names-requires c).In_ok-check_path)
 
 pub returns-in_default : goal.returns-in_default
 returns-in_default c =
-    let both = none_match Bits64 _ _ _ (formed (goal.at.returns-in_default c).In_ok-check_path) (unborne-none Bits64 _ _ c.requires.4 c.in_default.ensures) in
+    let both = none_match Bits64 _ _ _ (formed (goal.at.returns-in_default c).In_ok-check_path) (unborne-none Bits64 _ _ c.requires.rules c.in_default.ensures) in
     record { answer = both.0; listing = both.1 }
 
 pub root_at-root-requires : goal.root_at-root-requires
-root_at-root-requires c = let m = c.requires.3.nodes in omega (arith, m.short, m.at_is, m.laid.head)
+root_at-root-requires c = let m = c.args.nodes.now.ready.nodes in omega (arith, m.short, m.at_is, m.laid.head)
 
 pub list_below-k-requires : goal.list_below-k-requires
-list_below-k-requires c = let at = goal.at.list_below-k-requires c in record { tree_ready = rooted at.After-root_at-root; few = few_wanted at.In-Some }
+list_below-k-requires c = let at = goal.at.list_below-k-requires c in record { used = rooted at.After-root_at-root; few = few_wanted at.In-Some }
 
 pub returns-then-list-k : goal.returns-then-list-k
 returns-then-list-k c =
@@ -73,7 +71,7 @@ returns-then-list-k c =
     record { answer = both.0; listing = both.1 }
 
 pub list_below-requires : goal.list_below-requires
-list_below-requires c = let at = goal.at.list_below-requires c in record { tree_ready = rooted at.After-root_at-root; few = few_wanted at.In-Some }
+list_below-requires c = let at = goal.at.list_below-requires c in record { used = rooted at.After-root_at-root; few = few_wanted at.In-Some }
 
 pub returns : goal.returns
 returns c =
