@@ -4,8 +4,9 @@ use mathlib.Core.List.{List}
 use Prim.Native.Nat.{ℕ}
 use native.Mathlib.Omega.{arith}
 use lib.ListN.{take}
+use Rattle.std.specs.Prelude.{Result}
 use Rattle.frames.specs.Frames.{file_of, frames_of}
-use Rattle.frames.specs.declared.Frames.{Frames}
+use Rattle.frames.specs.declared.BadLine.{BadLine}
 use Rattle.frames.proofs.Cut.{cut_answer, cut_file}
 use Rattle.dcdump.specs.inner.Reading.{read_most}
 use Rattle.dcdump.specs.Output.{report_frames, output_of}
@@ -13,5 +14,5 @@ use Rattle.dcdump.specs.Output.{report_frames, output_of}
 pub cut_output : (input : List ℕ) → output_of (take read_most input) ≡ output_of input
 unfolding output_of
 cut_output input =
-    ap (λ (f : Frames). report_frames (file_of (take read_most input)) f) (cut_answer read_most (omega arith) input)
+    ap (λ (f : Result ℕ BadLine). report_frames (file_of (take read_most input)) f) (cut_answer read_most (omega arith) input)
     ∙ ap (λ (b : List ℕ). report_frames b (frames_of input)) (cut_file read_most (omega arith) input)

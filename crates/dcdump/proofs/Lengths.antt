@@ -8,9 +8,9 @@ use mathlib.Core.List.{List, [], ◌∷◌}
 use borrow.Author.Tests.{lt-ltb, le-ltb}
 use lib.ListN.{length, length-append}
 use Rattle.laws.proofs.Order.{le_or_lt}
+use Rattle.std.specs.Prelude.{Result, Ok, Err}
 use Rattle.verdict.specs.Checks.{first_fault}
-use Rattle.verdict.specs.Verdict.{Verdict}
-use Rattle.verdict.specs.Verdict.{Accepted, Refused}
+use Rattle.verdict.specs.Verdict.{Verdict, Accepted, Refused}
 use Rattle.verdict.proofs.Laws.{clean_inv}
 use Rattle.layout.specs.declared.Edition.TheVariants.{Bits64}
 use Rattle.print.specs.Text.{decimal_in, decimal}
@@ -18,8 +18,7 @@ use Rattle.accept.specs.Verdict.{verdict_of}
 use Rattle.outline.specs.Outline.{outline_of}
 use Rattle.outline.specs.Outlined.{outline_checks}
 use Rattle.frames.specs.Frames.{file_of, frames_of}
-use Rattle.frames.specs.declared.Frames.{Frames}
-use Rattle.frames.specs.declared.Frames.TheVariants.{Bytes, Bad}
+use Rattle.frames.specs.declared.BadLine.{BadLine}
 use Rattle.frames.proofs.Cut.{file_fits}
 use Rattle.dcdump.specs.Messages.{bad_line, refused_line, accepted_line}
 use Rattle.dcdump.specs.Output.{report_accepted, report_file, report_frames, output_of}
@@ -89,10 +88,10 @@ unfolding report_file
 judged_long b Accepted h = shown-long b (first_fault (outline_checks Bits64 b 65536)) h (outline-fits b 65536)
 judged_long b (Refused r p) h = refused-long r p
 
-framed_long : (b : List ℕ) (f : Frames) → length b ≤ 32768 → length (report_frames b f) ≤ 65551
+framed_long : (b : List ℕ) (f : Result ℕ BadLine) → length b ≤ 32768 → length (report_frames b f) ≤ 65551
 unfolding report_frames
-framed_long b (Bytes n) h = judged_long b (verdict_of Bits64 b 2048) h
-framed_long b (Bad n) h = bad_long n
+framed_long b (Ok n) h = judged_long b (verdict_of Bits64 b 2048) h
+framed_long b (Err line) h = bad_long line.0
 
 pub output_long : (input : List ℕ) → length (output_of input) ≤ 65551
 unfolding output_of

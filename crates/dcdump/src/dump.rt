@@ -12,9 +12,7 @@ ghost use Rattle.dcdump.specs.Output.{report_accepted, report_file, output_of};
 
 use crate::buffers::{FILE, OUTLINE, WORKSPACE};
 use crate::{buffers, messages};
-use frames::Frames;
 use layout::View;
-use verdict::Verdict;
 
 // A file's length, and the first n bytes of text.
 fn put_outline(out: &mut [u8], l: usize, text: &[u8], n: usize) -> usize
@@ -26,30 +24,24 @@ fn put_outline(out: &mut [u8], l: usize, text: &[u8], n: usize) -> usize
 }
 
 // An accepted file: its length and its outline, or 26.
-fn show(b: &[u8], v: View, out: &mut [u8]) -> usize
+fn show(b: &[u8], v: &View, out: &mut [u8]) -> usize
     requires file_rules { FileRules Bits64 b.now }
-    requires fits { Fits Bits64 b.now v }
+    requires fits { Fits Bits64 b.now v.now }
     ensures { Put out.old 0 (report_accepted b.now (first_fault (outline_checks Bits64 b.now 65536))) result out.new }
 {
-    let p = v.places;
-    let attribute_segments = v.attribute_segments;
-    let node_segments = v.node_segments;
-    let value_segments = v.value_segments;
-    let name_segments = v.name_segments;
     let mut text = buffers::zeros::<OUTLINE>();
-    let o = outline::write_outline(
+    let written = outline::write_outline(
         b,
-        p,
-        &attribute_segments,
-        &node_segments,
-        &value_segments,
-        &name_segments,
+        v.places,
+        &v.attribute_segments,
+        &v.node_segments,
+        &v.value_segments,
+        &v.name_segments,
         &mut text,
     );
-    let a = o.answer;
-    match a {
-        Verdict::Refused(num, place) => messages::put_refused(out, num, place),
-        Verdict::Accepted => put_outline(out, b.len(), &text, o.length),
+    match written {
+        Ok(n) => put_outline(out, b.len(), &text, n),
+        Err(refusal) => messages::put_refused(out, refusal),
     }
 }
 
@@ -58,14 +50,9 @@ fn judge(b: &[u8], out: &mut [u8]) -> usize
     ensures { Put out.old 0 (report_file b.now (verdict_of Bits64 b.now 2048)) result out.new }
 {
     let mut ws = buffers::zeros::<WORKSPACE>();
-    let r = accept::accept(b, &mut ws);
-    let a = r.answer;
-    match a {
-        Verdict::Refused(num, place) => messages::put_refused(out, num, place),
-        Verdict::Accepted => {
-            let v = r.view;
-            show(b, v, out)
-        }
+    match &accept::accept(b, &mut ws) {
+        Ok(view) => show(b, view, out),
+        Err(refusal) => messages::put_refused(out, *refusal),
     }
 }
 
@@ -77,7 +64,7 @@ pub fn dump(input: &[u8], out: &mut [u8]) -> usize
 {
     let mut file = buffers::zeros::<FILE>();
     match frames::read_frames(input, &mut file) {
-        Frames::Bytes(n) => judge(&file[..n], out),
-        Frames::Bad(n) => messages::put_line(out, 0, b"bad line ", n),
+        Ok(n) => judge(&file[..n], out),
+        Err(line) => messages::put_line(out, 0, b"bad line ", line.0),
     }
 }

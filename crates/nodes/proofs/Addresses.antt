@@ -20,10 +20,9 @@ use Rattle.text.proofs.Laws.{room_fits}
 use Rattle.layout.specs.Table.{Table, entries, entry_segment, entry_element, entry_at, hash_of, segment_of, element_of}
 use Rattle.layout.specs.Layout.{values}
 use Rattle.layout.specs.declared.Edition.{Edition}
-use Rattle.strings.specs.Texts.{text_to, spot_at}
+use Rattle.strings.specs.Texts.{text_to, spot_at, At, Nowhere}
 use Rattle.strings.specs.Order.{all_entry_checks, string_checks}
 use Rattle.strings.specs.declared.spot.Spot.{Spot}
-use Rattle.strings.specs.Texts.{At, Nowhere}
 use Rattle.strings.proofs.Accepted.{all_good, strings_parts}
 use Rattle.strings.proofs.Only.{text-of-address, hash-of, bucket-of}
 use Rattle.strings.proofs.Spots.{spot_in, spot_out}

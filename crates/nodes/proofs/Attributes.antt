@@ -8,8 +8,7 @@ use mathlib.Core.List.{List}
 use lib.Dec.{eqb}
 use Rattle.verdict.specs.Checks.{first_fault, each}
 use Rattle.verdict.specs.inner.Tells.{Tells}
-use Rattle.verdict.specs.Verdict.{Verdict}
-use Rattle.verdict.specs.Verdict.{Accepted, Refused}
+use Rattle.verdict.specs.Verdict.{Verdict, Accepted, Refused}
 use Rattle.verdict.proofs.Laws.{pass, stop, fault_none, tells_yes, tells_no, tells_eqb}
 use Rattle.verdict.proofs.Scans.{each_more, each_stop, each_end, row_same}
 use Rattle.words.specs.Words.{type_of}

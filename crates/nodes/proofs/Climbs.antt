@@ -11,8 +11,7 @@ use borrow.Author.Count.{below_more}
 use Rattle.verdict.specs.Checks.{SomeBelow}
 use Rattle.verdict.specs.inner.Tells.{Tells}
 use Rattle.verdict.proofs.Laws.{tells_yes, tells_no}
-use Rattle.std.specs.Prelude.{Option}
-use Rattle.std.specs.Prelude.{Some, None}
+use Rattle.std.specs.Prelude.{Option, Some, None}
 use Rattle.region.specs.declared.Region.{Region}
 use Rattle.region.specs.Region.{Laid, range_at}
 use Rattle.region.specs.inner.Samples.{Mapped}

@@ -5,8 +5,7 @@ use mathlib.Core.Path.{◌≡◌, ap, sym, ◌∙◌}
 use mathlib.Core.List.{List}
 use Rattle.le.specs.Le.{u32_at}
 use Rattle.verdict.specs.Checks.{first_fault}
-use Rattle.verdict.specs.Verdict.{Verdict}
-use Rattle.verdict.specs.Verdict.{Refused}
+use Rattle.verdict.specs.Verdict.{Verdict, Refused}
 use Rattle.verdict.proofs.Laws.{pass, stop}
 use Rattle.region.specs.declared.Region.{Region}
 use Rattle.region.specs.Region.{Resolves, count_of, start_of, used_of}

@@ -8,12 +8,10 @@ use mathlib.Core.List.{List, [], ◌∷◌, ◌++◌}
 use lib.ListN.{length}
 use borrow.Author.Tests.{eq-eqb, ne_eqb}
 use Rattle.verdict.specs.Checks.{Check, check, first_fault}
-use Rattle.verdict.specs.Verdict.{Verdict}
-use Rattle.verdict.specs.Verdict.{Accepted, Refused}
+use Rattle.verdict.specs.Verdict.{Verdict, Accepted, Refused}
 use Rattle.verdict.proofs.Laws.{Clean, pass, stop, fault_none, fault_append, fault_keep}
 use Rattle.verdict.proofs.Scans.{each_end}
-use Rattle.std.specs.Prelude.{Option}
-use Rattle.std.specs.Prelude.{Some, None}
+use Rattle.std.specs.Prelude.{Option, Some, None}
 use Rattle.region.specs.declared.Region.{Region}
 use Rattle.region.specs.Region.{Laid, Resolves, range_at, place_of}
 use Rattle.region.specs.inner.Samples.{Mapped}

@@ -13,7 +13,7 @@ use Rattle.lookup.specs.Kinds.{told_in}
 use Rattle.lookup.specs.declared.Kind.TheVariants.{Name}
 use Rattle.lookup.specs.Lookup.{index_of_text}
 use Rattle.lookup.specs.declared.Lookup.{Lookup}
-use Rattle.lookup.specs.declared.Lookup.TheVariants.{Found}
+use Rattle.lookup.specs.declared.Lookup.TheVariants.{Found, Collided}
 use Rattle.lookup.proofs.Found.{index_listed}
 
 module _ (ed : Edition) (b x : List ℕ) (ok : Clean (string_checks (names ed b))) where
@@ -41,6 +41,10 @@ module _ (ed : Edition) (b x : List ℕ) (ok : Clean (string_checks (names ed b)
 
     pub unfound_bears : ((i : ℕ) → r ≡ Found i → ⊥) → (i : ℕ) → Bears ed b i x → ⊥
     unfound_bears f i h = f i (told_names ∙ bears_found i h)
+
+    -- so none bears a collided text
+    pub collided_bears : {n : ℕ} → r ≡ Collided n → (i : ℕ) → Bears ed b i x → ⊥
+    collided_bears e i h = unfound_bears (λ j q. let z : ◌≡◌ {A = ℕ} 0 1 = cc in omega arith) i h
 
 -- an index has 32 bits
 pub index-low : (ed : Edition) (b x : List ℕ) (i : ℕ) (t : Table) → t ≡ names ed b → TableLaid t values_most → Bears ed b i x → i < 2 ^ 32

@@ -4,7 +4,10 @@ use Prim.Native.Nat.{ℕ, ◌%◌}
 use mathlib.Core.Path.{◌≡◌, refl, sym, ap, ◌∙◌}
 use mathlib.Core.List.{List}
 use lib.ListN.{length}
-use Rattle.verdict.specs.Verdict.{Accepted}
+use Rattle.std.specs.Prelude.{Result}
+use Rattle.std.specs.Result.{result_unwrap_or}
+use Rattle.verdict.specs.Verdict.{Accepted, answer_of}
+use Rattle.verdict.specs.declared.Refusal.{Refusal}
 use Rattle.layout.specs.inner.View.{Fits}
 use Rattle.layout.specs.declared.View.{View}
 use Rattle.layout.specs.Table.{Table}
@@ -19,13 +22,10 @@ use Rattle.lookup.specs.declared.Kind.TheVariants.{Name, Value}
 use Rattle.lookup.specs.declared.Lookup.{Lookup}
 use Rattle.path.specs.Listing.{listing_after}
 use Rattle.path.specs.inner.Answer.{PathListed}
-use Rattle.path.specs.declared.listing.Listing.{Listing}
 use Rattle.batch.specs.Places.{answers_after}
 use Rattle.batch.specs.inner.Answer.{Answered}
-use Rattle.batch.specs.declared.Batch.{Batch}
 use Rattle.outline.specs.Outlined.{outline_after}
 use Rattle.outline.specs.inner.Answer.{OutlineWritten}
-use Rattle.outline.specs.declared.Outlined.{Outlined}
 use Rattle.accept.specs.Verdict.{verdict_of}
 use Rattle.accept.specs.inner.Held.{name_strings}
 use Rattle.taplinen.specs.Answers.{answered}
@@ -39,7 +39,7 @@ use Rattle.taplinen.proofs.Filled.{own_answer, own_told}
 pub text-told : (ed : Edition) (k : Kind) (b : List ℕ) (room : ℕ) (q : List ℕ) → verdict_of ed b room ≡ Accepted → length q % 2 ≡ 0
     → let l = told_in k (table_of ed k b) (text_from q) in text_answer ed k b room q ≡ answered Accepted (kind_of l) (told_number l)
 unfolding text_answer text_verdict
-text-told ed k b room q e even = sym (own_answer ed b room (text_checks q) refl _ _ e (text-even q even) (λ z. (refl, refl)) refl)
+text-told ed k b room q e even = sym (own_answer ed b room (text_checks q) _ _ e (text-even q even) (λ z. (refl, refl)) refl)
 
 module _ (ed : Edition) (b : List ℕ) (room : ℕ) (v : View) (f : Fits ed b v) (e : verdict_of ed b room ≡ Accepted) where
   -- lookup::find_text
@@ -60,32 +60,32 @@ module _ (ed : Edition) (b : List ℕ) (room : ℕ) (v : View) (f : Fits ed b v)
     held_value h = told-by Value (table_is ed b v f Value) h
 
   -- path::listing::list_path
-  pub held_path : (path list : List ℕ) {r : Listing} → PathListed ed b path (length list) r
-      → (path_answer ed b room path (length list) ≡ answered r.answer 0 r.matches) × (path_listing ed b room path list ≡ listing_after ed b path list r.answer)
+  pub held_path : (path list : List ℕ) {r : Result ℕ Refusal} → PathListed ed b path (length list) r
+      → (path_answer ed b room path (length list) ≡ answered (answer_of r) 0 (result_unwrap_or r 0)) × (path_listing ed b room path list ≡ listing_after ed b path list (answer_of r))
   unfolding path_answer path_listing path_verdict
-  held_path path list h = own_told ed b room _ _ (listing_after ed b path list) e h.answer h.many
+  held_path path list {r} h = own_told ed b room _ _ (listing_after ed b path list) {r = r} e h
 
   -- outline::write_outline
-  pub held_outline : (out : List ℕ) {r : Outlined} → OutlineWritten ed b (length out) r
-      → (outline_answer ed b room (length out) ≡ answered r.answer 0 r.length) × (outline_buffer ed b room out ≡ outline_after ed b out r.answer)
+  pub held_outline : (out : List ℕ) {r : Result ℕ Refusal} → OutlineWritten ed b (length out) r
+      → (outline_answer ed b room (length out) ≡ answered (answer_of r) 0 (result_unwrap_or r 0)) × (outline_buffer ed b room out ≡ outline_after ed b out (answer_of r))
   unfolding outline_answer outline_buffer outline_verdict
-  held_outline out h = own_told ed b room _ _ (outline_after ed b out) e h.answer h.long
+  held_outline out {r} h = own_told ed b room _ _ (outline_after ed b out) {r = r} e h
 
   -- batch::find_each
-  module _ (texts d : List ℕ) {r : Batch} (h : Answered texts (length d) r) where
+  module _ (texts d : List ℕ) {r : Result ℕ Refusal} (h : Answered texts (length d) r) where
     each_by : (k : Kind) {t : Table} → t ≡ table_of ed k b
-        → (batch_answer ed b room texts (length d) ≡ answered r.answer 0 r.texts) × (batch_places ed k b room texts d ≡ answers_after (told_in k t) texts d r.answer)
+        → (batch_answer ed b room texts (length d) ≡ answered (answer_of r) 0 (result_unwrap_or r 0)) × (batch_places ed k b room texts d ≡ answers_after (told_in k t) texts d (answer_of r))
     unfolding batch_answer batch_places batch_verdict
     each_by k s =
-        let w = own_told ed b room _ _ (answers_after (told_in k (table_of ed k b)) texts d) e h.answer h.many in
-        (w.0, w.1 ∙ sym (ap (λ (y : Table). answers_after (told_in k y) texts d r.answer) s))
+        let w = own_told ed b room _ _ (answers_after (told_in k (table_of ed k b)) texts d) {r = r} e h in
+        (w.0, w.1 ∙ sym (ap (λ (y : Table). answers_after (told_in k y) texts d (answer_of r)) s))
 
-    pub held_names : (batch_answer ed b room texts (length d) ≡ answered r.answer 0 r.texts)
-        × (name_places ed b room texts d ≡ answers_after (told_in Name (held_table b (name_strings v.places) v.name_buckets)) texts d r.answer)
+    pub held_names : (batch_answer ed b room texts (length d) ≡ answered (answer_of r) 0 (result_unwrap_or r 0))
+        × (name_places ed b room texts d ≡ answers_after (told_in Name (held_table b (name_strings v.places) v.name_buckets)) texts d (answer_of r))
     unfolding name_places batch_places told_in table_of
     held_names = each_by Name (table_is ed b v f Name)
 
-    pub held_values : (batch_answer ed b room texts (length d) ≡ answered r.answer 0 r.texts)
-        × (value_places ed b room texts d ≡ answers_after (told_in Value (held_table b (value_strings v.places) v.value_buckets)) texts d r.answer)
+    pub held_values : (batch_answer ed b room texts (length d) ≡ answered (answer_of r) 0 (result_unwrap_or r 0))
+        × (value_places ed b room texts d ≡ answers_after (told_in Value (held_table b (value_strings v.places) v.value_buckets)) texts d (answer_of r))
     unfolding value_places batch_places told_in table_of
     held_values = each_by Value (table_is ed b v f Value)

@@ -4,8 +4,7 @@ use mathlib.Core.Path.{◌≡◌, refl, ap, sym, ◌∙◌}
 use mathlib.Core.List.{List}
 use lib.ListN.{length}
 use Rattle.verdict.specs.Checks.{first_fault}
-use Rattle.verdict.specs.Verdict.{Verdict}
-use Rattle.verdict.specs.Verdict.{Accepted, Refused}
+use Rattle.verdict.specs.Verdict.{Verdict, Accepted, Refused}
 use Rattle.verdict.proofs.Laws.{pass, stop, fault_none}
 use Rattle.layout.specs.Header.{header_of}
 use Rattle.layout.specs.declared.Header.{Header}
@@ -27,14 +26,14 @@ pub answer_by : {w u : Verdict} {k m j n : ℕ} {r : Answer} → u ≡ w → (w 
     → r ≡ answered u j n
 answer_by {w} {j = j} {n = n} e f h = h ∙ answer-same w f ∙ sym (ap (λ (x : Verdict). answered x j n) e)
 
-module _ (ed : Edition) (b : List ℕ) (room : ℕ) {v : Verdict} (q : v ≡ verdict_of ed b room) where
-  pub header_refused : {n p : ℕ} {r : HeaderReport} → v ≡ Refused n p → r ≡ reported (Refused n p) (header_of b) → r ≡ header_answer ed b room
+module _ (ed : Edition) (b : List ℕ) (room : ℕ) where
+  pub header_refused : {n p : ℕ} {r : HeaderReport} → verdict_of ed b room ≡ Refused n p → r ≡ reported (Refused n p) (header_of b) → r ≡ header_answer ed b room
   unfolding header_answer
-  header_refused e h = h ∙ sym (ap (λ (x : Verdict). reported x (header_of b)) (sym q ∙ e))
+  header_refused e h = h ∙ sym (ap (λ (x : Verdict). reported x (header_of b)) e)
 
-  pub header-told : {h : Header} {r : HeaderReport} → v ≡ Accepted → h ≡ header_of b → r ≡ reported Accepted h → r ≡ header_answer ed b room
+  pub header-told : {h : Header} {r : HeaderReport} → verdict_of ed b room ≡ Accepted → h ≡ header_of b → r ≡ reported Accepted h → r ≡ header_answer ed b room
   unfolding header_answer
-  header-told e g h = h ∙ ap (reported Accepted) g ∙ sym (ap (λ (x : Verdict). reported x (header_of b)) (sym q ∙ e))
+  header-told e g h = h ∙ ap (reported Accepted) g ∙ sym (ap (λ (x : Verdict). reported x (header_of b)) e)
 
 -- 24 of a text
 module _ (x : List ℕ) where

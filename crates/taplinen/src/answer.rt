@@ -20,7 +20,7 @@ pub struct Answer {
 
 impl Answer {
     // An answer where nothing is refused.
-    fn new(kind: u32, value: usize) -> Self
+    pub fn new(kind: u32, value: usize) -> Self
         ensures { result ≡ answered Accepted kind value }
     {
         Answer {

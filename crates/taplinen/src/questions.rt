@@ -5,7 +5,6 @@ ghost use Rattle.taplinen.specs.Questions.{accept_answer, text_answer, name_answ
 
 use crate::answer::Answer;
 use crate::lookups;
-use hash::HashTables;
 use lookup::Kind;
 use strings::Strings;
 use verdict::{Refusal, Rule};
@@ -15,9 +14,10 @@ pub fn taplinen_accept(file: &[u8], ws: &mut [u8]) -> Answer
     ensures answer { result ≡ accept_answer Bits64 file.now (length ws.old) }
     ensures workspace { ws.new ≡ workspace_left Bits64 file.now ws.old }
 {
-    accept::accept(file, ws)
-        .map(|view| view.places.used_nodes)
-        .into()
+    match &accept::accept(file, ws) {
+        Ok(view) => Answer::new(0, view.places.used_nodes),
+        Err(refusal) => (*refusal).into(),
+    }
 }
 
 // Asks for a text in either table.
@@ -56,7 +56,7 @@ pub fn taplinen_path(file: &[u8], ws: &mut [u8], path: &[u8], list: &mut [u8]) -
 {
     match &accept::accept(file, ws) {
         Ok(view) => {
-            let t = HashTables::new();
+            let t = hash::tables();
             let names = Strings {
                 chars: view.places.name_chars,
                 list: view.places.name_list,

@@ -9,8 +9,7 @@ use Rattle.verdict.specs.Checks.{first_fault}
 use Rattle.verdict.specs.Verdict.{Accepted, Refused}
 use Rattle.verdict.proofs.Laws.{pass, stop, fault_none, never}
 use Rattle.layout.specs.declared.Edition.{Edition}
-use Rattle.std.specs.Prelude.{Option}
-use Rattle.std.specs.Prelude.{Some, None}
+use Rattle.std.specs.Prelude.{Option, Some, None}
 use Rattle.tree.specs.Chain.{LiveIn, ranged, ends, first_or, most_levels}
 use Rattle.tree.specs.File.{node_of, tree_of}
 use Rattle.tree.specs.Rules.{FirstDeep}

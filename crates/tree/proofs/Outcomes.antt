@@ -5,16 +5,14 @@ use mathlib.Core.Path.{◌≡◌, refl, sym, ap, ◌∙◌}
 use mathlib.Core.List.{List}
 use lib.ListN.{length, drop}
 use Rattle.verdict.specs.Checks.{first_fault}
-use Rattle.verdict.specs.Verdict.{Verdict}
-use Rattle.verdict.specs.Verdict.{Accepted, Refused}
+use Rattle.verdict.specs.Verdict.{Verdict, Accepted, Refused}
 use Rattle.verdict.proofs.Laws.{pass, stop, fault_append, fault_keep}
 use Rattle.region.specs.Region.{Laid, start_of, place_of}
 use Rattle.layout.specs.Edition.{node_size}
 use Rattle.layout.specs.Layout.{nodes_at}
 use Rattle.layout.specs.declared.Edition.{Edition}
 use Rattle.nodes.specs.Node.{node_at}
-use Rattle.std.specs.Prelude.{Option}
-use Rattle.std.specs.Prelude.{Some, None}
+use Rattle.std.specs.Prelude.{Option, Some, None}
 use Rattle.tree.specs.Chain.{ends, most_levels}
 use Rattle.tree.specs.Marks.{cleared}
 use Rattle.tree.specs.File.{node_of, tree_of, used_node_count}

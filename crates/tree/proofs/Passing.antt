@@ -23,7 +23,8 @@ use Rattle.tree.specs.Marks.{cleared}
 use Rattle.tree.specs.Outcome.{workspace_after}
 use Rattle.tree.specs.inner.Marking.{MarkedOne}
 use Rattle.tree.proofs.Addresses.{node-of, small-element, used-of}
-use Rattle.tree.proofs.Left.{segments_left, nodes_left, left_start, left_none, left_open, left_next, left_more, left_stop}
+use Rattle.nodes.proofs.Rows.{left_none, left_open, left_next}
+use Rattle.tree.proofs.Left.{segments_left, nodes_left, left_start, left_more, left_stop}
 use Rattle.tree.proofs.Marking.{Marks, marks_start, marks_segment, free-rule, rule-free, marks_node, marks_end, marked-same}
 use Rattle.tree.proofs.Cleared.{cleared-rest, cleared-same}
 
@@ -65,7 +66,7 @@ module _ (ed : Edition) (b ws : List ℕ) where
   }
 
   pub pass_open : (seg at : ℕ) (w : List ℕ) → seg < count_of b (nodes_at ed b) → AtSegment ed b (cleared ed b ws) seg at w → AtNode ed b (cleared ed b ws) seg 0 w
-  pass_open seg at w l h = record { low = omega arith; marks = h.marks; left = h.left ∙ left_open ed b seg l }
+  pass_open seg at w l h = record { low = omega arith; marks = h.marks; left = h.left ∙ left_open _ _ _ seg l }
 
   module _ (room : used_node_count ed b ≤ length (cleared ed b ws)) (g : Laid (node_size ed) b (nodes_at ed b)) where
     -- the next segment
@@ -75,7 +76,7 @@ module _ (ed : Edition) (b ws : List ℕ) where
       low = omega arith;
       at_is = start_more (node_size ed) b (nodes_at ed b) seg (seg + 1) at next refl h.at_is q;
       marks = marks_segment ed b (cleared ed b ws) room seg el w e (omega (arith, k.low, g.used seg l, g.full seg l)) k.marks;
-      left = k.left ∙ left_next ed b seg el e;
+      left = k.left ∙ left_next _ _ _ seg el e;
     }
 
     pub pass_end : (seg at : ℕ) (w : List ℕ) → count_of b (nodes_at ed b) ≤ seg → AtSegment ed b (cleared ed b ws) seg at w
@@ -83,7 +84,7 @@ module _ (ed : Edition) (b ws : List ℕ) where
     unfolding workspace_after
     pass_end seg at w l h =
         let e : seg ≡ count_of b (nodes_at ed b) = omega (arith, h.low) in
-        let a : Accepted ≡ first_fault (all_range_checks ed b) = sym (h.left ∙ left_none ed b seg l) in (
+        let a : Accepted ≡ first_fault (all_range_checks ed b) = sym (h.left ∙ left_none _ _ _ seg l) in (
           a,
           marks_end ed b g (cleared ed b ws) w room (subst (λ (x : ℕ). Marks ed b (cleared ed b ws) (address x 0) w) e h.marks)
               ∙ marked-same ed b (cleared ed b ws) ws (cleared-rest ed b ws)

@@ -1,8 +1,7 @@
 -- What the tree's checks answer and leave in the workspace (FORMAT, "Refusals", "Workspace").
 use Rattle.std.specs.Prelude.{ℕ, cond, ◌||◌, List, ◌++◌, eqb}
 use Rattle.verdict.specs.Checks.{Check}
-use Rattle.verdict.specs.Verdict.{Verdict}
-use Rattle.verdict.specs.Verdict.{Accepted, Refused}
+use Rattle.verdict.specs.Verdict.{Verdict, Accepted, Refused}
 use Rattle.layout.specs.declared.Edition.{Edition}
 use Rattle.tree.specs.Order.{room_checks, all_range_checks, depth_checks}
 use Rattle.tree.specs.Marks.{cleared, marked}

@@ -1,5 +1,5 @@
 -- What the code holds for the checks of the tree, and what it answers while it marks nodes.
-use Rattle.std.specs.Prelude.{ℕ, ◌+◌, ◌<◌, ◌≡◌, Bool, true, false, List, [], ◌∷◌, get_or, replicate}
+use Rattle.std.specs.Prelude.{ℕ, ◌+◌, ◌<◌, ◌≡◌, Bool, true, false, List, [], ◌∷◌, get_or, replicate, Option, Some, None}
 use Rattle.laws.specs.inner.Lists.{splice}
 use Rattle.verdict.specs.Checks.{first_fault}
 use Rattle.verdict.specs.inner.Tells.{Tells}
@@ -13,8 +13,6 @@ use Rattle.layout.specs.declared.Edition.{Edition}
 use Rattle.nodes.specs.Node.{child_segment, child_element, child_count}
 use Rattle.nodes.specs.Order.{all_node_checks}
 use Rattle.tree.specs.File.{node_of}
-use Rattle.std.specs.Prelude.{Option}
-use Rattle.std.specs.Prelude.{Some, None}
 
 -- None of the n nodes from number i on is the root or is marked.
 pub record Free (ws : List ℕ) (i n : ℕ) : Type 0 where

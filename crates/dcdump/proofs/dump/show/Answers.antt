@@ -1,6 +1,9 @@
+use mathlib.Core.Path.{ap}
 use Prim.Native.Nat.{ℕ}
 use Rattle.print.proofs.Puts.{put_same}
 use Rattle.verdict.specs.Checks.{first_fault}
+use Rattle.verdict.specs.Verdict.{answer_of}
+use Rattle.verdict.proofs.Gives.{given, refuses}
 use Rattle.outline.specs.Outlined.{outline_checks}
 use Rattle.dcdump.specs.Output.{report_accepted}
 use Rattle.dcdump.proofs.Written.{reported, shown-fits, shown-accepted}
@@ -8,16 +11,15 @@ use Rattle.layout.specs.declared.Edition.TheVariants.{Bits64}
 use Rattle.dcdump.proofs.dump.show.Goals as goal
 
 pub put_outline-requires : goal.put_outline-requires
-put_outline-requires c = let o = c.write_outline-o in
-    let a = c.in-Accepted.is in
-    shown-fits _ _ o.ensures.answer.answer c.zeros-text.ensures a _ (o.ensures.answer.long a) o.new.out o.auto.out
+put_outline-requires c = let o = c.write_outline-written in
+    shown-fits _ _ c.zeros-text.ensures (given o.ensures.answer c.in-Ok.is) o.new.out o.auto.out
 
-pub returns-in-Refused : goal.returns-in-Refused
+pub returns-in-Ok : goal.returns-in-Ok
+returns-in-Ok c = let o = c.write_outline-written in
+    put_same (shown-accepted _ _ c.zeros-text.ensures (given o.ensures.answer c.in-Ok.is) _ _ o.ensures.buffer (ap answer_of c.in-Ok.is)) c.put_outline.ensures
+
+pub returns-in-Err : goal.returns-in-Err
 unfolding report_accepted
-returns-in-Refused c = let x = c.args.b.now in
-    put_same (reported (report_accepted x) (λ (r : ℕ). first_fault (outline_checks Bits64 x r)) c.write_outline-o.ensures.answer.answer c.zeros-text.ensures c.in-Refused.is)
+returns-in-Err c = let x = c.args.b.now in
+    put_same (reported (report_accepted x) (λ (r : ℕ). first_fault (outline_checks Bits64 x r)) (refuses c.write_outline-written.ensures.answer c.in-Err.is) c.zeros-text.ensures)
     c.put_refused.ensures
-
-pub returns-in-Accepted : goal.returns-in-Accepted
-returns-in-Accepted c = let a = c.in-Accepted.is in
-    put_same (shown-accepted _ _ c.write_outline-o.ensures.answer.answer c.zeros-text.ensures a _ (c.write_outline-o.ensures.answer.long a) _ _ c.write_outline-o.ensures.buffer) c.put_outline.ensures
