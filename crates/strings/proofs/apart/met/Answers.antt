@@ -12,7 +12,7 @@ loop-next-init c = let p = c.requires in meeting_start _ _ _ _ _ _ _ p.3 p.2 _ c
 pub overflow_add-from : goal.overflow_add-from
 overflow_add-from c = let p = c.requires in
     record {
-      fits = omega (arith, meeting_here _ _ _ _ _ _ _ p.3 p.2 c.loop-next.invariant _ c.in-Some.is, p.1, p.0.entry, few-entries _ _ _ _ c.args.table.now.held _ p.0.bucket)
+      fits = omega (arith, meeting_here _ _ _ _ _ _ _ p.3 p.2 c.loop-next.invariant _ c.in-Some.is, p.1, p.0.entry, few-entries _ _ _ _ c.args.table.now.held _ p.0.bucket);
     }
 
 pub same_text-requires : goal.same_text-requires
