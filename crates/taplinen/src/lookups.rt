@@ -30,8 +30,7 @@ pub fn find(accepted: &AcceptedFile, kind: Kind, text: &[u8]) -> Lookup
     ensures { result ≡ told_in kind (table_of Bits64 kind accepted.now.file.now) (text_from text.now) }
 {
     let t = HashTables::new();
-    let n = text.len() / 2;
-    lookup::find_text(&asked_table(accepted, kind), &t, kind, text, 0, n)
+    lookup::find_text(&asked_table(accepted, kind), &t, kind, text)
 }
 
 // What each of many texts is told.

@@ -1,4 +1,3 @@
-use mathlib.Core.Path.{◌≡◌}
 use Rattle.lookup.specs.Kinds.{table_of}
 use Rattle.taplinen.proofs.lookups.asked_table.Goals as goal
 

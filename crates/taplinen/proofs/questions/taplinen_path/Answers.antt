@@ -22,7 +22,8 @@ list_path-requires c =
 pub returns-in-Ok : goal.returns-in-Ok
 unfolding path_answer path_listing path_verdict
 returns-in-Ok c = let q = c.accept.ensures in
-    let both = own_filled Bits64 _ _ q.workspace _ _ (listing_after Bits64 _ _ _) {r = c.list_path.result} (given q.answer c.in-Ok.is).0 c.list_path.ensures.answer c.into.ensures c.list_path.ensures.listing in
+    let e = c.names.ensures.1 in
+    let both = own_filled Bits64 _ _ q.workspace _ _ (listing_after Bits64 _ _ _) {r = c.list_path.result} (given q.answer c.in-Ok.is).0 (rw e at c.list_path.ensures.answer) c.into.ensures (rw e at c.list_path.ensures.listing) in
     record { answer = both.0; workspace = both.1.0; listing = both.1.1 }
 
 pub returns-in-Err : goal.returns-in-Err
