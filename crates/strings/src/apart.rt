@@ -54,6 +54,7 @@ fn met(
     ensures { Met (lent_table table.now) k from n j result }
 {
     let mut next = multimap::last(map, n, x);
+    // From place to place with fingerprint x, the last one first: no index is counted.
     while let Some(i) = next {
         if entry::same_text(table, k, from + i, j) {
             return true;
@@ -120,6 +121,7 @@ pub(crate) fn apart_until(table: &StringTable, k: usize, from: usize, end: usize
 {
     let mut done = from;
     let mut clear = end;
+    // A round at a time, and no index: how many entries are done is told by the round.
     while done < clear {
         let r = sift_some(table, k, done, clear);
         done += r.collected;
