@@ -2,9 +2,7 @@
 ghost use Rattle.std.specs.Prelude.{◌≡◌, ◌++◌, ◌≤◌, length, take, drop};
 ghost use Rattle.verdict.specs.Checks.{first_fault};
 ghost use Rattle.print.specs.inner.Put.{Put};
-ghost use Rattle.layout.specs.inner.View.{Fits};
 ghost use Rattle.layout.specs.declared.Edition.TheVariants.{Bits64};
-ghost use Rattle.accept.specs.Rules.{FileRules};
 ghost use Rattle.accept.specs.Verdict.{verdict_of};
 ghost use Rattle.outline.specs.Outlined.{outline_checks};
 ghost use Rattle.dcdump.specs.Messages.{accepted_line};
@@ -12,7 +10,8 @@ ghost use Rattle.dcdump.specs.Output.{report_accepted, report_file, output_of};
 
 use crate::buffers::{FILE, OUTLINE, WORKSPACE};
 use crate::{buffers, messages};
-use layout::View;
+use accept::file::AcceptedFile;
+use outline::source::Source;
 
 // A file's length, and the first n bytes of text.
 fn put_outline(out: &mut [u8], l: usize, text: &[u8], n: usize) -> usize
@@ -24,23 +23,13 @@ fn put_outline(out: &mut [u8], l: usize, text: &[u8], n: usize) -> usize
 }
 
 // An accepted file: its length and its outline, or 26.
-fn show(b: &[u8], v: &View, out: &mut [u8]) -> usize
-    requires file_rules { FileRules Bits64 b.now }
-    requires fits { Fits Bits64 b.now v.now }
-    ensures { Put out.old 0 (report_accepted b.now (first_fault (outline_checks Bits64 b.now 65536))) result out.new }
+fn show(accepted: &AcceptedFile, out: &mut [u8]) -> usize
+    ensures { Put out.old 0 (report_accepted accepted.now.file.now (first_fault (outline_checks Bits64 accepted.now.file.now 65536))) result out.new }
 {
     let mut text = buffers::zeros::<OUTLINE>();
-    let written = outline::write_outline(
-        b,
-        v.places,
-        &v.attribute_segments,
-        &v.node_segments,
-        &v.value_segments,
-        &v.name_segments,
-        &mut text,
-    );
-    match written {
-        Ok(n) => put_outline(out, b.len(), &text, n),
+    let source = Source::from(*accepted);
+    match outline::write_outline(&source, &mut text) {
+        Ok(n) => put_outline(out, accepted.file.len(), &text, n),
         Err(refusal) => messages::put_refused(out, refusal),
     }
 }
@@ -51,7 +40,7 @@ fn judge(b: &[u8], out: &mut [u8]) -> usize
 {
     let mut ws = buffers::zeros::<WORKSPACE>();
     match &accept::accept(b, &mut ws) {
-        Ok(view) => show(b, view, out),
+        Ok(view) => show(&AcceptedFile { file: b, view }, out),
         Err(refusal) => messages::put_refused(out, *refusal),
     }
 }

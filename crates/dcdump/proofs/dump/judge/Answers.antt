@@ -1,15 +1,14 @@
 use Rattle.print.proofs.Puts.{put_same}
 use Rattle.verdict.proofs.Gives.{given, refuses}
-use Rattle.accept.proofs.Accepted.{accepted_iff}
+use Rattle.accept.proofs.Accepted.{enough_room}
 use Rattle.accept.specs.Verdict.{verdict_of}
 use Rattle.dcdump.specs.Output.{report_file}
 use Rattle.dcdump.proofs.Written.{reported}
 use Rattle.layout.specs.declared.Edition.TheVariants.{Bits64}
 use Rattle.dcdump.proofs.dump.judge.Goals as goal
 
-pub show-requires : goal.show-requires
-show-requires c = let g = given c.accept.ensures.answer c.in-Ok.is in
-    record { file_rules = ((accepted_iff Bits64 _ _).0 g.0).0; fits = g.1 }
+pub invariant_of-show : goal.invariant_of-show
+invariant_of-show c = let g = given c.accept.ensures.answer c.in-Ok.is in record { fits = g.1; accepted = enough_room Bits64 _ _ g.0 }
 
 pub returns-in-Ok : goal.returns-in-Ok
 unfolding report_file
