@@ -23,6 +23,7 @@ use search::run;
 use strings::checked::ValuesTable;
 use strings::spot;
 use verdict::{Refusal, Rule};
+use words::AttributeType;
 
 // Whether type, extended code and truth word of the attribute at q are right.
 fn typed(b: &[u8], q: usize) -> bool
@@ -33,10 +34,10 @@ fn typed(b: &[u8], q: usize) -> bool
     let kind = words::kind(word);
     let extended = words::extended(word);
     // A text, whose code 19 looks at, or code 0: types come and go too irregularly for a branch each.
-    if extended * (3 - kind) == 0 {
-        return kind >= 1;
+    if extended * (3 - kind.number()) == 0 {
+        return kind != AttributeType::None;
     }
-    if kind != 1 {
+    if kind != AttributeType::Whole {
         return false;
     }
     if extended != 1 {
@@ -68,7 +69,7 @@ fn attribute_right(b: &[u8], names: Names, p: usize, i: usize, q: usize) -> bool
     if name != names.value {
         return true;
     }
-    words::kind(fields::type_word(b, q)) == 3
+    words::kind(fields::type_word(b, q)) == AttributeType::Text
 }
 
 // Whether refusal 19 is not due to the attribute at q. An entry with its address would stand in the bucket of the text there.
@@ -79,7 +80,7 @@ pub fn text_right(values: &ValuesTable, t: &HashTables, q: usize, memo: &mut [u3
 {
     let table = &values.checked.table;
     let word = fields::type_word(table.file, q);
-    if words::kind(word) != 3 {
+    if words::kind(word) != AttributeType::Text {
         return true;
     }
     let seg = fields::text_segment(table.file, q);
