@@ -61,7 +61,7 @@ fn put_places(checked: &CheckedTable, t: &HashTables, kind: Kind, texts: &[u8], 
     let mut skipped = 0;
     let mut i = 0;
     let mut at = 0;
-    // A group at a time, and no index: how many texts a group has is told by the group.
+    // A group of texts at a time: how long a group is, is known when it was measured.
     while at < texts.len() {
         let n = group::measure_group(texts, t, at, &mut lengths, &mut hashes);
         skipped = search::group::lower_bounds(table, &hashes, n, skipped, &mut low);

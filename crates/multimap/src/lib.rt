@@ -12,7 +12,7 @@ fn seek(map: &[u16; 20480], n: usize, m: usize, c: usize, x: usize) -> Option<us
     ensures { LastWith map.now m x result }
 {
     let mut at = c;
-    // Along the chain of the slot, which 0 ends: no index is counted.
+    // Along the chain of the slot, which 0 ends.
     while at > 0 {
         let i = at - 1;
         if usize::from(map[4096 + i]) == x {

@@ -37,6 +37,7 @@ pub fn check_nodes(
         return Err(Refusal(Rule::Node, nodes.at));
     }
     let mut answer = Ok(());
+    // The labelled loops are left with the first fault, as the customer asked for this place.
     'segments: for seg in 0..nodes.count {
         let first = at + SEGMENT_HEADER;
         for el in 0..region::used_count(b, at) {

@@ -102,7 +102,7 @@ fn find_doubts(
     for _seg in 0..attributes.count {
         let used = region::used_count(b, at);
         let mut el = 0;
-        // A batch at a time, and no index: where the next one begins is told by take_texts.
+        // A batch at a time: take_texts tells where the next one begins.
         while el < used {
             let taken = slots::take_texts(b, at + SEGMENT_HEADER, el, used, &mut slots);
             examine_batch(&values, t, packed, &slots, taken.count, doubts, memo);

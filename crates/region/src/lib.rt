@@ -108,7 +108,7 @@ pub fn mapped(b: &[u8], at: usize, size: usize) -> Region
     let count = le::u32_at(b, at);
     let mut shift = 0u32;
     let mut mask = 0usize;
-    // Doubles the spacing until the samples reach: no index is counted.
+    // Each turn doubles the spacing, until the samples reach.
     while SAMPLES * (mask + 1) < count {
         mask = mask * 2 + 1;
         shift += 1;

@@ -52,7 +52,6 @@ fn finish(table: &StringTable, h: usize, left: Bounds) -> usize
     ensures { Near (lent_table table.now) (bucket_of (length table.now.buckets.now) h) h result }
 {
     let mut x = left;
-    // Halves what is left: no index is counted.
     while x.lo < x.hi {
         x = halve(table, h, x);
     }

@@ -133,9 +133,6 @@ module _ (t : Table) (k s most : ℕ) where
   }
 
   module _ (n : ℕ) (map : List ℕ) (f : Collecting t k s n most map) where
-    pub sifted : (0 < most → 0 < n) → Sifted t k s n most
-    sifted g = record { some = g; few = f.few; apart = f.apart }
-
     -- the next differs from all collected ones
     next_apart : {r : Bool} → r ≡ false → Met t k s n (s + n) r → Apart t k s (s + (n + 1))
     next_apart q m = record {

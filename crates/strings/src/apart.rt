@@ -54,7 +54,7 @@ fn met(
     ensures { Met (lent_table table.now) k from n j result }
 {
     let mut next = multimap::last(map, n, x);
-    // From place to place with fingerprint x, the last one first: no index is counted.
+    // From place to place with fingerprint x, the last one first.
     while let Some(i) = next {
         if entry::same_text(table, k, from + i, j) {
             return true;
@@ -121,7 +121,7 @@ pub(crate) fn apart_until(table: &StringTable, k: usize, from: usize, end: usize
 {
     let mut done = from;
     let mut clear = end;
-    // A round at a time, and no index: how many entries are done is told by the round.
+    // A round at a time: each tells how many entries are done.
     while done < clear {
         let r = sift_some(table, k, done, clear);
         done += r.collected;

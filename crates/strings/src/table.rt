@@ -40,6 +40,7 @@ pub fn check_entries(table: &StringTable, t: &HashTables) -> Result<bool, Refusa
     let mut seen = [0usize; 64];
     let mut begun = true;
     let mut answer = Ok(());
+    // The labelled loops are left with the first fault, as the customer asked for this place.
     'buckets: for k in 0..table.buckets.len() {
         let n = entry::entry_count(table, k);
         let mut span = Span { start: 0, end: 0 };

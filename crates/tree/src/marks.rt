@@ -71,6 +71,7 @@ pub fn mark_nodes(
     ws[..used].fill(0);
     let mut answer = Ok(());
     let mut at = region::first_start(nodes.region);
+    // The labelled loops are left with the first fault, as the customer asked for this place.
     'segments: for seg in 0..nodes.region.count {
         let first = at + SEGMENT_HEADER;
         for el in 0..region::used_count(nodes.file, at) {
