@@ -133,8 +133,7 @@ pub(crate) fn find_from(
 {
     match find_entry(checked, h, low, q) {
         Lookup::Found(e) => Lookup::Found(result_at(checked.table.file, kind, e)),
-        Lookup::Collided(others) => Lookup::Collided(others),
-        Lookup::Absent => Lookup::Absent,
+        other => other,
     }
 }
 
