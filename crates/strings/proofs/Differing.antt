@@ -17,7 +17,7 @@ use Rattle.text.proofs.Laws.{text-chars, text_length_le}
 use Rattle.layout.specs.Table.{Table, length_of, segment_of, element_of}
 use Rattle.strings.specs.Texts.{text_of}
 use Rattle.strings.specs.inner.Held.{TextPasses, Sorted}
-use Rattle.strings.specs.inner.Apart.{Differ, Compared, Away, Apart, Fingerprinted, Collected, Met, Sifted, Clear, AwayWithin}
+use Rattle.strings.specs.inner.Apart.{Differ, Compared, Away, Apart, Fingerprinted, Collected, Met, Clear, AwayWithin}
 use Rattle.strings.proofs.Spots.{Spotted}
 use Rattle.strings.proofs.Runs.{Alone}
 
