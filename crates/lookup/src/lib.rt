@@ -108,7 +108,7 @@ fn find_entry(checked: &CheckedTable, h: usize, low: usize, q: &[u8]) -> Lookup
     unborne(q, m - low)
 }
 
-// What is told of the entry at e.
+// What is told of the entry at e: a value by kind, and no step.
 fn result_at(b: &[u8], kind: Kind, e: usize) -> usize
     requires { e + 16 ≤ length b.now }
     ensures { result ≡ tells_at kind b.now e }

@@ -136,7 +136,8 @@ pub fn sample_starts(b: &[u8], r: Region, size: usize, segments: &mut [u32; SAMP
     }
 }
 
-// Fills the samples of used elements before a segment, and answers how many used elements there are.
+// Fills the samples of used elements before a segment, and answers how many used elements there are. A walk of its own: for most regions only the
+// starts are kept.
 pub fn sample_counts(b: &[u8], r: Region, size: usize, counts: &mut [u32; SAMPLES]) -> usize
     requires { Mapped size b.now r.at r × (length counts.old ≡ 1024) }
     ensures { (result ≡ total_of size b.now r.at) × Counts size b.now r.at r.shift counts.new }
@@ -190,7 +191,7 @@ pub fn range_at(
     Some(p + SEGMENT_HEADER + el * size)
 }
 
-// The running number of seg:el among the used elements.
+// The running number of seg:el among the used elements. One walk finds the segment and counts.
 pub fn number(
     b: &[u8],
     r: Region,

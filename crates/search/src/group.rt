@@ -192,6 +192,7 @@ fn probe_each(
         let h = le::wide(hashes[j]);
         let k = hash::bucket(h, table.buckets.len());
         let told = near::probe_near(table, k, h, le::wide(estimate[j]));
+        // Written before it is known whether it stays, so that no branch is needed.
         low[j] = told.unwrap_or(0);
         which[m] = j;
         if told.is_none() {

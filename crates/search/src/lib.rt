@@ -17,7 +17,7 @@ use strings::{StringTable, entry, fields};
 // No bucket has 2 to the 31 entries: a file has at most 2 to the 30 bytes.
 const MOST_ROUNDS: usize = 31;
 
-// What is left of a search: the entries from lo on and before hi.
+// What is left of a search: the entries from lo on and before hi. Not a Range, which is not Copy.
 #[derive(Clone, Copy)]
 struct Bounds {
     lo: usize,

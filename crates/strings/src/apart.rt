@@ -10,7 +10,7 @@ ghost use Rattle.strings.specs.inner.Apart.{Apart, Fingerprinted, Collected, Met
 
 use crate::{StringTable, entry, fields, spot};
 
-// Entries of one bucket that have different texts: those from start on, before end.
+// Entries of one bucket that have different texts: those from start on, before end. Not a Range, which is not Copy.
 #[derive(Clone, Copy)]
 pub struct Span {
     pub start: usize,
@@ -24,7 +24,7 @@ pub struct Round {
     pub clear: usize,
 }
 
-// The fingerprint of the text of entry j. The length is that which the entry tells.
+// The fingerprint of the text of entry j. The length is that which the entry tells. Where the text is not right, any number does.
 fn fingerprint_at(table: &StringTable, k: usize, j: usize) -> usize
     requires { Here (lent_table table.now) k j }
     ensures { Fingerprinted (lent_table table.now) k j result }

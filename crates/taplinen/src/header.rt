@@ -3,7 +3,7 @@ ghost use Rattle.std.specs.Prelude.{◌≡◌, length};
 ghost use Rattle.layout.specs.declared.Edition.TheVariants.{Bits64};
 ghost use Rattle.taplinen.specs.Questions.{header_answer, workspace_left};
 
-// refusal 0: accepted, and the header's fields; otherwise the number of the refusal with its place, and 0 elsewhere.
+// refusal 0: accepted, and the header's fields; otherwise the number of the refusal with its place, and 0 elsewhere. has_revision is a number for C.
 #[repr(C)]
 #[derive(Clone, Copy, Debug, Default)]
 pub struct HeaderReport {

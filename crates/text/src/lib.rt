@@ -203,6 +203,7 @@ fn hash_few(s: &[u8], t: &HashTables, p: usize, k: usize, h: usize) -> usize
     t.char_on(g, le::u16_at(s, p + 4))
 }
 
+// Three comparisons of texts: each knows another end of the texts that it compares.
 // Whether two texts of the file are the same: that at p with m characters left, and that at q with n.
 pub fn same(b: &[u8], p: usize, m: usize, q: usize, n: usize) -> bool
     requires { (p + 2 * m ≤ length b.now) × (q + 2 * n ≤ length b.now) }
@@ -245,7 +246,8 @@ pub fn bears(b: &[u8], p: usize, n: usize, s: &[u8], q: usize, k: usize) -> bool
     char_or_end(b, p, n, k) == 0
 }
 
-// Whether the n characters at p of one slice are those at q of another, when there are few.
+// Whether the n characters at p of one slice are those at q of another, when there are few. A `for`: of a closure that calls u16_at the proof would
+// know nothing.
 fn alike_few(b: &[u8], p: usize, s: &[u8], q: usize, n: usize) -> bool
     requires { (p + 2 * n ≤ length b.now) × (q + 2 * n ≤ length s.now) }
     ensures { Tells (chars b.now p n ≡ chars s.now q n) result }
@@ -258,7 +260,7 @@ fn alike_few(b: &[u8], p: usize, s: &[u8], q: usize, n: usize) -> bool
     true
 }
 
-// The same for any number: four in a step, and the last four once more.
+// The same for any number: four in a step, and the last four once more. The library compares slices byte by byte.
 pub fn alike(b: &[u8], p: usize, s: &[u8], q: usize, n: usize) -> bool
     requires { (p + 2 * n ≤ length b.now) × (q + 2 * n ≤ length s.now) }
     ensures { Tells (chars b.now p n ≡ chars s.now q n) result }

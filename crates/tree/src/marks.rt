@@ -18,7 +18,8 @@ use nodes::fields;
 use region::{SAMPLES, SEGMENT_HEADER};
 use verdict::{Refusal, Rule};
 
-// Whether none of the n nodes from number i on is the root or is marked.
+// Whether none of the n nodes from number i on is the root or is marked. The marks are bytes of the caller's workspace: 0 or 1, by the contract of
+// acceptance.
 fn range_free(ws: &[u8], i: usize, n: usize) -> bool
     requires { (0 < n) × (i + n ≤ length ws.now) }
     ensures { Tells (Free ws.now i n) result }
