@@ -68,7 +68,7 @@ fn f32_of(bits: u32) -> f32
     if bits % 0x8000_0000 <= 0x7f80_0000 {
         f32::from_bits(bits)
     } else {
-        0.0 / 0.0
+        f32::NAN
     }
 }
 
@@ -78,7 +78,7 @@ fn f64_of(bits: u64) -> f64
     if bits % 0x8000_0000_0000_0000 <= 0x7ff0_0000_0000_0000 {
         f64::from_bits(bits)
     } else {
-        0.0 / 0.0
+        f64::NAN
     }
 }
 

@@ -18,7 +18,7 @@ use strings::{StringTable, entry, fields};
 const MOST_ROUNDS: usize = 31;
 
 // What is left of a search: the entries from lo on and before hi. Not a Range, which is not Copy.
-#[derive(Clone, Copy)]
+#[derive(Clone, Copy, Default)]
 struct Bounds {
     lo: usize,
     hi: usize,

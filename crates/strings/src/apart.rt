@@ -135,12 +135,10 @@ fn run_start(table: &StringTable, k: usize, j: usize, h: usize) -> usize
     requires { Here (lent_table table.now) k j }
     ensures { result ≤ j }
 {
-    for i in (0..j).rev() {
-        if entry::hash_at(table, k, i) != h {
-            return i + 1;
-        }
-    }
-    0
+    (0..j)
+        .rev()
+        .find(|i| entry::hash_at(table, k, *i) != h)
+        .map_or(0, |i| i + 1)
 }
 
 // Where it ends, of the n entries of the bucket.
@@ -148,12 +146,9 @@ fn run_end(table: &StringTable, k: usize, n: usize, j: usize, h: usize) -> usize
     requires { (k < length table.now.buckets.now) × (j ≤ n) × (n ≤ entries (lent_table table.now) k) }
     ensures { (j ≤ result) × (result ≤ n) }
 {
-    for i in j..n {
-        if entry::hash_at(table, k, i) != h {
-            return i;
-        }
-    }
-    n
+    (j..n)
+        .find(|i| entry::hash_at(table, k, *i) != h)
+        .unwrap_or(n)
 }
 
 // Entries that are known to have different texts, when entry j of the n of bucket k is next: where 64 entries from a multiple of 64 on have one
