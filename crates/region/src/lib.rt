@@ -106,18 +106,12 @@ pub fn mapped(b: &[u8], at: usize, size: usize) -> Region
     ensures { Mapped size b.now at result }
 {
     let count = le::u32_at(b, at);
-    let mut shift = 0u32;
-    let mut mask = 0usize;
-    // Each turn doubles the spacing, until the samples reach.
-    while SAMPLES * (mask + 1) < count {
-        mask = mask * 2 + 1;
-        shift += 1;
-    }
+    let spacing = count.div_ceil(SAMPLES).next_power_of_two();
     Region {
         at,
         count,
-        shift,
-        mask,
+        shift: spacing.ilog2(),
+        mask: spacing - 1,
     }
 }
 
