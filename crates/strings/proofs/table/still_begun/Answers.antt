@@ -9,9 +9,10 @@ returns-then-not-before c = unsure
 
 pub returns : goal.returns
 returns c = let p = c.requires in
-    λ z.
-        (c.if-not-before.false,
-            ⊎_elim
-            (begun_first _ _ _ p.1 p.2 _ (element-at _ _ _ _ _ c.entry_at-e.ensures.0 c.element.ensures.0))
-            (begun_behind _ _ _ p.1 p.2)
-            (c.can_begin.ensures.so z))
+    λ z. (
+      c.if-not-before.false,
+      ⊎_elim
+          (begun_first _ _ _ p.1 p.2 _ (element-at _ _ _ _ _ c.entry_at-e.ensures.0 c.element.ensures.0))
+          (begun_behind _ _ _ p.1 p.2)
+          (c.can_begin.ensures.so z),
+    )
