@@ -1,5 +1,5 @@
 // The steps of a batch: each goes over all its slots.
-ghost use Rattle.std.specs.Prelude.{◌≡◌, ◌⊎◌, ◌+◌, ◌-◌, ◌%◌, ◌≤◌, ◌<◌, ◌^◌, length};
+ghost use Rattle.std.specs.Prelude.{◌≡◌, ◌+◌, ◌-◌, ◌%◌, ◌≤◌, ◌<◌, ◌^◌, length};
 ghost use Rattle.verdict.specs.Checks.{first_fault};
 ghost use Rattle.verdict.specs.inner.Tells.{Sure};
 ghost use Rattle.verdict.specs.Verdict.{Accepted};
@@ -85,22 +85,9 @@ fn load_before(b: &[u8], n: usize, texts: &mut [SlotText; 64])
     }
 }
 
-// Whether a text can begin at element el of its segment, by the character that was seen before it. In a table that is not packed that tells
-// nothing, and is not asked for.
-fn can_begin(el: usize, seen: usize, packed: bool) -> bool
-    ensures { Sure (Sure ((el ≡ 0) ⊎ (seen % 65536 ≡ 0)) packed) result }
-{
-    if !packed {
-        return true;
-    }
-    if el == 0 {
-        return true;
-    }
-    seen % 65536 == 0
-}
-
 // Whether the text of the attribute at q, which stands at x with n characters left there, has the extended code for its value hash; and, in
-// a packed table, whether it can begin where it does, by the character that was seen before it.
+// a packed table, whether it can begin where it does, by the character that was seen before it. In a table that is not packed that tells
+// nothing, and is not asked for.
 fn passes(
     b: &[u8],
     t: &HashTables,
@@ -116,7 +103,7 @@ fn passes(
         × Sure (Behind b.now x (text_element b.now q)) packed) result }
     ensures memo { Remembers (noted b.now) memo.new }
 {
-    if !can_begin(fields::text_element(b, q), seen, packed) {
+    if packed && !ahead::can_begin(fields::text_element(b, q), seen) {
         return false;
     }
     words::extended(fields::type_word(b, q)) == long::remembered_hash(b, t, x, n, memo)
@@ -184,7 +171,14 @@ fn found(table: &StringTable, q: usize, h: usize, low: usize) -> bool
     ensures { Sure (EntryAddress (lent_table table.now) (text_segment table.now.file.now q) (text_element table.now.file.now q)) result }
 {
     let k = hash::bucket(h, table.buckets.len());
-    run::run_has(table, k, h, low, 12, fields::value_word(table.file, q))
+    run::run_has(
+        table,
+        k,
+        h,
+        low,
+        strings::fields::ADDRESS_AT,
+        fields::value_word(table.file, q),
+    )
 }
 
 // Whether each is.

@@ -25,10 +25,7 @@ fn still_begun(table: &StringTable, k: usize, j: usize, g: PrefetchedText, befor
         return false;
     }
     let e = entry::entry_at(table, k, j);
-    if fields::element(table.file, e) == 0 {
-        return true;
-    }
-    g.seen % 65536 == 0
+    ahead::can_begin(fields::element(table.file, e), g.seen)
 }
 
 // Refusals 7 to 12 of every entry, up to the first fault; where there is none, whether their texts are known to stand where texts can begin.
