@@ -80,7 +80,7 @@ fn unborne(q: &[u8], count: usize) -> Lookup
     if count == 0 {
         return Lookup::Absent;
     }
-    if text::holds_zero(q, 0, q.len() / 2) {
+    if text::holds_zero(q) {
         return Lookup::Absent;
     }
     Lookup::Collided(count)
