@@ -13,7 +13,7 @@ use layout::View;
 use strings::checked::CheckedTable;
 use tree::Nodes;
 
-// With room for each used node its verdict is acceptance: every rule but 20, which is about the workspace, holds of it.
+// An accepted file and its view. With room for each used node its verdict is acceptance: every rule but 20, which is about the workspace, holds.
 #[derive(Clone, Copy)]
 pub struct AcceptedFile<'a> {
     pub file: &'a [u8],

@@ -26,7 +26,7 @@ use Rattle.strings.proofs.Filling.{fill_both}
 use Rattle.lookup.specs.inner.PickedEntry.{PickedEntry}
 use Rattle.lookup.specs.declared.Kind.{Kind}
 use Rattle.lookup.specs.declared.first.Candidate.{Candidate}
-use Rattle.batch.specs.inner.Groups.{TextRead, stands_at, Group, PackedBounds, Picked, SameLow}
+use Rattle.batch.specs.inner.Groups.{TextRead, stands_at, Group, PackedBounds, Texts, Picked, SameLow}
 
 -- ---- where the texts of a group stand
 
@@ -137,6 +137,16 @@ fill_next P xs j x d l f h i k =
     by_cases (ℕ_discrete i j)
     (λ e. rw (e, get_or-set_same xs j x d l) h)
     (λ g. rw (get_or-set_other xs j i x d g) (f i (omega arith)))
+
+pub texts_none : (b : List ℕ) (picked : List (Option Candidate)) → length picked ≡ 64 → Texts b 0 picked
+texts_none b picked e = record { long = e; each = below_none _ }
+
+pub texts_more : {b : List ℕ} {picked : List (Option Candidate)} {n : ℕ} → Texts b n picked → (x : Option Candidate) → n < 64
+    → IfSome x (λ c. (c.text + 2 ≤ length b) × (c.end + 2 ≤ length b)) → Texts b (n + 1) (set picked n x)
+texts_more {b} {picked} {n} w x l f = record {
+  long = length-set picked n x ∙ w.long;
+  each = fill_next (λ (i : ℕ) (y : Option Candidate). IfSome y (λ c. (c.text + 2 ≤ length b) × (c.end + 2 ≤ length b))) picked n x None (omega (arith, w.long)) w.each f;
+}
 
 module _ {kind : Kind} {t : Table} {lengths : List ℕ} where
   pub picked_none : (picked : List (Option Candidate)) → length picked ≡ 64 → Picked kind t lengths 0 picked

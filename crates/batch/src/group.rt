@@ -49,7 +49,7 @@ fn pick_each(
     picked: &mut [Option<Candidate>; 64],
 )
     requires { (n ≤ 64) × Lengths lengths.now hashes.now low.now × (length picked.old ≡ 64) }
-    ensures { Picked kind (lent_table checked.now.table) lengths.now n picked.new }
+    ensures { Texts checked.now.table.file.now n picked.new × Picked kind (lent_table checked.now.table) lengths.now n picked.new }
 {
     for j in 0..n {
         picked[j] = first::pick(checked, kind, le::wide(hashes[j]), low[j], lengths[j]);

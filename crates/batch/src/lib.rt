@@ -38,11 +38,12 @@ fn count_texts(texts: &[u8]) -> usize
     n
 }
 
-// Writes what a lookup answers: its kind, 0 found, 1 absent or 2 collided, and its value.
-fn put_place(answers: &mut [u8], at: usize, l: Lookup)
-    requires { at + 8 ≤ length answers.old }
-    ensures { answers.new ≡ splice answers.old at (place l) }
+// Writes what a lookup answers in place i: its kind, 0 found, 1 absent or 2 collided, and its value.
+fn put_place(answers: &mut [u8], i: usize, l: Lookup)
+    requires { 8 * i + 8 ≤ length answers.old }
+    ensures { answers.new ≡ splice answers.old (8 * i) (place l) }
 {
+    let at = PLACE_SIZE * i;
     le::put_u32(answers, at, le::wide(l.code()));
     le::put_u32(answers, at + VALUE_AT, l.value());
 }
@@ -59,9 +60,9 @@ fn put_places(checked: &CheckedTable, t: &HashTables, kind: Kind, texts: &[u8], 
     let mut low = [0; 64];
     let mut picked = [None; 64];
     let mut skipped = 0;
-    let mut i = 0;
+    let mut done = 0;
     let mut at = 0;
-    // A group at a time, and no index: how many texts a group has is told by the group.
+    // A group of texts at a time: how long a group is, is known when it was measured.
     while at < texts.len() {
         let n = group::measure_group(texts, t, at, &mut lengths, &mut hashes);
         skipped = search::group::lower_bounds(table, &hashes, n, skipped, &mut low);
@@ -76,10 +77,10 @@ fn put_places(checked: &CheckedTable, t: &HashTables, kind: Kind, texts: &[u8], 
                 picked[j],
                 &texts[at..at + 2 * k],
             );
-            put_place(answers, i, l);
-            i += PLACE_SIZE;
+            put_place(answers, done + j, l);
             at += 2 * k + 2;
         }
+        done += n;
     }
 }
 

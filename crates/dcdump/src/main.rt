@@ -16,7 +16,7 @@ fn read_input(from: &mut Stdin, buf: &mut [u8]) -> io::Result<usize>
     ensures { IfOk result (λ n. n ≤ length buf.new) }
 {
     let mut done = 0;
-    // Bytes are counted, and no turns: a read brings as many as it likes.
+    // A read brings as many bytes as there are.
     while done < buf.len() {
         let n = from.read(&mut buf[done..])?;
         if n == 0 {

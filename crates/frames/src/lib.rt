@@ -126,7 +126,7 @@ pub fn read_frames(input: &[u8], out: &mut [u8]) -> Result<usize, BadLine>
     let mut n = 0;
     let mut p = 0;
     let mut number = 1;
-    // From line to line, and no index: where the next line starts is told by this one.
+    // Line by line: where the next line starts is known when this one was read.
     while p < input.len() {
         let Some(line) = read_line(input, p, n, out) else {
             return Err(BadLine(number));

@@ -67,7 +67,7 @@ pub fn byte_on(t: &[u32; 256], h: usize, b: usize) -> usize
 // T, and after it the same entries one to seven zero bytes on, so that four characters go in one step.
 #[derive(Clone, Copy)]
 pub struct HashTables {
-    entries: [u32; 2048],
+    pub entries: [u32; 2048],
     pub ghost made: { Tables entries },
 }
 

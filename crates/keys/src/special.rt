@@ -1,5 +1,5 @@
 // Refusal 14.
-ghost use Rattle.std.specs.Prelude.{◌≡◌, ◌*◌, ◌≤◌, ◌<◌, length};
+ghost use Rattle.std.specs.Prelude.{◌≡◌, ◌/◌, ◌≤◌, ◌<◌, length};
 ghost use Rattle.verdict.specs.inner.Tells.{Tells};
 ghost use Rattle.text.specs.Text.{chars};
 ghost use Rattle.layout.specs.Table.{count};
@@ -14,16 +14,16 @@ use strings::checked::CheckedTable;
 use strings::entry;
 use verdict::{Refusal, Rule};
 
-// Whether the text at list position i is the k characters of x.
-fn listed_is(checked: &CheckedTable, i: usize, x: &[u8], k: usize) -> bool
-    requires { (1 ≤ i) × (i < count (lent_table checked.now.table)) × (2 * k ≤ length x.now) }
-    ensures { Tells (listed_text (lent_table checked.now.table) i ≡ chars x.now 0 k) result }
+// Whether the text at list position i is the characters of x.
+fn listed_is(checked: &CheckedTable, i: usize, x: &[u8]) -> bool
+    requires { (1 ≤ i) × (i < count (lent_table checked.now.table)) }
+    ensures { Tells (listed_text (lent_table checked.now.table) i ≡ chars x.now 0 (length x.now / 2)) result }
 {
     let table = &checked.table;
     let Some(spot) = entry::listed_spot(table, i) else {
         return false;
     };
-    text::bears(table.file, spot.at, spot.left, x, 0, k)
+    text::bears(table.file, spot.at, spot.left, x)
 }
 
 // Refusal 14 of a file whose names table passed 7 to 13.
@@ -36,14 +36,14 @@ pub fn check_special(checked: &CheckedTable) -> Result<Names, Refusal>
     let value = b"_\0_\0v\0a\0l\0u\0e\0_\0_\0";
     let n = le::u32_at(table.file, table.parts.list) - 1;
     if n >= 2 {
-        if listed_is(checked, n, root, 8) && listed_is(checked, n - 1, value, 9) {
+        if listed_is(checked, n, root) && listed_is(checked, n - 1, value) {
             return Ok(Names {
                 count: n,
                 root: n,
                 value: n - 1,
             });
         }
-        if listed_is(checked, n, value, 9) && listed_is(checked, n - 1, root, 8) {
+        if listed_is(checked, n, value) && listed_is(checked, n - 1, root) {
             return Ok(Names {
                 count: n,
                 root: n - 1,

@@ -15,6 +15,7 @@ pub fn wide(x: u32) -> usize
     x as usize
 }
 
+// Each width by the method of its own type: a trait for the three would be longer.
 pub fn u16_at(s: &[u8], at: usize) -> usize
     requires { at + 2 ≤ length s.now }
     ensures { (result ≡ u16_at s.now at) × (result < 65536) }
@@ -29,6 +30,7 @@ pub fn u32_at(s: &[u8], at: usize) -> usize
     wide(u32::from_le_bytes([s[at], s[at + 1], s[at + 2], s[at + 3]]))
 }
 
+// Its two halves, as its definition has them.
 pub fn u64_at(s: &[u8], at: usize) -> u64
     requires { at + 8 ≤ length s.now }
     ensures { result ≡ u64_at s.now at }
@@ -36,7 +38,7 @@ pub fn u64_at(s: &[u8], at: usize) -> u64
     u32_at(s, at) as u64 + (u32_at(s, at + 4) as u64) * 4294967296
 }
 
-// Writes a number's four low bytes.
+// Writes a number's four low bytes. The number may be larger, so `to_le_bytes` would need a mask.
 pub fn put_u32(d: &mut [u8], at: usize, x: usize)
     requires { at + 4 ≤ length d.old }
     ensures { d.new ≡ splice d.old at (le4 x) }
@@ -47,7 +49,7 @@ pub fn put_u32(d: &mut [u8], at: usize, x: usize)
     d[at + 3] = (x / 16777216 % 256) as u8;
 }
 
-// A float beside its bits: a NaN's own bits cannot live in the float.
+// A float beside its bits: a NaN's own bits cannot live in the float. Two types, since `from_bits` has another type in each.
 #[derive(Clone, Copy)]
 pub struct Float32 {
     pub value: f32,
@@ -66,7 +68,7 @@ fn f32_of(bits: u32) -> f32
     if bits % 0x8000_0000 <= 0x7f80_0000 {
         f32::from_bits(bits)
     } else {
-        0.0 / 0.0
+        f32::NAN
     }
 }
 
@@ -76,7 +78,7 @@ fn f64_of(bits: u64) -> f64
     if bits % 0x8000_0000_0000_0000 <= 0x7ff0_0000_0000_0000 {
         f64::from_bits(bits)
     } else {
-        0.0 / 0.0
+        f64::NAN
     }
 }
 

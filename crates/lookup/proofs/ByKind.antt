@@ -21,17 +21,14 @@ use Rattle.lookup.proofs.Counts.{count-within}
 use Rattle.lookup.proofs.Found.{index_found_iff, index_collided_iff, address_found_iff, address_collided_iff}
 use Rattle.lookup.proofs.Told.{index-collided, index-absent, address-collided, address-absent}
 
--- no entry bears the text
-pub none_told : (k : Kind) (t : Table) (x : List ℕ) → Clean (string_checks t) → {r : Lookup} → r ≡ entry_of_text t x → r ≡ Absent → Absent ≡ told_in k t x
+-- no entry bears the text, whether some have its hash or not
+pub other_told : (k : Kind) (t : Table) (x : List ℕ) → Clean (string_checks t) → (r : Lookup) → r ≡ entry_of_text t x → ((e : ℕ) → r ≡ Found e → ⊥) → r ≡ told_in k t x
 unfolding told_in
-none_told Name t x ok q f = index-absent t x ok q f
-none_told Value t x ok q f = address-absent t x ok q f
-
--- no entry bears the text, but some have its hash
-pub collided-told : (k : Kind) (t : Table) (x : List ℕ) → Clean (string_checks t) → {r : Lookup} → r ≡ entry_of_text t x → (n : ℕ) → r ≡ Collided n → Collided n ≡ told_in k t x
-unfolding told_in
-collided-told Name t x ok q n f = index-collided t x ok q n f
-collided-told Value t x ok q n f = address-collided t x ok q n f
+other_told k t x ok (Found e) q f = absurd (f e refl)
+other_told Name t x ok (Collided n) q f = index-collided t x ok q n refl
+other_told Value t x ok (Collided n) q f = address-collided t x ok q n refl
+other_told Name t x ok Absent q f = index-absent t x ok q refl
+other_told Value t x ok Absent q f = address-absent t x ok q refl
 
 pub kind-low : (l : Lookup) → kind_of l < 2 ^ 32
 unfolding kind_of

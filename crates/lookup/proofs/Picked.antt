@@ -44,12 +44,11 @@ module _ (t : Table) (k j e : ℕ) (ok : Clean (string_checks t)) (here : Here t
           let c = element-at t k j e _ q refl in
           addressed t k j x w n ok laid here (p ∙ cc) (length_at t k j e w q d) (omega (arith, long-read))
 
-      pub picked : (kind : Kind) (y v : ℕ) → y ≡ x + 2 * n → v ≡ tells_at kind t.bytes e → PickedEntry kind t n (record { text = x; end = y; result = v })
-      picked kind y v h g = record {
+      pub picked : (kind : Kind) (y v : ℕ) → v ≡ tells_at kind t.bytes e → PickedEntry kind t n (record { text = x; end = y; result = v })
+      picked kind y v g = record {
         bucket = k;
         entry = j;
         here = here;
-        ends = h;
         fits = omega (arith, stands.ends);
         text = stands.text;
         result = g ∙ ap (tells_at kind t.bytes) q;

@@ -37,7 +37,8 @@ fn text_at(b: &[u8], chars: Region, segments: &[u32; SAMPLES], e: usize) -> usiz
 
 // Entry `low` of the bucket of hash h, if it has that hash and bears a text of n characters.
 pub fn pick(checked: &CheckedTable, kind: Kind, h: usize, low: usize, n: usize) -> Option<Candidate>
-    ensures { IfSome result (PickedEntry kind (lent_table checked.now.table) n) }
+    ensures places { IfSome result (λ c. (c.text + 2 ≤ length checked.now.table.file.now) × (c.end + 2 ≤ length checked.now.table.file.now)) }
+    ensures bears { IfSome result (PickedEntry kind (lent_table checked.now.table) n) }
 {
     let table = &checked.table;
     let k = hash::bucket(h, table.buckets.len());

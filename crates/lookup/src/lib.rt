@@ -80,7 +80,7 @@ fn unborne(q: &[u8], count: usize) -> Lookup
     if count == 0 {
         return Lookup::Absent;
     }
-    if text::holds_zero(q, 0, q.len() / 2) {
+    if text::holds_zero(q) {
         return Lookup::Absent;
     }
     Lookup::Collided(count)
@@ -108,7 +108,7 @@ fn find_entry(checked: &CheckedTable, h: usize, low: usize, q: &[u8]) -> Lookup
     unborne(q, m - low)
 }
 
-// What is told of the entry at e.
+// What is told of the entry at e: a value by kind, and no step.
 fn result_at(b: &[u8], kind: Kind, e: usize) -> usize
     requires { e + 16 ≤ length b.now }
     ensures { result ≡ tells_at kind b.now e }
@@ -133,8 +133,7 @@ pub(crate) fn find_from(
 {
     match find_entry(checked, h, low, q) {
         Lookup::Found(e) => Lookup::Found(result_at(checked.table.file, kind, e)),
-        Lookup::Collided(others) => Lookup::Collided(others),
-        Lookup::Absent => Lookup::Absent,
+        other => other,
     }
 }
 

@@ -4,7 +4,7 @@ use native.Mathlib.Decide.{ℕ_discrete}
 use native.Mathlib.Omega.{arith}
 use mathlib.Core.Path.{◌≡◌, ap, sym, ◌∙◌}
 use mathlib.Core.List.{List}
-use Rattle.std.specs.Prelude.{Some, None}
+use Rattle.std.specs.Prelude.{Some}
 use lib.ListN.{length, get_or, set, replicate, length-set, length-replicate}
 use lib.Seq.{get_or-set_same, get_or-set_other}
 use Rattle.laws.proofs.Zeros.{zeros}
@@ -14,9 +14,6 @@ pub recalled : (memo : List ℕ) (s x n r : ℕ) → s < 1024 → get_or memo s 
 recalled memo s x n r l p q e = record {
   right = λ v w F m. let i : v ≡ r = cc in i ∙ e ∙ m.slot s l ∙ ap (λ (a : ℕ). F a (get_or memo (1024 + s) 0)) p ∙ ap (F x) q;
 }
-
-pub recalled-none : (memo : List ℕ) (x n : ℕ) → Recalled memo x n None
-recalled-none memo x n = record { right = λ v w. absurd (cc) }
 
 -- a slot taken over
 module _ (F : ℕ → ℕ → ℕ) (memo : List ℕ) (s x n v : ℕ) (l : s < 1024) (m : Remembers F memo) (e : v ≡ F x n) where

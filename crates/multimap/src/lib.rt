@@ -12,9 +12,8 @@ fn seek(map: &[u16; 20480], n: usize, m: usize, c: usize, x: usize) -> Option<us
     ensures { LastWith map.now m x result }
 {
     let mut at = c;
-    // Along the chain of the slot, which 0 ends: no index is counted.
-    while at > 0 {
-        let i = at - 1;
+    // Along the chain of the slot, which 0 ends.
+    while let Some(i) = at.checked_sub(1) {
         if usize::from(map[4096 + i]) == x {
             return Some(i);
         }

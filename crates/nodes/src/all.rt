@@ -3,12 +3,12 @@ ghost use Rattle.std.specs.Prelude.{◌≡◌};
 ghost use Rattle.verdict.specs.Checks.{first_fault};
 ghost use Rattle.verdict.specs.Verdict.{answer_of};
 ghost use Rattle.memo.specs.inner.Memo.{Remembers};
-ghost use Rattle.nodes.specs.inner.Doubts.{AllTrusted, NoDoubt};
-ghost use Rattle.verdict.specs.inner.Tells.{Sure};
+ghost use Rattle.nodes.specs.inner.Doubts.{AllTrusted};
 ghost use Rattle.layout.specs.declared.Edition.TheVariants.{Bits64};
 ghost use Rattle.nodes.specs.Order.{all_node_checks};
 ghost use Rattle.nodes.specs.inner.Noted.{noted};
 
+use crate::doubts::Doubts;
 use crate::node;
 use crate::prepared::PreparedFile;
 use hash::HashTables;
@@ -20,11 +20,10 @@ use verdict::{Refusal, Rule};
 pub fn check_nodes(
     prepared: &PreparedFile,
     t: &HashTables,
-    known: bool,
-    doubts: &[u32; 4096],
+    doubts: &Doubts,
     memo: &mut [u32; 3072],
 ) -> Result<(), Refusal>
-    requires { Sure (NoDoubt doubts.now) known × AllTrusted Bits64 prepared.now.file.now doubts.now × Remembers (noted prepared.now.file.now) memo.old }
+    requires { AllTrusted Bits64 prepared.now.file.now doubts.now.places × Remembers (noted prepared.now.file.now) memo.old }
     ensures answer { answer_of result ≡ first_fault (all_node_checks Bits64 prepared.now.file.now) }
     ensures memo { Remembers (noted prepared.now.file.now) memo.new }
 {
@@ -38,11 +37,12 @@ pub fn check_nodes(
         return Err(Refusal(Rule::Node, nodes.at));
     }
     let mut answer = Ok(());
+    // The labelled loops are left with the first fault, as the customer asked for this place.
     'segments: for seg in 0..nodes.count {
         let first = at + SEGMENT_HEADER;
         for el in 0..region::used_count(b, at) {
             let x = first + el * NODE_SIZE;
-            answer = node::check_node(prepared, t, seg, el, x, known, doubts, memo);
+            answer = node::check_node(prepared, t, seg, el, x, doubts, memo);
             if answer.is_err() {
                 break 'segments;
             }

@@ -1,7 +1,7 @@
 // Refusals 18 and 19: the attributes of a node.
 ghost use Rattle.std.specs.Prelude.{◌≡◌, ℕ, ◌+◌, ◌*◌, ◌≤◌, ◌<◌, length};
 ghost use Rattle.verdict.specs.Checks.{first_fault};
-ghost use Rattle.verdict.specs.inner.Tells.{Tells, Sure};
+ghost use Rattle.verdict.specs.inner.Tells.{Tells};
 ghost use Rattle.verdict.specs.Verdict.{answer_of};
 ghost use Rattle.memo.specs.inner.Memo.{Remembers};
 ghost use Rattle.layout.specs.Edition.{attribute_size};
@@ -10,10 +10,11 @@ ghost use Rattle.keys.specs.inner.Known.{Known};
 ghost use Rattle.nodes.specs.Node.{attribute_count, attribute_at};
 ghost use Rattle.nodes.specs.Attribute.{Typed};
 ghost use Rattle.nodes.specs.Rules.{AttributeRule, TextRight};
-ghost use Rattle.nodes.specs.inner.Doubts.{Trusted, NoDoubt};
+ghost use Rattle.nodes.specs.inner.Doubts.{Trusted};
 ghost use Rattle.nodes.specs.Order.{node_attribute_checks};
 ghost use Rattle.nodes.specs.inner.Noted.{noted};
 
+use crate::doubts::Doubts;
 use crate::{fields, long};
 use hash::HashTables;
 use keys::Names;
@@ -22,6 +23,7 @@ use search::run;
 use strings::checked::ValuesTable;
 use strings::spot;
 use verdict::{Refusal, Rule};
+use words::AttributeType;
 
 // Whether type, extended code and truth word of the attribute at q are right.
 fn typed(b: &[u8], q: usize) -> bool
@@ -32,10 +34,10 @@ fn typed(b: &[u8], q: usize) -> bool
     let kind = words::kind(word);
     let extended = words::extended(word);
     // A text, whose code 19 looks at, or code 0: types come and go too irregularly for a branch each.
-    if extended * (3 - kind) == 0 {
-        return kind >= 1;
+    if extended * (3 - kind.number()) == 0 {
+        return kind != AttributeType::None;
     }
-    if kind != 1 {
+    if kind != AttributeType::Whole {
         return false;
     }
     if extended != 1 {
@@ -67,7 +69,7 @@ fn attribute_right(b: &[u8], names: Names, p: usize, i: usize, q: usize) -> bool
     if name != names.value {
         return true;
     }
-    words::kind(fields::type_word(b, q)) == 3
+    words::kind(fields::type_word(b, q)) == AttributeType::Text
 }
 
 // Whether refusal 19 is not due to the attribute at q. An entry with its address would stand in the bucket of the text there.
@@ -78,7 +80,7 @@ pub fn text_right(values: &ValuesTable, t: &HashTables, q: usize, memo: &mut [u3
 {
     let table = &values.checked.table;
     let word = fields::type_word(table.file, q);
-    if words::kind(word) != 3 {
+    if words::kind(word) != AttributeType::Text {
         return true;
     }
     let seg = fields::text_segment(table.file, q);
@@ -96,23 +98,19 @@ pub fn text_right(values: &ValuesTable, t: &HashTables, q: usize, memo: &mut [u3
     run::run_has(table, k, h, low, strings::fields::ADDRESS_AT, address)
 }
 
-// The same where it may be known of the attribute already: that nothing is doubted saves a look at its place.
+// The same, where it is looked at only if the attribute is doubted.
 fn text_passes(
     values: &ValuesTable,
     t: &HashTables,
     q: usize,
-    known: bool,
-    doubts: &[u32; 4096],
+    doubts: &Doubts,
     memo: &mut [u32; 3072],
 ) -> bool
-    requires { (q + attribute_size Bits64 ≤ length values.now.checked.table.file.now) × Sure (NoDoubt doubts.now) known × Trusted Bits64 values.now.checked.table.file.now doubts.now q × Remembers (noted values.now.checked.table.file.now) memo.old }
+    requires { (q + attribute_size Bits64 ≤ length values.now.checked.table.file.now) × Trusted Bits64 values.now.checked.table.file.now doubts.now.places q × Remembers (noted values.now.checked.table.file.now) memo.old }
     ensures answer { Tells (TextRight Bits64 values.now.checked.table.file.now q) result }
     ensures memo { Remembers (noted values.now.checked.table.file.now) memo.new }
 {
-    if known {
-        return true;
-    }
-    if doubts[q / 4 % 4096] == 0 {
+    if !doubts.doubted(q) {
         return true;
     }
     text_right(values, t, q, memo)
@@ -126,13 +124,12 @@ pub fn check_attributes(
     p: usize,
     a: usize,
     n: usize,
-    known: bool,
-    doubts: &[u32; 4096],
+    doubts: &Doubts,
     memo: &mut [u32; 3072],
 ) -> Result<(), Refusal>
     requires attributes { Known Bits64 values.now.checked.table.file.now names × (n ≡ attribute_count values.now.checked.table.file.now p) × (a ≡ attribute_at Bits64 values.now.checked.table.file.now p 0)
         × (a + n * attribute_size Bits64 ≤ length values.now.checked.table.file.now) }
-    requires doubts { Sure (NoDoubt doubts.now) known × ((i : ℕ) → i < n → Trusted Bits64 values.now.checked.table.file.now doubts.now (attribute_at Bits64 values.now.checked.table.file.now p i))
+    requires doubts { ((i : ℕ) → i < n → Trusted Bits64 values.now.checked.table.file.now doubts.now.places (attribute_at Bits64 values.now.checked.table.file.now p i))
         × Remembers (noted values.now.checked.table.file.now) memo.old }
     ensures answer { answer_of result ≡ first_fault (node_attribute_checks Bits64 values.now.checked.table.file.now p) }
     ensures memo { Remembers (noted values.now.checked.table.file.now) memo.new }
@@ -142,7 +139,7 @@ pub fn check_attributes(
         if !attribute_right(values.checked.table.file, names, p, i, q) {
             return Err(Refusal(Rule::Attribute, q));
         }
-        if !text_passes(values, t, q, known, doubts, memo) {
+        if !text_passes(values, t, q, doubts, memo) {
             return Err(Refusal(Rule::AttributeText, q));
         }
     }

@@ -3,6 +3,7 @@
 
 pub mod all;
 pub mod attribute;
+pub mod doubts;
 pub mod fields;
 pub mod long;
 mod node;

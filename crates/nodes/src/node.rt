@@ -1,7 +1,7 @@
 // Refusals 16, 17 and 23, and all of one node.
 ghost use Rattle.std.specs.Prelude.{◌≡◌, ◌+◌, ◌*◌, ◌≤◌, ◌<◌, length};
 ghost use Rattle.verdict.specs.Checks.{first_fault};
-ghost use Rattle.verdict.specs.inner.Tells.{Tells, Sure};
+ghost use Rattle.verdict.specs.inner.Tells.{Tells};
 ghost use Rattle.verdict.specs.Verdict.{answer_of};
 ghost use Rattle.memo.specs.inner.Memo.{Remembers};
 ghost use Rattle.region.specs.Region.{Resolves};
@@ -12,11 +12,12 @@ ghost use Rattle.layout.specs.declared.Edition.TheVariants.{Bits64};
 ghost use Rattle.keys.specs.inner.Known.{Known};
 ghost use Rattle.nodes.specs.Node.{node_at, Live};
 ghost use Rattle.nodes.specs.Rules.{NodeRule, ChildRule};
-ghost use Rattle.nodes.specs.inner.Doubts.{AllTrusted, NoDoubt};
+ghost use Rattle.nodes.specs.inner.Doubts.{AllTrusted};
 ghost use Rattle.nodes.specs.inner.Search.{NamesRise};
 ghost use Rattle.nodes.specs.Order.{attribute_range_checks, node_checks};
 ghost use Rattle.nodes.specs.inner.Noted.{noted};
 
+use crate::doubts::Doubts;
 use crate::prepared::PreparedFile;
 use crate::{attribute, fields};
 use hash::HashTables;
@@ -99,12 +100,11 @@ fn check_attribute_range(
     prepared: &PreparedFile,
     t: &HashTables,
     x: usize,
-    known: bool,
-    doubts: &[u32; 4096],
+    doubts: &Doubts,
     memo: &mut [u32; 3072],
 ) -> Result<(), Refusal>
     requires node { (x + node_size Bits64 ≤ length prepared.now.file.now) × Live prepared.now.file.now x }
-    requires doubts { Sure (NoDoubt doubts.now) known × AllTrusted Bits64 prepared.now.file.now doubts.now × Remembers (noted prepared.now.file.now) memo.old }
+    requires doubts { AllTrusted Bits64 prepared.now.file.now doubts.now.places × Remembers (noted prepared.now.file.now) memo.old }
     ensures answer { answer_of result ≡ first_fault (attribute_range_checks Bits64 prepared.now.file.now x) }
     ensures memo { Remembers (noted prepared.now.file.now) memo.new }
 {
@@ -125,17 +125,7 @@ fn check_attribute_range(
     let Some(a) = r else {
         return Err(Refusal(Rule::AttributeRange, x));
     };
-    attribute::check_attributes(
-        &prepared.values(),
-        t,
-        prepared.names,
-        x,
-        a,
-        n,
-        known,
-        doubts,
-        memo,
-    )
+    attribute::check_attributes(&prepared.values(), t, prepared.names, x, a, n, doubts, memo)
 }
 
 // Refusals 16 to 19 and 23 of node seg:el, which stands at x; 19 is due only to attributes that are doubted.
@@ -145,12 +135,11 @@ pub fn check_node(
     seg: usize,
     el: usize,
     x: usize,
-    known: bool,
-    doubts: &[u32; 4096],
+    doubts: &Doubts,
     memo: &mut [u32; 3072],
 ) -> Result<(), Refusal>
     requires node { Resolves (node_size Bits64) prepared.now.file.now (nodes_at Bits64 prepared.now.file.now) seg el × (x ≡ node_at Bits64 prepared.now.file.now seg el) }
-    requires doubts { Sure (NoDoubt doubts.now) known × AllTrusted Bits64 prepared.now.file.now doubts.now × Remembers (noted prepared.now.file.now) memo.old }
+    requires doubts { AllTrusted Bits64 prepared.now.file.now doubts.now.places × Remembers (noted prepared.now.file.now) memo.old }
     ensures answer { answer_of result ≡ first_fault (node_checks Bits64 prepared.now.file.now seg el) }
     ensures memo { Remembers (noted prepared.now.file.now) memo.new }
 {
@@ -161,7 +150,7 @@ pub fn check_node(
     if fields::node_name(b, x) == 0 {
         return Ok(());
     }
-    check_attribute_range(prepared, t, x, known, doubts, memo)?;
+    check_attribute_range(prepared, t, x, doubts, memo)?;
     if !children_right(prepared, x) {
         return Err(Refusal(Rule::Children, x));
     }

@@ -8,6 +8,7 @@ use layout::View;
 use strings::checked::{CheckedTable, ValuesTable};
 use strings::{StringTable, Strings};
 
+// The file, its view, and the special names.
 #[derive(Clone, Copy)]
 pub struct PreparedFile<'a> {
     pub file: &'a [u8],

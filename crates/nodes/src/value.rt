@@ -6,6 +6,7 @@ ghost use Rattle.nodes.specs.Attribute.{value_of};
 
 use crate::fields;
 use le::Float32;
+use words::AttributeType;
 
 // A whole number, a truth, a float beside its bits, or a text address: segment, element.
 #[derive(Clone, Copy)]
@@ -22,16 +23,18 @@ pub fn value_at(b: &[u8], q: usize) -> Value
     ensures { result ≡ value_of b.now q }
 {
     let word = fields::type_word(b, q);
-    let kind = words::kind(word);
-    if kind == 1 {
-        let w = fields::value_word(b, q);
-        if words::extended(word) == 0 {
-            return Value::Whole((w as u32).cast_signed());
+    match words::kind(word) {
+        AttributeType::Whole => {
+            let w = fields::value_word(b, q);
+            if words::extended(word) == 0 {
+                Value::Whole((w as u32).cast_signed())
+            } else {
+                Value::Truth(w == 1)
+            }
         }
-        return Value::Truth(w == 1);
+        AttributeType::Float => Value::Float(le::single(fields::value_word(b, q) as u32)),
+        AttributeType::None | AttributeType::Text => {
+            Value::Text(fields::text_segment(b, q), fields::text_element(b, q))
+        }
     }
-    if kind == 2 {
-        return Value::Float(le::single(fields::value_word(b, q) as u32));
-    }
-    Value::Text(fields::text_segment(b, q), fields::text_element(b, q))
 }

@@ -23,8 +23,7 @@ pub fn write_outline(source: &Source, out: &mut [u8]) -> Result<usize, Refusal>
     ensures buffer { out.new ≡ outline_after Bits64 source.now.file.now out.old (answer_of result) }
 {
     let root = ranges::root_at(source.view.places.nodes);
-    let mut none = [0u8; 0];
-    let n = blocks::write_node(source, 0, root, 0, DEEPEST_LEVEL, &mut none, 0);
+    let n = blocks::write_node(source, 0, root, 0, DEEPEST_LEVEL, &mut [], 0);
     if out.len() < n {
         return Err(Refusal(Rule::OutlineRoom, n));
     }

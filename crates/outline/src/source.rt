@@ -14,7 +14,7 @@ use accept::file::AcceptedFile;
 use layout::View;
 use tree::Nodes;
 
-// With room for each used node its verdict is acceptance: every rule but 20, which is about the workspace, holds of it.
+// An accepted file and its view. With room for each used node its verdict is acceptance: every rule but 20, which is about the workspace, holds.
 #[derive(Clone, Copy)]
 pub struct Source<'a> {
     pub file: &'a [u8],

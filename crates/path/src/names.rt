@@ -14,7 +14,7 @@ use strings::checked::CheckedTable;
 use tree::MOST_LEVELS;
 use verdict::{Refusal, Rule};
 
-// The indices of a path's names, the first `count` of a chain's.
+// The indices of a path's names: the first `count` places.
 #[derive(Clone, Copy)]
 pub struct Wanted {
     pub count: usize,

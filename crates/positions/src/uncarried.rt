@@ -46,7 +46,6 @@ pub fn first_uncarried(table: &StringTable, n: usize) -> usize
 {
     let mut lo = 1usize;
     let mut hi = n;
-    // Halves what is left: no index is counted.
     while lo + 1 < hi {
         let mid = lo + (hi - lo) / 2;
         if count_carrying(table, mid) + 1 == mid {

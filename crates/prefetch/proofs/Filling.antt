@@ -1,21 +1,26 @@
--- How the arrays of a batch are filled, slot by slot. Assumes nothing.
+-- How the texts of a batch are filled in, slot by slot. Assumes nothing.
 use Prim.Native.Nat.{ℕ, ◌+◌, ◌<◌}
 use native.Mathlib.Omega.{arith}
 use mathlib.Core.Path.{◌≡◌, sym}
 use mathlib.Core.List.{List}
 use lib.ListN.{length, get_or, set}
-use Rattle.strings.proofs.Filling.{fill_both}
-use Rattle.prefetch.specs.inner.Batch.{TextSpot, SpotFits, AllSpots, AllFit}
+use Rattle.strings.proofs.Filling.{fill_any}
+use Rattle.prefetch.specs.declared.steps.SlotText.{SlotText}
+use Rattle.prefetch.specs.inner.Batch.{TextSpot, SpotFits, AllSpots, AllFit, Stay}
 
-pub spots_more : {b : List ℕ} {r : ℕ} {slots at left : List ℕ} {j q x m : ℕ} → length at ≡ 64 → length left ≡ 64 → j < 64 → AllSpots b r slots j at left
-    → q ≡ get_or slots j 0 → TextSpot b r q x m → AllSpots b r slots (j + 1) (set at j x) (set left j m)
-spots_more {b} {r} {slots} {at} {left} {j} {q} {x} {m} e f l a g s = record {
+pub spots_more : {b : List ℕ} {r : ℕ} {slots : List ℕ} {texts : List SlotText} {j q : ℕ} (x : SlotText) → length texts ≡ 64 → j < 64 → AllSpots b r slots j texts
+    → q ≡ get_or slots j 0 → TextSpot b r q x.at x.left → AllSpots b r slots (j + 1) (set texts j x)
+spots_more {b} {r} {slots} {texts} {j} {q} x e l a g s = record {
   each =
-      fill_both (λ (i y z : ℕ). TextSpot b r (get_or slots i 0) y z) at left j x m (omega (arith, e)) (omega (arith, f)) a.each (rw (sym g) s);
+      fill_any _ (λ (i : ℕ) (y : SlotText). TextSpot b r (get_or slots i 0) y.at y.left) texts j x (omega (arith, e, l)) a.each (rw (sym g) s);
 }
 
-pub fit_more : {b at left : List ℕ} {j x m : ℕ} → length at ≡ 64 → length left ≡ 64 → j < 64 → AllFit b j at left → SpotFits b x m
-    → AllFit b (j + 1) (set at j x) (set left j m)
-fit_more {b} {at} {left} {j} {x} {m} e f l a s = record {
-  each = fill_both (λ (i y z : ℕ). SpotFits b y z) at left j x m (omega (arith, e)) (omega (arith, f)) a.each s;
+pub fit_more : {b : List ℕ} {texts : List SlotText} {j : ℕ} (x : SlotText) → length texts ≡ 64 → j < 64 → AllFit b j texts → SpotFits b x.at x.left
+    → AllFit b (j + 1) (set texts j x)
+fit_more {b} {texts} {j} x e l a s = record {
+  each = fill_any _ (λ (i : ℕ) (y : SlotText). SpotFits b y.at y.left) texts j x (omega (arith, e, l)) a.each s;
 }
+
+-- what holds of texts that stay
+pub spots_still : {before after : List SlotText} → Stay before after → {b : List ℕ} {r : ℕ} {slots : List ℕ} {n : ℕ} → AllSpots b r slots n before → AllSpots b r slots n after
+spots_still s a = record { each = λ j l. rw (s.at j, s.left j) (a.each j l) }

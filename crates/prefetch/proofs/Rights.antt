@@ -42,6 +42,7 @@ use Rattle.std.specs.Bool.{MatchBool}
 use Rattle.std.specs.List.{AllWithin, range_with_len}
 use Rattle.std.proofs.lemmas.List.FromFn.{length-range_with_len, get_or-range_with_len}
 use Rattle.prefetch.specs.inner.Slots.{Each}
+use Rattle.prefetch.specs.declared.steps.SlotText.{SlotText}
 
 -- an entry in one bucket has the address of the attribute's text
 pub entry_in : (b : List ℕ) → Bytes b → (q : ℕ) (t : Table) → t.bytes ≡ b → (k w : ℕ) → k < t.buckets → w ≡ value_word b q
@@ -75,16 +76,16 @@ fits-of {b} {r} seg el laid e f =
     }
 
 -- in a packed table each is at an entry's address
-pub all_found : (b : List ℕ) (t : Table) (slots at left : List ℕ) (n : ℕ) → t.bytes ≡ b → Packed t
-    → AllSpots t.bytes t.at slots n at left → AllBehind t.bytes slots n at → AllFound t.bytes t slots n
-all_found b t slots at left n y p s h j l =
+pub all_found : (b : List ℕ) (t : Table) (slots : List ℕ) (texts : List SlotText) (n : ℕ) → t.bytes ≡ b → Packed t
+    → AllSpots t.bytes t.at slots n texts → AllBehind t.bytes slots n texts → AllFound t.bytes t slots n
+all_found b t slots texts n y p s h j l =
     let w = spot_in _ _ _ _ (s.each j l).spot in
     p _ _ w.0 (⊎_elim (begins-first _ _ _ _) (begins_behind _ _ _ _ _ w.1) (h j l))
 
 -- 19 of every attribute of the batch
-pub all_right : (ed : Edition) (b : List ℕ) (t : Table) (slots at left : List ℕ) (n : ℕ) → t.bytes ≡ b → t ≡ values ed b → Laid 2 t.bytes t.at
-    → AllSpots t.bytes t.at slots n at left → AllHashed t.bytes slots n at left → AllFound t.bytes t slots n → AllRight ed t.bytes slots n
-all_right ed b t slots at left n y e laid s h f j l k = record {
+pub all_right : (ed : Edition) (b : List ℕ) (t : Table) (slots : List ℕ) (texts : List SlotText) (n : ℕ) → t.bytes ≡ b → t ≡ values ed b → Laid 2 t.bytes t.at
+    → AllSpots t.bytes t.at slots n texts → AllHashed t.bytes slots n texts → AllFound t.bytes t slots n → AllRight ed t.bytes slots n
+all_right ed b t slots texts n y e laid s h f j l k = record {
   entry = there EntryAddress (f j l);
   hash = there (λ u v w. extended_of (type_word t.bytes (get_or slots j 0)) ≡ value_hash (text_to u v w))
       (h j l ∙ ap value_hash (spot-text t _ _ laid (s.each j l).spot).text);

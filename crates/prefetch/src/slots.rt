@@ -6,6 +6,7 @@ ghost use Rattle.prefetch.specs.inner.Slots.{TakenFrom};
 
 use layout::ATTRIBUTE_SIZE;
 use nodes::fields;
+use words::AttributeType;
 
 // How many slots are taken, and the element to go on with.
 #[derive(Clone, Copy)]
@@ -27,7 +28,7 @@ pub fn take_texts(b: &[u8], first: usize, el: usize, used: usize, slots: &mut [u
         }
         let q = first + e * ATTRIBUTE_SIZE;
         slots[n] = q as u32;
-        n += words::kind(fields::type_word(b, q)) / 3;
+        n += usize::from(words::kind(fields::type_word(b, q)) == AttributeType::Text);
     }
     Taken {
         count: n,

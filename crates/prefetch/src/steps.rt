@@ -1,5 +1,5 @@
 // The steps of a batch: each goes over all its slots.
-ghost use Rattle.std.specs.Prelude.{◌≡◌, ◌⊎◌, ◌+◌, ◌-◌, ◌%◌, ◌≤◌, ◌<◌, ◌^◌, length};
+ghost use Rattle.std.specs.Prelude.{◌≡◌, ◌+◌, ◌-◌, ◌%◌, ◌≤◌, ◌<◌, ◌^◌, length};
 ghost use Rattle.verdict.specs.Checks.{first_fault};
 ghost use Rattle.verdict.specs.inner.Tells.{Sure};
 ghost use Rattle.verdict.specs.Verdict.{Accepted};
@@ -16,12 +16,12 @@ ghost use Rattle.strings.specs.Rules.{EntryAddress};
 ghost use Rattle.strings.specs.Order.{all_entry_checks};
 ghost use Rattle.strings.specs.inner.Lent.{lent_table};
 ghost use Rattle.search.specs.inner.LowerBound.{LowerBound};
-ghost use Rattle.search.specs.inner.Group.{LowerBounds, Lengths};
+ghost use Rattle.search.specs.inner.Group.{LowerBounds};
 ghost use Rattle.positions.specs.inner.Packed.{Packed};
 ghost use Rattle.nodes.specs.Attribute.{type_word, text_segment, text_element};
 ghost use Rattle.nodes.specs.inner.Noted.{noted};
 ghost use Rattle.prefetch.specs.inner.Slots.{SlotsIn};
-ghost use Rattle.prefetch.specs.inner.Batch.{SpotFits, Behind, AllSpots, AllFit, AllSeen, AllBehind, AllHashed, AllFound, AllRight};
+ghost use Rattle.prefetch.specs.inner.Batch.{SpotFits, Behind, AllSpots, AllFit, Stay, AllSeen, AllBehind, AllHashed, AllFound, AllRight};
 
 use hash::HashTables;
 use nodes::{fields, long};
@@ -30,6 +30,14 @@ use search::{group, run};
 use strings::checked::ValuesTable;
 use strings::{StringTable, ahead, spot};
 
+// The text of a slot: where it stands, how many characters are left there, and the character that was seen before it.
+#[derive(Clone, Copy)]
+struct SlotText {
+    at: u32,
+    left: u32,
+    seen: u32,
+}
+
 // Where the texts stand, and how many characters are left there.
 fn find_spots(
     b: &[u8],
@@ -37,14 +45,13 @@ fn find_spots(
     segments: &[u32; SAMPLES],
     slots: &[u32; 64],
     n: usize,
-    at: &mut [u32; 64],
-    left: &mut [u32; 64],
+    texts: &mut [SlotText; 64],
 ) -> bool
     requires { Mapped 2 b.now chars.at chars × Starts 2 b.now chars.at chars.shift segments.now × (length b.now < 2 ^ 32)
-        × (length slots.now ≡ 64) × SlotsIn Bits64 b.now slots.now n × (n ≤ 64) × (length at.old ≡ 64) × (length left.old ≡ 64) }
-    ensures answer { Sure (AllSpots b.now chars.at slots.now n at.new left.new
-        × AllFit b.now n at.new left.new) result }
-    ensures lengths { (length at.new ≡ 64) × (length left.new ≡ 64) }
+        × (length slots.now ≡ 64) × SlotsIn Bits64 b.now slots.now n × (n ≤ 64) × (length texts.old ≡ 64) }
+    ensures answer { Sure (AllSpots b.now chars.at slots.now n texts.new
+        × AllFit b.now n texts.new) result }
+    ensures texts_len { length texts.new ≡ 64 }
 {
     for j in 0..n {
         let q = le::wide(slots[j]);
@@ -58,39 +65,29 @@ fn find_spots(
         let Some(spot) = a else {
             return false;
         };
-        at[j] = spot.at as u32;
-        left[j] = spot.left as u32;
+        texts[j] = SlotText {
+            at: spot.at as u32,
+            left: spot.left as u32,
+            seen: 0,
+        };
     }
     true
 }
 
 // The characters before them. This is where the memory is waited for, so nothing else is done here: the fewer the instructions between two
 // reads, the more of them the processor has under way.
-fn load_before(b: &[u8], n: usize, at: &[u32; 64], left: &[u32; 64], seen: &mut [u32; 64])
-    requires { (n ≤ 64) × Lengths at.now left.now seen.old × AllFit b.now n at.now left.now }
-    ensures { AllSeen b.now n at.now seen.new × (length seen.new ≡ 64) }
+fn load_before(b: &[u8], n: usize, texts: &mut [SlotText; 64])
+    requires { (n ≤ 64) × (length texts.old ≡ 64) × AllFit b.now n texts.old }
+    ensures { AllSeen b.now n texts.new × Stay texts.old texts.new }
 {
     for j in 0..n {
-        seen[j] = ahead::touch(b, le::wide(at[j]), le::wide(left[j])) as u32;
+        texts[j].seen = ahead::touch(b, le::wide(texts[j].at), le::wide(texts[j].left)) as u32;
     }
-}
-
-// Whether a text can begin at element el of its segment, by the character that was seen before it. In a table that is not packed that tells
-// nothing, and is not asked for.
-fn can_begin(el: usize, seen: usize, packed: bool) -> bool
-    ensures { Sure (Sure ((el ≡ 0) ⊎ (seen % 65536 ≡ 0)) packed) result }
-{
-    if !packed {
-        return true;
-    }
-    if el == 0 {
-        return true;
-    }
-    seen % 65536 == 0
 }
 
 // Whether the text of the attribute at q, which stands at x with n characters left there, has the extended code for its value hash; and, in
-// a packed table, whether it can begin where it does, by the character that was seen before it.
+// a packed table, whether it can begin where it does, by the character that was seen before it. In a table that is not packed that tells
+// nothing, and is not asked for.
 fn passes(
     b: &[u8],
     t: &HashTables,
@@ -106,7 +103,7 @@ fn passes(
         × Sure (Behind b.now x (text_element b.now q)) packed) result }
     ensures memo { Remembers (noted b.now) memo.new }
 {
-    if !can_begin(fields::text_element(b, q), seen, packed) {
+    if packed && !ahead::can_begin(fields::text_element(b, q), seen) {
         return false;
     }
     words::extended(fields::type_word(b, q)) == long::remembered_hash(b, t, x, n, memo)
@@ -118,15 +115,13 @@ fn all_pass(
     t: &HashTables,
     slots: &[u32; 64],
     n: usize,
-    at: &[u32; 64],
-    left: &[u32; 64],
-    seen: &[u32; 64],
+    texts: &[SlotText; 64],
     packed: bool,
     memo: &mut [u32; 3072],
 ) -> bool
-    requires { (length slots.now ≡ 64) × SlotsIn Bits64 b.now slots.now n × (n ≤ 64) × Lengths at.now left.now seen.now × AllFit b.now n at.now left.now × AllSeen b.now n at.now seen.now × (length b.now < 2 ^ 32) × Remembers (noted b.now) memo.old }
-    ensures answer { Sure (AllHashed b.now slots.now n at.now left.now
-        × Sure (AllBehind b.now slots.now n at.now) packed) result }
+    requires { (length slots.now ≡ 64) × SlotsIn Bits64 b.now slots.now n × (n ≤ 64) × (length texts.now ≡ 64) × AllFit b.now n texts.now × AllSeen b.now n texts.now × (length b.now < 2 ^ 32) × Remembers (noted b.now) memo.old }
+    ensures answer { Sure (AllHashed b.now slots.now n texts.now
+        × Sure (AllBehind b.now slots.now n texts.now) packed) result }
     ensures memo { Remembers (noted b.now) memo.new }
 {
     for j in 0..n {
@@ -134,9 +129,9 @@ fn all_pass(
             b,
             t,
             le::wide(slots[j]),
-            le::wide(at[j]),
-            le::wide(left[j]),
-            le::wide(seen[j]),
+            le::wide(texts[j].at),
+            le::wide(texts[j].left),
+            le::wide(texts[j].seen),
             packed,
             memo,
         ) {
@@ -151,17 +146,22 @@ fn hash_texts(
     b: &[u8],
     t: &HashTables,
     n: usize,
-    at: &[u32; 64],
-    left: &[u32; 64],
+    texts: &[SlotText; 64],
     hashes: &mut [u32; 64],
     memo: &mut [u32; 3072],
 )
-    requires { (n ≤ 64) × Lengths at.now left.now hashes.old × AllFit b.now n at.now left.now × (length b.now < 2 ^ 32) × Remembers (noted b.now) memo.old }
+    requires { (n ≤ 64) × (length texts.now ≡ 64) × (length hashes.old ≡ 64) × AllFit b.now n texts.now × (length b.now < 2 ^ 32) × Remembers (noted b.now) memo.old }
     ensures hashes { length hashes.new ≡ 64 }
     ensures memo { Remembers (noted b.now) memo.new }
 {
     for j in 0..n {
-        hashes[j] = long::text_hash(b, t, le::wide(at[j]), le::wide(left[j]), memo) as u32;
+        hashes[j] = long::text_hash(
+            b,
+            t,
+            le::wide(texts[j].at),
+            le::wide(texts[j].left),
+            memo,
+        ) as u32;
     }
 }
 
@@ -171,7 +171,14 @@ fn found(table: &StringTable, q: usize, h: usize, low: usize) -> bool
     ensures { Sure (EntryAddress (lent_table table.now) (text_segment table.now.file.now q) (text_element table.now.file.now q)) result }
 {
     let k = hash::bucket(h, table.buckets.len());
-    run::run_has(table, k, h, low, 12, fields::value_word(table.file, q))
+    run::run_has(
+        table,
+        k,
+        h,
+        low,
+        strings::fields::ADDRESS_AT,
+        fields::value_word(table.file, q),
+    )
 }
 
 // Whether each is.
@@ -203,29 +210,30 @@ pub fn batch_right(
     ensures memo { Remembers (noted values.now.checked.table.file.now) memo.new }
 {
     let table = &values.checked.table;
-    let mut at = [0u32; 64];
-    let mut left = [0u32; 64];
+    let mut texts = [SlotText {
+        at: 0,
+        left: 0,
+        seen: 0,
+    }; 64];
     if !find_spots(
         table.file,
         table.parts.chars,
         table.segments,
         slots,
         n,
-        &mut at,
-        &mut left,
+        &mut texts,
     ) {
         return false;
     }
-    let mut seen = [0u32; 64];
-    load_before(table.file, n, &at, &left, &mut seen);
-    if !all_pass(table.file, t, slots, n, &at, &left, &seen, packed, memo) {
+    load_before(table.file, n, &mut texts);
+    if !all_pass(table.file, t, slots, n, &texts, packed, memo) {
         return false;
     }
     if packed {
         return true;
     }
     let mut hashes = [0u32; 64];
-    hash_texts(table.file, t, n, &at, &left, &mut hashes, memo);
+    hash_texts(table.file, t, n, &texts, &mut hashes, memo);
     let mut low = [0usize; 64];
     group::lower_bounds(table, &hashes, n, 0, &mut low);
     find_entries(table, slots, n, &hashes, &low)

@@ -52,13 +52,25 @@ module _ (f : ℕ → ℕ) (m : ℕ) where
             (le_or_lt n (k * m));
       }
 
--- a stride that does not reach yet is below the last, and doubles
-pub stride_grows : (count shift mask : ℕ) → count ≤ 65535 → 1024 * (mask + 1) < count → mask + 1 ≡ 2 ^ shift
-    → (mask * 2 + 1 + 1 ≡ 2 ^ (shift + 1)) × (shift + 1 ≤ 6) × (mask * 2 + 1 ≤ 65535)
-stride_grows count shift mask h l q =
-    let d = ap (λ (x : ℕ). 2 ^ x) (add-one shift) in
-    let w = pow-suc 2 shift in
-    (omega arith, ⊎_elim (λ g. absurd (omega (arith, pow-le-pow_right {n = 2} (lit< tt) {i = 6} {j = shift} g))) (λ g. omega arith) (le_or_lt 6 shift), omega arith)
+-- the exponent of a power of two, by the powers beside it
+exponent_is : (k s : ℕ) → 2 ^ s ≤ 2 ^ k → 2 ^ k < 2 * 2 ^ s → 2 ^ k ≡ 2 ^ s
+exponent_is k s l u =
+    let w = pow-suc 2 s in
+    let d = ap (λ (x : ℕ). 2 ^ x) (add-one s) in
+    ⊎_elim
+    (λ g. ⊎_elim (λ h. absurd (omega (arith, l, u, w, d, pow-le-pow_right {n = 2} (lit< tt) {i = s + 1} {j = k} h))) (λ h. ap (λ (x : ℕ). 2 ^ x) (omega (arith, g, h))) (le_or_lt (s + 1) k))
+    (λ g. absurd (omega (arith, l, u, w, d, pow-le-pow_right {n = 2} (lit< tt) {i = k + 1} {j = s} (omega (arith, g)), pow-suc 2 k, ap (λ (x : ℕ). 2 ^ x) (add-one k), pow_pos k)))
+    (le_or_lt s k)
+
+-- the least power of two that reaches, which is at most 64, and its exponent
+pub stride_made : (count p k s : ℕ) → p ≡ 2 ^ k → count ≤ p * 1024 → p / 2 < 64 → 2 ^ s ≤ p → p < 2 * 2 ^ s → Stride count s (p - 1)
+stride_made count p k s e r m l u =
+    let q : p ≡ 2 ^ s = e ∙ exponent_is k s (rw (sym e) l) (rw (sym e) u) in
+    record {
+      low = ⊎_elim (λ g. absurd (omega (arith, q, m, pow-le-pow_right {n = 2} (lit< tt) {i = 7} {j = s} g))) (λ g. omega (arith, g)) (le_or_lt 7 s);
+      mask_is = omega (arith, q, pow_pos s);
+      reach = omega (arith, q, r);
+    }
 
 -- a shift and a mask that are right for count segments
 module _ {count shift mask : ℕ} (t : Stride count shift mask) where

@@ -106,18 +106,12 @@ pub fn mapped(b: &[u8], at: usize, size: usize) -> Region
     ensures { Mapped size b.now at result }
 {
     let count = le::u32_at(b, at);
-    let mut shift = 0u32;
-    let mut mask = 0usize;
-    // Doubles the spacing until the samples reach: no index is counted.
-    while SAMPLES * (mask + 1) < count {
-        mask = mask * 2 + 1;
-        shift += 1;
-    }
+    let spacing = count.div_ceil(SAMPLES).next_power_of_two();
     Region {
         at,
         count,
-        shift,
-        mask,
+        shift: spacing.ilog2(),
+        mask: spacing - 1,
     }
 }
 
@@ -136,7 +130,8 @@ pub fn sample_starts(b: &[u8], r: Region, size: usize, segments: &mut [u32; SAMP
     }
 }
 
-// Fills the samples of used elements before a segment, and answers how many used elements there are.
+// Fills the samples of used elements before a segment, and answers how many used elements there are. A walk of its own: for most regions only the
+// starts are kept.
 pub fn sample_counts(b: &[u8], r: Region, size: usize, counts: &mut [u32; SAMPLES]) -> usize
     requires { Mapped size b.now r.at r × (length counts.old ≡ 1024) }
     ensures { (result ≡ total_of size b.now r.at) × Counts size b.now r.at r.shift counts.new }
@@ -190,7 +185,7 @@ pub fn range_at(
     Some(p + SEGMENT_HEADER + el * size)
 }
 
-// The running number of seg:el among the used elements.
+// The running number of seg:el among the used elements. One walk finds the segment and counts.
 pub fn number(
     b: &[u8],
     r: Region,

@@ -47,10 +47,6 @@ module _ (t : Table) (k h : ℕ) where
       halved (record { rounds = r; allowed = a; stops = round_end (hash_of t k) (entries t k) h _ left x.lo x.hi w l })
 
   -- some are: they are entries of the bucket
-  pub searching-high : (x : Bounds) → Searching t k h x → x.lo < x.hi → x.hi ≤ entries t k
-  searching-high x (told a w) l = absurd (omega arith)
-  searching-high x (going_on r left a w) l = w.high
-
   -- one round: w was read in the middle, at m
   module _ (x : Bounds) (m w : ℕ) (l : x.lo < x.hi) (c : m ≡ x.lo + (x.hi - x.lo) / 2) (e : w ≡ hash_of t k m) where
     searching-up : w < h → Searching t k h x → Searching t k h (record { lo = m + 1; hi = x.hi })

@@ -24,7 +24,7 @@ pub fn spread(table: &StringTable, bytes: usize) -> bool
 }
 
 // Some entries in a row that a hash is to be expected among: the number of the first, and where the first and the last of them stand.
-#[derive(Clone, Copy)]
+#[derive(Clone, Copy, Default)]
 struct Window {
     start: u32,
     first: u32,
@@ -164,11 +164,7 @@ fn estimate_windows(table: &StringTable, hashes: &[u32; 64], n: usize, estimate:
     if !spread(table, 65536) {
         return;
     }
-    let mut windows = [Window {
-        start: 0,
-        first: 0,
-        last: 0,
-    }; 64];
+    let mut windows = [Window::default(); 64];
     let mut least = [0u32; 64];
     let mut most = [0u32; 64];
     probe_windows(table, hashes, n, &mut windows, &mut least, &mut most);
@@ -192,6 +188,7 @@ fn probe_each(
         let h = le::wide(hashes[j]);
         let k = hash::bucket(h, table.buckets.len());
         let told = near::probe_near(table, k, h, le::wide(estimate[j]));
+        // Written before it is known whether it stays, so that no branch is needed.
         low[j] = told.unwrap_or(0);
         which[m] = j;
         if told.is_none() {

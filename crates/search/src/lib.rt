@@ -17,8 +17,8 @@ use strings::{StringTable, entry, fields};
 // No bucket has 2 to the 31 entries: a file has at most 2 to the 30 bytes.
 const MOST_ROUNDS: usize = 31;
 
-// What is left of a search: the entries from lo on and before hi.
-#[derive(Clone, Copy)]
+// What is left of a search: the entries from lo on and before hi. Not a Range, which is not Copy.
+#[derive(Clone, Copy, Default)]
 struct Bounds {
     lo: usize,
     hi: usize,
@@ -41,7 +41,7 @@ fn rounds(n: usize) -> usize
 {
     let mut k = 0usize;
     let mut p = 1usize;
-    // Doubles p: no index is counted.
+    // p is 2 to the k.
     while p <= n {
         p = p * 2;
         k += 1;
@@ -58,7 +58,7 @@ pub fn lower_bound(table: &StringTable, k: usize, h: usize) -> usize
     let mut lo = 0;
     let mut hi = entry::entry_count(table, k);
     let mut left = rounds(hi);
-    // Halves what is left: no index is counted, and `left` has to be met by the number of rounds (request T-03).
+    // `left` counts down from the number of rounds, which the contract speaks of (request T-03).
     while lo < hi {
         left -= 1;
         let mid = lo + (hi - lo) / 2;

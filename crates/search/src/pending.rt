@@ -52,7 +52,6 @@ fn finish(table: &StringTable, h: usize, left: Bounds) -> usize
     ensures { Near (lent_table table.now) (bucket_of (length table.now.buckets.now) h) h result }
 {
     let mut x = left;
-    // Halves what is left: no index is counted.
     while x.lo < x.hi {
         x = halve(table, h, x);
     }
@@ -88,7 +87,7 @@ pub fn find_all(table: &StringTable, hashes: &[u32; 64], n: usize, low: &mut [us
     requires { (length hashes.now ≡ 64) × (n ≤ 64) × (length low.old ≡ 64) }
     ensures { AllNear (lent_table table.now) hashes.now n low.new }
 {
-    let mut left = [Bounds { lo: 0, hi: 0 }; 64];
+    let mut left = [Bounds::default(); 64];
     begin_each(table, hashes, n, &mut left);
     halve_all(table, hashes, n, &mut left);
     for j in 0..n {

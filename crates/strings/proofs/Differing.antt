@@ -17,7 +17,7 @@ use Rattle.text.proofs.Laws.{text-chars, text_length_le}
 use Rattle.layout.specs.Table.{Table, length_of, segment_of, element_of}
 use Rattle.strings.specs.Texts.{text_of}
 use Rattle.strings.specs.inner.Held.{TextPasses, Sorted}
-use Rattle.strings.specs.inner.Apart.{Differ, Compared, Away, Apart, Fingerprinted, Collected, Met, Sifted, Clear, AwayWithin}
+use Rattle.strings.specs.inner.Apart.{Differ, Compared, Away, Apart, Fingerprinted, Collected, Met, Clear, AwayWithin}
 use Rattle.strings.proofs.Spots.{Spotted}
 use Rattle.strings.proofs.Runs.{Alone}
 
@@ -133,9 +133,6 @@ module _ (t : Table) (k s most : ℕ) where
   }
 
   module _ (n : ℕ) (map : List ℕ) (f : Collecting t k s n most map) where
-    pub sifted : (0 < most → 0 < n) → Sifted t k s n most
-    sifted g = record { some = g; few = f.few; apart = f.apart }
-
     -- the next differs from all collected ones
     next_apart : {r : Bool} → r ≡ false → Met t k s n (s + n) r → Apart t k s (s + (n + 1))
     next_apart q m = record {

@@ -1,6 +1,7 @@
 // Reading ahead. The entries of a bucket stand by hash, their texts anywhere, so that the processor would wait for each in turn. Here 64
 // entries are prefetched together: none of these reads waits for another, and the texts are near when they are checked.
-ghost use Rattle.std.specs.Prelude.{◌≡◌, ◌+◌, ◌-◌, ◌*◌, ◌%◌, ◌≤◌, ◌<◌, ◌^◌, length};
+ghost use Rattle.std.specs.Prelude.{◌≡◌, ◌⊎◌, ◌+◌, ◌-◌, ◌*◌, ◌%◌, ◌≤◌, ◌<◌, ◌^◌, length};
+ghost use Rattle.verdict.specs.inner.Tells.{Tells};
 ghost use Rattle.le.specs.Le.{u16_at};
 ghost use Rattle.layout.specs.Table.{entries};
 ghost use Rattle.strings.specs.Texts.{text_spot};
@@ -43,6 +44,13 @@ fn touch_whole(b: &[u8], spot: Spot, len: usize) -> usize
     let most = all.min(32);
     le::u16_at(b, first)
         + 65536 * (le::u16_at(b, first + 2 * all) + le::u16_at(b, first + 2 * most))
+}
+
+// Whether a text can begin at element el of its segment, by what was seen before it: the character there, plus 65,536 times any number.
+pub fn can_begin(el: usize, seen: usize) -> bool
+    ensures { Tells ((el ≡ 0) ⊎ (seen % 65536 ≡ 0)) result }
+{
+    el == 0 || seen % 65536 == 0
 }
 
 // The spot of the text of entry j of bucket k.

@@ -10,7 +10,7 @@ ghost use Rattle.strings.specs.inner.Apart.{Apart, Fingerprinted, Collected, Met
 
 use crate::{StringTable, entry, fields, spot};
 
-// Entries of one bucket that have different texts: those from start on, before end.
+// Entries of one bucket that have different texts: those from start on, before end. Not a Range, which is not Copy.
 #[derive(Clone, Copy)]
 pub struct Span {
     pub start: usize,
@@ -24,7 +24,7 @@ pub struct Round {
     pub clear: usize,
 }
 
-// The fingerprint of the text of entry j. The length is that which the entry tells.
+// The fingerprint of the text of entry j. The length is that which the entry tells. Where the text is not right, any number does.
 fn fingerprint_at(table: &StringTable, k: usize, j: usize) -> usize
     requires { Here (lent_table table.now) k j }
     ensures { Fingerprinted (lent_table table.now) k j result }
@@ -54,7 +54,7 @@ fn met(
     ensures { Met (lent_table table.now) k from n j result }
 {
     let mut next = multimap::last(map, n, x);
-    // From place to place with fingerprint x, the last one first: no index is counted.
+    // From place to place with fingerprint x, the last one first.
     while let Some(i) = next {
         if entry::same_text(table, k, from + i, j) {
             return true;
@@ -121,7 +121,7 @@ pub(crate) fn apart_until(table: &StringTable, k: usize, from: usize, end: usize
 {
     let mut done = from;
     let mut clear = end;
-    // A round at a time, and no index: how many entries are done is told by the round.
+    // A round at a time: each tells how many entries are done.
     while done < clear {
         let r = sift_some(table, k, done, clear);
         done += r.collected;
@@ -135,12 +135,10 @@ fn run_start(table: &StringTable, k: usize, j: usize, h: usize) -> usize
     requires { Here (lent_table table.now) k j }
     ensures { result ≤ j }
 {
-    for i in (0..j).rev() {
-        if entry::hash_at(table, k, i) != h {
-            return i + 1;
-        }
-    }
-    0
+    (0..j)
+        .rev()
+        .find(|i| entry::hash_at(table, k, *i) != h)
+        .map_or(0, |i| i + 1)
 }
 
 // Where it ends, of the n entries of the bucket.
@@ -148,12 +146,9 @@ fn run_end(table: &StringTable, k: usize, n: usize, j: usize, h: usize) -> usize
     requires { (k < length table.now.buckets.now) × (j ≤ n) × (n ≤ entries (lent_table table.now) k) }
     ensures { (j ≤ result) × (result ≤ n) }
 {
-    for i in j..n {
-        if entry::hash_at(table, k, i) != h {
-            return i;
-        }
-    }
-    n
+    (j..n)
+        .find(|i| entry::hash_at(table, k, *i) != h)
+        .unwrap_or(n)
 }
 
 // Entries that are known to have different texts, when entry j of the n of bucket k is next: where 64 entries from a multiple of 64 on have one

@@ -1,4 +1,4 @@
-// A string table that passed 7 to 13, and the values table of a file.
+// String tables of which more is known.
 ghost use Rattle.std.specs.Prelude.{◌≡◌};
 ghost use Rattle.verdict.specs.Checks.{first_fault};
 ghost use Rattle.verdict.specs.Verdict.{Accepted};
@@ -9,6 +9,7 @@ ghost use Rattle.strings.specs.inner.Lent.{lent_table};
 
 use crate::StringTable;
 
+// A string table that passed 7 to 13.
 #[derive(Clone, Copy)]
 pub struct CheckedTable<'a> {
     pub table: StringTable<'a>,

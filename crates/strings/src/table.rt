@@ -25,10 +25,7 @@ fn still_begun(table: &StringTable, k: usize, j: usize, g: PrefetchedText, befor
         return false;
     }
     let e = entry::entry_at(table, k, j);
-    if fields::element(table.file, e) == 0 {
-        return true;
-    }
-    g.seen % 65536 == 0
+    ahead::can_begin(fields::element(table.file, e), g.seen)
 }
 
 // Refusals 7 to 12 of every entry, up to the first fault; where there is none, whether their texts are known to stand where texts can begin.
@@ -40,6 +37,7 @@ pub fn check_entries(table: &StringTable, t: &HashTables) -> Result<bool, Refusa
     let mut seen = [0usize; 64];
     let mut begun = true;
     let mut answer = Ok(());
+    // The labelled loops are left with the first fault, as the customer asked for this place.
     'buckets: for k in 0..table.buckets.len() {
         let n = entry::entry_count(table, k);
         let mut span = Span { start: 0, end: 0 };

@@ -61,10 +61,6 @@ impl From<Lookup> for Answer {
     ghost from_gives = { λ l a. a ≡ answered Accepted (kind_of l) (told_number l) };
 
     fn from(l: Lookup) -> Self {
-        match l {
-            Lookup::Found(n) => Answer::new(0, n),
-            Lookup::Absent => Answer::new(1, 0),
-            Lookup::Collided(n) => Answer::new(2, n),
-        }
+        Answer::new(l.code(), l.value())
     }
 }

@@ -14,7 +14,7 @@ use lookup::{Kind, Lookup};
 use strings::checked::CheckedTable;
 use verdict::Refusal;
 
-// The table that is asked.
+// The table that is asked, by kind: a value, and no step.
 fn asked_table<'a>(accepted: &AcceptedFile<'a>, kind: Kind) -> CheckedTable<'a>
     ensures { lent_table result.table ≡ table_of Bits64 kind accepted.now.file.now }
 {

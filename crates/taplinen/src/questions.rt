@@ -21,7 +21,8 @@ pub fn taplinen_accept(file: &[u8], ws: &mut [u8]) -> Answer
     }
 }
 
-// Asks for a text in either table.
+// Asks for a text in either table. Every question matches on what acceptance gave: of a closure that writes the caller's buffer a proof would know
+// nothing afterwards.
 fn ask(file: &[u8], ws: &mut [u8], kind: Kind, text: &[u8]) -> Answer
     ensures answer { result ≡ text_answer Bits64 kind file.now (length ws.old) text.now }
     ensures workspace { ws.new ≡ workspace_left Bits64 file.now ws.old }
@@ -33,7 +34,7 @@ fn ask(file: &[u8], ws: &mut [u8], kind: Kind, text: &[u8]) -> Answer
     }
 }
 
-// The index of a name.
+// C asks for names and for values by functions of their own. The index of a name.
 pub fn taplinen_name(file: &[u8], ws: &mut [u8], text: &[u8]) -> Answer
     ensures answer { result ≡ name_answer Bits64 file.now (length ws.old) text.now }
     ensures workspace { ws.new ≡ workspace_left Bits64 file.now ws.old }

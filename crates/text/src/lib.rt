@@ -1,7 +1,7 @@
 // Texts among the characters of a string table, and the texts that a caller asks with.
 #![tactic(auto)]
 
-ghost use Rattle.std.specs.Prelude.{◌≡◌, ◌+◌, ◌*◌, ◌≤◌, ◌<◌, ◌^◌, length};
+ghost use Rattle.std.specs.Prelude.{◌≡◌, ◌+◌, ◌*◌, ◌/◌, ◌≤◌, ◌<◌, ◌^◌, length};
 ghost use Rattle.verdict.specs.inner.Tells.{Tells};
 ghost use Rattle.hash.specs.Hash.{hash_on};
 ghost use Rattle.hash.specs.Fold.{fold_text, value_hash_of};
@@ -157,13 +157,12 @@ pub fn zeros(b: &[u8], p: usize, n: usize) -> usize
     usize::from(found)
 }
 
-// Whether one of the n characters at p is 0.
-pub fn holds_zero(b: &[u8], p: usize, n: usize) -> bool
-    requires { p + 2 * n ≤ length b.now }
-    ensures { Tells (HoldsZero (chars b.now p n)) result }
+// Whether one of the characters that a caller asks with is 0.
+pub fn holds_zero(s: &[u8]) -> bool
+    ensures { Tells (HoldsZero (chars s.now 0 (length s.now / 2))) result }
 {
-    for i in 0..n {
-        if le::u16_at(b, p + 2 * i) == 0 {
+    for i in 0..s.len() / 2 {
+        if le::u16_at(s, 2 * i) == 0 {
             return true;
         }
     }
@@ -203,6 +202,7 @@ fn hash_few(s: &[u8], t: &HashTables, p: usize, k: usize, h: usize) -> usize
     t.char_on(g, le::u16_at(s, p + 4))
 }
 
+// Three comparisons of texts: each knows another end of the texts that it compares.
 // Whether two texts of the file are the same: that at p with m characters left, and that at q with n.
 pub fn same(b: &[u8], p: usize, m: usize, q: usize, n: usize) -> bool
     requires { (p + 2 * m ≤ length b.now) × (q + 2 * n ≤ length b.now) }
@@ -228,24 +228,26 @@ fn char_or_end(b: &[u8], p: usize, n: usize, i: usize) -> usize
     if i < n { le::u16_at(b, p + 2 * i) } else { 0 }
 }
 
-// Whether the text at p, of at most n characters, is the k characters at q of what a caller asks with.
-pub fn bears(b: &[u8], p: usize, n: usize, s: &[u8], q: usize, k: usize) -> bool
-    requires { (p + 2 * n ≤ length b.now) × (q + 2 * k ≤ length s.now) }
-    ensures { Tells (text_in b.now p n ≡ chars s.now q k) result }
+// Whether the text at p, of at most n characters, is the characters that a caller asks with.
+pub fn bears(b: &[u8], p: usize, n: usize, s: &[u8]) -> bool
+    requires { p + 2 * n ≤ length b.now }
+    ensures { Tells (text_in b.now p n ≡ chars s.now 0 (length s.now / 2)) result }
 {
+    let k = s.len() / 2;
     for i in 0..k {
         let c = char_or_end(b, p, n, i);
         if c == 0 {
             return false;
         }
-        if c != le::u16_at(s, q + 2 * i) {
+        if c != le::u16_at(s, 2 * i) {
             return false;
         }
     }
     char_or_end(b, p, n, k) == 0
 }
 
-// Whether the n characters at p of one slice are those at q of another, when there are few.
+// Whether the n characters at p of one slice are those at q of another, when there are few. A `for`: of a closure that calls u16_at the proof would
+// know nothing.
 fn alike_few(b: &[u8], p: usize, s: &[u8], q: usize, n: usize) -> bool
     requires { (p + 2 * n ≤ length b.now) × (q + 2 * n ≤ length s.now) }
     ensures { Tells (chars b.now p n ≡ chars s.now q n) result }
@@ -258,7 +260,7 @@ fn alike_few(b: &[u8], p: usize, s: &[u8], q: usize, n: usize) -> bool
     true
 }
 
-// The same for any number: four in a step, and the last four once more.
+// The same for any number: four in a step, and the last four once more. The library compares slices byte by byte.
 pub fn alike(b: &[u8], p: usize, s: &[u8], q: usize, n: usize) -> bool
     requires { (p + 2 * n ≤ length b.now) × (q + 2 * n ≤ length s.now) }
     ensures { Tells (chars b.now p n ≡ chars s.now q n) result }

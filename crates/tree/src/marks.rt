@@ -18,7 +18,8 @@ use nodes::fields;
 use region::{SAMPLES, SEGMENT_HEADER};
 use verdict::{Refusal, Rule};
 
-// Whether none of the n nodes from number i on is the root or is marked.
+// Whether none of the n nodes from number i on is the root or is marked. The marks are bytes of the caller's workspace: 0 or 1, by the contract of
+// acceptance.
 fn range_free(ws: &[u8], i: usize, n: usize) -> bool
     requires { (0 < n) × (i + n ≤ length ws.now) }
     ensures { Tells (Free ws.now i n) result }
@@ -71,6 +72,7 @@ pub fn mark_nodes(
     ws[..used].fill(0);
     let mut answer = Ok(());
     let mut at = region::first_start(nodes.region);
+    // The labelled loops are left with the first fault, as the customer asked for this place.
     'segments: for seg in 0..nodes.region.count {
         let first = at + SEGMENT_HEADER;
         for el in 0..region::used_count(nodes.file, at) {

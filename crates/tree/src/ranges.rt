@@ -10,7 +10,7 @@ use layout::NODE_SIZE;
 use nodes::fields;
 use region::{Region, SEGMENT_HEADER};
 
-// The number of the first, where it stands, and how many they are.
+// The number of the first, where it stands, and how many they are. No children are an empty range: where it starts, nobody asks.
 #[derive(Clone, Copy)]
 pub struct Children {
     pub first: usize,

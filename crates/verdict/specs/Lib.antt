@@ -1,4 +1,5 @@
 pub mod Verdict
+pub mod Message
 pub mod Checks
 pub mod Decide
 pub mod inner

@@ -4,6 +4,7 @@ use Rattle.verdict.specs.declared.Rule.{Rule}
 use Rattle.verdict.specs.declared.Rule.TheVariants.{FileSize, CutShort, Version, ZeroWord, Count, Footer, EntryAddress, EntryLength, EntryHash, EntryOrder, EntryIndex, Duplicate, ListPosition, SpecialNames, Key, Node, AttributeRange, Attribute, AttributeText, Workspace, ChildRange, Depth, Children, AskedText, AnswerRoom, OutlineRoom}
 use Rattle.verdict.specs.declared.Refusal.{Refusal}
 
+-- Nothing is wrong, or the first fault has a number and a place.
 pub data Verdict : Type 0 where
   Accepted : Verdict
   Refused : ℕ → ℕ → Verdict
@@ -37,10 +38,11 @@ number AskedText = 24
 number AnswerRoom = 25
 number OutlineRoom = 26
 
--- What a refusal says, and what an answer that may be one says.
+-- What a refusal says.
 abbrev pub refused : Refusal → Verdict
 refused r = Refused (number r.0) r.1
 
+-- What an answer says: a value comes where nothing is wrong.
 abbrev pub answer_of : {T : Type 0} → Result T Refusal → Verdict
 answer_of (Ok x) = Accepted
 answer_of (Err r) = refused r

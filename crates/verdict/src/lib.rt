@@ -52,8 +52,15 @@ impl Rule {
 pub struct Refusal(pub Rule, pub usize);
 
 impl fmt::Display for Refusal {
+    ghost use Rattle.std.specs.Prelude.{Some};
+    ghost use Rattle.verdict.specs.Message.{message};
+
+    ghost output = { λ r. Some (message r) };
+
     fn fmt<W: fmt::Write>(&self, f: &mut fmt::Formatter<W>) -> fmt::Result {
-        write!(f, "refused {} at {}", self.0.number(), self.1)
+        let number = self.0.number();
+        let place = self.1;
+        write!(f, "refused {number} at {place}")
     }
 }
 

@@ -2,7 +2,25 @@
 #![tactic(auto)]
 
 ghost use Rattle.std.specs.Prelude.{◌≡◌, ◌<◌};
-ghost use Rattle.words.specs.Words.{flags_of, key_index_of, type_of, extended_of};
+ghost use Rattle.words.specs.Words.{flags_of, key_index_of, type_number, type_of, extended_of};
+
+// The types of attributes, by their numbers (FORMAT, "Attributes"): 0 is no type, and a truth is of the type of whole numbers.
+#[derive(Clone, Copy, Debug, PartialEq, Eq)]
+pub enum AttributeType {
+    None = 0,
+    Whole = 1,
+    Float = 2,
+    Text = 3,
+}
+
+impl AttributeType {
+    // The number that the format gives it.
+    pub fn number(self) -> usize
+        ensures { (result ≡ type_number self) × (result < 4) }
+    {
+        self as usize
+    }
+}
 
 // The low four bits of a key word.
 pub fn flags(w: usize) -> usize
@@ -18,11 +36,16 @@ pub fn key_index(w: usize) -> usize
     w >> 4
 }
 
-// The low two bits of a type word.
-pub fn kind(w: usize) -> usize
-    ensures { (result ≡ type_of w) × (result < 4) }
+// The type that the low two bits of a type word name.
+pub fn kind(w: usize) -> AttributeType
+    ensures { type_number result ≡ type_of w }
 {
-    w & 3
+    match w & 3 {
+        0 => AttributeType::None,
+        1 => AttributeType::Whole,
+        2 => AttributeType::Float,
+        _ => AttributeType::Text,
+    }
 }
 
 // The rest of it.

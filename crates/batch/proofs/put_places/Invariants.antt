@@ -1,4 +1,4 @@
-use Prim.Native.Nat.{◌-◌}
+use Prim.Native.Nat.{◌-◌, ◌*◌}
 use mathlib.Core.Path.{◌≡◌}
 use lib.ListN.{length}
 use Rattle.strings.specs.inner.Lent.{lent_table}
@@ -9,11 +9,11 @@ use Rattle.batch.proofs.Groupwise.{Going}
 use Rattle.batch.proofs.put_places.Given as goal
 
 abbrev pub invariant-loop-j : goal.invariant-loop-j
-invariant-loop-j l = Going (told_in l.kind (lent_table l.checked.table)) l.texts l.initial.answers l.initial.i l.initial.at l.n l.lengths l.hashes l.j l.answers l.i l.at
+invariant-loop-j l = Going (told_in l.kind (lent_table l.checked.table)) l.texts l.initial.answers l.done l.initial.at l.n l.lengths l.hashes l.j l.answers l.at
 
 abbrev pub invariant-loop-at : goal.invariant-loop-at
 invariant-loop-at l = record {
-  writing : Writing (told_in l.kind (lent_table l.checked.table)) l.texts l.initial.answers l.i l.at l.answers;
+  writing : Writing (told_in l.kind (lent_table l.checked.table)) l.texts l.initial.answers (8 * l.done) l.at l.answers;
   lengths : Lengths l.lengths l.hashes l.low;
   picked : length l.picked ≡ 64;
 }

@@ -1,5 +1,5 @@
 use Rattle.lookup.proofs.Told.{entry-inside, entry-told}
-use Rattle.lookup.proofs.ByKind.{none_told, collided-told}
+use Rattle.lookup.proofs.ByKind.{other_told}
 use Rattle.lookup.proofs.find_from.Goals as goal
 
 pub result_at-requires : goal.result_at-requires
@@ -8,8 +8,5 @@ result_at-requires c = let a = c.args.checked.now in entry-inside _ _ a.checked 
 pub returns-in-Found : goal.returns-in-Found
 returns-in-Found c = entry-told _ _ c.args.checked.now.checked c.find_entry.ensures _ c.in-Found.is _ _ c.result_at.ensures
 
-pub returns-in-Collided : goal.returns-in-Collided
-returns-in-Collided c = collided-told _ _ _ c.args.checked.now.checked c.find_entry.ensures _ c.in-Collided.is
-
-pub returns-in-Absent : goal.returns-in-Absent
-returns-in-Absent c = none_told _ _ _ c.args.checked.now.checked c.find_entry.ensures c.in-Absent.is
+pub returns-in_default : goal.returns-in_default
+returns-in_default c = other_told _ _ _ c.args.checked.now.checked _ c.find_entry.ensures c.in_default.not-Found

@@ -8,12 +8,11 @@ use Rattle.lookup.specs.Kinds.{tells_at}
 use Rattle.lookup.specs.declared.Kind.{Kind}
 use Rattle.lookup.specs.declared.first.Candidate.{Candidate}
 
--- Some entry bears the n characters that the candidate shows, and the candidate's result is told of it. A character stands behind them.
+-- Some entry bears the n characters that the candidate shows, and the candidate's result is told of it.
 pub record PickedEntry (kind : Kind) (t : Table) (n : ℕ) (c : Candidate) : Type 0 where
   pub bucket : ℕ
   pub entry : ℕ
   pub here : Here t bucket entry
-  pub ends : c.end ≡ c.text + 2 * n
-  pub fits : c.end + 2 ≤ length t.bytes
+  pub fits : c.text + 2 * n ≤ length t.bytes
   pub text : text_of t bucket entry ≡ chars t.bytes c.text n
   pub result : c.result ≡ tells_at kind t.bytes (entry_at t bucket entry)

@@ -1,12 +1,11 @@
 -- What a batch leaves among the doubts.
-use Rattle.std.specs.Prelude.{ℕ, ◌≡◌, List, length, get_or}
+use Rattle.std.specs.Prelude.{ℕ, ◌≡◌, List, get_or}
 use Rattle.layout.specs.declared.Edition.{Edition}
 use Rattle.nodes.specs.inner.Doubts.{Trusted}
 use Rattle.prefetch.specs.inner.Slots.{Each}
 
 -- No doubt is taken back.
 pub record Kept (before after : List ℕ) : Type 0 where
-  pub long : length after ≡ length before
   pub kept : (i : ℕ) → get_or after i 0 ≡ 0 → get_or before i 0 ≡ 0
 
 -- 19 holds of the attributes in the first n slots, unless they are doubted.

@@ -5,4 +5,4 @@ use Rattle.text.proofs.Walk.{chars_from, text_from}
 use Rattle.text.proofs.bears.Given as goal
 
 abbrev pub invariant-loop-i : goal.invariant-loop-i
-invariant-loop-i l = (text_in l.b l.p l.n ≡ chars l.s l.q l.k) ↔ (text_from l.b l.p l.n l.i ≡ chars_from l.s l.q l.k l.i)
+invariant-loop-i l = (text_in l.b l.p l.n ≡ chars l.s 0 l.k) ↔ (text_from l.b l.p l.n l.i ≡ chars_from l.s 0 l.k l.i)

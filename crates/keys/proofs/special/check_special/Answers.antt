@@ -23,11 +23,11 @@ overflow_sub-n c = omega (arith, counted (goal.at.overflow_sub-n c).After-u32_at
 
 pub listed_is-requires : goal.listed_is-requires
 listed_is-requires c =
-    (omega arith, omega (arith, counted (goal.at.listed_is-requires c).After-u32_at-n), omega arith)
+    (omega arith, omega (arith, counted (goal.at.listed_is-requires c).After-u32_at-n))
 
 pub listed_is-requires-then-listed_is : goal.listed_is-requires-then-listed_is
 listed_is-requires-then-listed_is c =
-    (omega arith, omega (arith, counted (goal.at.listed_is-requires-then-listed_is c).After-u32_at-n), omega arith)
+    (omega arith, omega (arith, counted (goal.at.listed_is-requires-then-listed_is c).After-u32_at-n))
 
 pub returns-then-listed_is-2 : goal.returns-then-listed_is-2
 returns-then-listed_is-2 c =
@@ -37,11 +37,11 @@ returns-then-listed_is-2 c =
 
 pub listed_is-requires-then-n-ge2 : goal.listed_is-requires-then-n-ge2
 listed_is-requires-then-n-ge2 c =
-    (omega arith, omega (arith, counted (goal.at.listed_is-requires-then-n-ge2 c).After-u32_at-n), omega arith)
+    (omega arith, omega (arith, counted (goal.at.listed_is-requires-then-n-ge2 c).After-u32_at-n))
 
 pub listed_is-requires-then-listed_is-3 : goal.listed_is-requires-then-listed_is-3
 listed_is-requires-then-listed_is-3 c =
-    (omega arith, omega (arith, counted (goal.at.listed_is-requires-then-listed_is-3 c).After-u32_at-n), omega arith)
+    (omega arith, omega (arith, counted (goal.at.listed_is-requires-then-listed_is-3 c).After-u32_at-n))
 
 pub returns-then-listed_is-4 : goal.returns-then-listed_is-4
 returns-then-listed_is-4 c =

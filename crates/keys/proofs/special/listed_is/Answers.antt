@@ -1,4 +1,3 @@
-use native.Mathlib.Omega.{arith}
 use mathlib.Core.Path.{sym, ◌∙◌}
 use Rattle.verdict.proofs.Laws.{tells_no}
 use Rattle.strings.proofs.Spots.{spot_out}
@@ -11,7 +10,7 @@ pub returns-in_default : goal.returns-in_default
 returns-in_default c = tells_no (λ e. spot_out _ _ _ _ (sym c.listed_spot.ensures ∙ c.in_default.is) (position_resolves _ c.args.checked.now.checked _ c.requires.0 c.requires.1))
 
 pub bears-requires : goal.bears-requires
-bears-requires c = ((spotted c.args.checked.now.table.held _ c.listed_spot.ensures c.in-Some.is).fits, omega (arith, c.requires.2))
+bears-requires c = (spotted c.args.checked.now.table.held _ c.listed_spot.ensures c.in-Some.is).fits
 
 pub returns : goal.returns
 returns c = listed-text _ _ _ _ _

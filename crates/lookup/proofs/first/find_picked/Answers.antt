@@ -4,7 +4,7 @@ use native.Mathlib.Omega.{arith}
 use Rattle.lookup.proofs.first.find_picked.Goals as goal
 
 pub alike-requires : goal.alike-requires
-alike-requires c = let e = rw c.in-Some.is at c.requires.picked_entry in (omega (arith, e.ends, e.fits), omega arith)
+alike-requires c = let e = rw c.in-Some.is at c.requires.picked_entry in (e.fits, omega arith)
 
 pub returns : goal.returns
 unfolding text_from

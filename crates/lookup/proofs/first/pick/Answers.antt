@@ -1,4 +1,3 @@
-use mathlib.Core.Path.{refl}
 use Rattle.strings.specs.inner.Held.{Here}
 use Rattle.strings.specs.inner.Lent.{lent_table}
 use Rattle.strings.proofs.Places.{here_in}
@@ -30,7 +29,12 @@ overflow_mul-result c = record { fits = omega (arith, (found (goal.at.overflow_m
 pub overflow_add-result : goal.overflow_add-result
 overflow_add-result c = record { fits = omega (arith, (found (goal.at.overflow_add-result c).After-text_at-text (here (goal.at.overflow_add-result c).After-entry_at-e)).ends, c.args.checked.now.table.held.small) }
 
-pub returns : goal.returns
-returns c = let a = c.args.checked.now in
-    let h = here (goal.at.returns c).After-entry_at-e in
-    picked _ _ _ _ a.checked h c.entry_at-e.ensures.0 _ c.length.ensures a.table.held.laid _ _ c.text_at-text.ensures c.if-length-n.false _ _ _ refl c.result_at.ensures
+pub returns-clause-places : goal.returns-clause-places
+returns-clause-places c =
+    let f = found (goal.at.returns-clause-places c).After-text_at-text (here (goal.at.returns-clause-places c).After-entry_at-e) in
+    (omega (arith, f.ends), omega (arith, f.ends))
+
+pub returns-clause-bears : goal.returns-clause-bears
+returns-clause-bears c = let a = c.args.checked.now in
+    let h = here (goal.at.returns-clause-bears c).After-entry_at-e in
+    picked _ _ _ _ a.checked h c.entry_at-e.ensures.0 _ c.length.ensures a.table.held.laid _ _ c.text_at-text.ensures c.if-length-n.false _ _ _ c.result_at.ensures

@@ -51,7 +51,7 @@ segments-init c = let w = c.args.prepared.now.ready.placed.nodes in
       at_is = first-at Bits64 _ _ w _ e;
       none = refl;
       left = nodes_start Bits64 _ _ w _ _ e c.used_count.ensures.0 c.if-nodes-eq0.false c.if-used_count-eq0.false;
-      memo = c.requires.2;
+      memo = c.requires.1;
     }
 
 pub loop-el-init : goal.loop-el-init
@@ -61,7 +61,7 @@ loop-el-init c = let i = c.segments.invariant in
 pub check_node-answer-requires : goal.check_node-answer-requires
 check_node-answer-requires c = record {
   node = (here (goal.at.check_node-answer-requires c).In-loop-el, node-place Bits64 _ _ _ _ c.segments.invariant.at_is);
-  doubts = (c.requires.0, c.requires.1, c.loop-el.invariant.memo);
+  doubts = (c.requires.0, c.loop-el.invariant.memo);
 }
 
 pub loop-el-preserved : goal.loop-el-preserved

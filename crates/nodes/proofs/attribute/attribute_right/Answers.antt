@@ -1,4 +1,6 @@
 use Rattle.layout.specs.declared.Edition.TheVariants.{Bits64}
+use Rattle.words.specs.declared.AttributeType.TheVariants.{Text}
+use Rattle.words.proofs.Numbers.{same-number}
 use Rattle.nodes.proofs.Attributes.{Above, before_in, name_falls, name_rises, name-first, right_other, right-value}
 use Rattle.nodes.proofs.attribute.attribute_right.Goals as goal
 use Rattle.nodes.proofs.attribute.attribute_right.Goals.{Joined-i-gt0, then-i-gt0+else-name-attribute_name, else-i-gt0}
@@ -23,4 +25,5 @@ returns-then-name-names-2 c = let p = c.requires in
 pub returns : goal.returns
 returns c = let p = c.requires in
     let u = c.attribute_name-name.ensures.0 in
-    right-value Bits64 _ _ p.0 _ _ _ p.1 _ u c.if-name-eq0.false c.if-name-names.false (above (goal.at.returns c).Joined-i-gt0) (c.typed.ensures.so c.if-not-typed.false) c.if-name-names-2.false _ _ c.type_word.ensures.0 c.kind.ensures.0
+    rw (c.eq.ensures, same-number c.kind.result Text)
+    (right-value Bits64 _ _ p.0 _ _ _ p.1 _ u c.if-name-eq0.false c.if-name-names.false (above (goal.at.returns c).Joined-i-gt0) (c.typed.ensures.so c.if-not-typed.false) c.if-name-names-2.false _ _ c.type_word.ensures.0 c.kind.ensures)

@@ -6,7 +6,7 @@ use Rattle.nodes.proofs.Attributes.{attribute_is, attributes_start, attributes-n
 use Rattle.nodes.proofs.attribute.check_attributes.Goals as goal
 
 pub loop-i-init : goal.loop-i-init
-loop-i-init c = (attributes_start Bits64 _ _, c.requires.doubts.2)
+loop-i-init c = (attributes_start Bits64 _ _, c.requires.doubts.1)
 
 pub attribute_right-requires : goal.attribute_right-requires
 attribute_right-requires c = (c.requires.attributes.0, attribute_is Bits64 _ _ _ _ c.requires.attributes.2, omega arith)
@@ -17,7 +17,7 @@ returns-then-not-attribute_right-clause-answer c = let i = c.loop-i.invariant in
     sym (i.0 ∙ refused_18 Bits64 _ _ _ _ p.1 c.loop-i-test.true _ (attribute_is Bits64 _ _ _ _ p.2) (c.attribute_right.ensures.not c.if-not-attribute_right.true))
 
 pub text_passes-requires : goal.text_passes-requires
-text_passes-requires c = (omega arith, c.requires.doubts.0, subst (Trusted Bits64 _ _) (sym (attribute_is Bits64 _ _ _ _ c.requires.attributes.2)) (c.requires.doubts.1 _ c.loop-i-test.true), c.loop-i.invariant.1)
+text_passes-requires c = (omega arith, subst (Trusted Bits64 _ _) (sym (attribute_is Bits64 _ _ _ _ c.requires.attributes.2)) (c.requires.doubts.0 _ c.loop-i-test.true), c.loop-i.invariant.1)
 
 pub returns-then-not-text_passes-clause-answer : goal.returns-then-not-text_passes-clause-answer
 returns-then-not-text_passes-clause-answer c = let p = c.requires.attributes in

@@ -28,7 +28,7 @@ check_attributes-requires c = let n = count (goal.at.check_attributes-requires c
     let y = c.args.prepared.now.ready in
     rw c.values.ensures record {
       attributes = (y.known, n, attributes_start Bits64 _ _ _ n _ f _ e, attributes_fit Bits64 _ _ _ n _ f _ e y.placed.attributes.laid);
-      doubts = (c.requires.doubts.0, attributes-known Bits64 _ _ _ n _ f _ e (Trusted Bits64 _ _) c.requires.doubts.1, c.requires.doubts.2);
+      doubts = (attributes-known Bits64 _ _ _ n _ f _ e (Trusted Bits64 _ _) c.requires.doubts.0, c.requires.doubts.1);
     }
 
 pub returns-clause-answer : goal.returns-clause-answer

@@ -22,22 +22,22 @@ row : (c : After-used_count-used) → c.loop-seg.at + 8 + c.used_count-used.resu
 row c = row_in Bits64 _ c.args.prepared.now.ready.placed.attributes _ _ c.loop-seg-test.true c.loop-seg.invariant.0 _ c.used_count-used.ensures.0
 
 pub loop-seg-init : goal.loop-seg-init
-loop-seg-init c = (rows_start Bits64 _ c.args.prepared.now.ready.placed.attributes _ c.first_start-at.ensures, refl, c.requires.doubts_len.0, λ z. c.requires.doubts_len.1, rows_none Bits64 _ _, c.requires.batch.1)
+loop-seg-init c = (rows_start Bits64 _ c.args.prepared.now.ready.placed.attributes _ c.first_start-at.ensures, refl, rows_none Bits64 _ _, c.requires.1)
 
 pub take_texts-taken-requires : goal.take_texts-taken-requires
 take_texts-taken-requires c = (row (goal.at.take_texts-taken-requires c).After-used_count-used, omega (arith, c.args.prepared.now.ready.strings.small), c.loop-el.invariant.0, c.loop-el.invariant.1)
 
-pub examine_batch-known-requires-clause-batch : goal.examine_batch-known-requires-clause-batch
-examine_batch-known-requires-clause-batch c = let t = c.take_texts-taken.ensures in
+pub examine_batch-requires : goal.examine_batch-requires
+examine_batch-requires c = let t = c.take_texts-taken.ensures in
     let e = c.values-values.ensures in
     let v = c.values-values.result.of_file ∙ ap (values Bits64) e in
-    (t.slotted.long, rw e t.slotted.within, t.slotted.few, λ z. subst Packed (sym v) (c.requires.batch.0 z), rw e c.loop-el.invariant.6)
+    (t.slotted.long, rw e t.slotted.within, t.slotted.few, λ z. subst Packed (sym v) (c.requires.0 z), rw e c.loop-el.invariant.4)
 
 pub loop-el-preserved : goal.loop-el-preserved
 loop-el-preserved c = let t = c.take_texts-taken.ensures in
     let i = c.loop-el.invariant in
-    let d = rw c.values-values.ensures at c.examine_batch-known.ensures.doubts in
-    (t.upto, t.slotted.long, d.kept.long ∙ i.2, c.examine_batch-known.ensures.answer, rows_still Bits64 _ _ _ _ d.kept i.4, passed_trusted Bits64 _ _ _ _ _ _ _ t.slotted d.each (λ n l. still d.kept (i.5 n l)), rw c.values-values.ensures at c.examine_batch-known.ensures.memo)
+    let d = rw c.values-values.ensures at c.examine_batch.ensures.doubts in
+    (t.upto, t.slotted.long, rows_still Bits64 _ _ _ _ d.kept i.2, passed_trusted Bits64 _ _ _ _ _ _ _ t.slotted d.each (λ n l. still d.kept (i.3 n l)), rw c.values-values.ensures at c.examine_batch.ensures.memo)
 
 pub next_start-at-requires : goal.next_start-at-requires
 next_start-at-requires c = turn (goal.at.next_start-at-requires c).In-loop-seg
@@ -45,4 +45,4 @@ next_start-at-requires c = turn (goal.at.next_start-at-requires c).In-loop-seg
 pub loop-seg-preserved : goal.loop-seg-preserved
 loop-seg-preserved c = let i = c.loop-seg.invariant in
     let j = c.loop-el.invariant in
-    (start_more (attribute_size Bits64) _ _ _ _ _ _ refl i.0 c.next_start-at.ensures, j.1, j.2, j.3, rows_more Bits64 _ _ _ _ _ _ j.4 i.0 (used-at _ _ _ _ _ _ i.0 c.used_count-used.ensures.0) c.loop-el-test.false j.5, j.6)
+    (start_more (attribute_size Bits64) _ _ _ _ _ _ refl i.0 c.next_start-at.ensures, j.1, rows_more Bits64 _ _ _ _ _ _ j.2 i.0 (used-at _ _ _ _ _ _ i.0 c.used_count-used.ensures.0) c.loop-el-test.false j.3, j.4)

@@ -5,4 +5,4 @@ use Rattle.nodes.specs.inner.Noted.{noted}
 use Rattle.prefetch.proofs.steps.all_pass.Given as goal
 
 abbrev pub invariant-loop-j : goal.invariant-loop-j
-invariant-loop-j l = AllHashed l.b l.slots l.j l.at l.left × Sure (AllBehind l.b l.slots l.j l.at) l.packed × Remembers (noted l.b) l.memo
+invariant-loop-j l = AllHashed l.b l.slots l.j l.texts × Sure (AllBehind l.b l.slots l.j l.texts) l.packed × Remembers (noted l.b) l.memo
