@@ -9,8 +9,8 @@ ghost use Rattle.nodes.specs.inner.Doubts.{doubt_of, Doubted, NoDoubt};
 // the top, and lent.
 #[derive(Drop)]
 pub struct Doubts {
-    known: bool,
-    places: [u32; 4096],
+    pub known: bool,
+    pub places: [u32; 4096],
     pub ghost long: { length places ≡ 4096 },
     pub ghost sure: { Sure (NoDoubt places) known },
 }
