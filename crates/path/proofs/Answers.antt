@@ -65,7 +65,7 @@ module _ (ed : Edition) (b path list : List ℕ) where
 
 module _ (ed : Edition) (b path : List ℕ) (r : FileRules ed b) where
   pub unborne-none : Unborne ed b path → path_matches ed b path ≡ []
-  unborne-none u = ⊎_elim (long-none ed b r path) (λ x. unknown_none ed b r path x.0 x.1 x.2) u
+  unborne-none u = ⊎_elim (λ x. long-none ed b r path x.1) (λ x. unknown_none ed b r path u.count x.0 x.1) u.none
 
   pub wanted-matches : {w : Wanted} {d : List ℕ} → d ≡ b → WantedIs ed b path w → matches_at (tree_of ed d) (take w.count w.indices) 0 ≡ path_matches ed b path
   unfolding path_matches

@@ -11,7 +11,7 @@ ghost use Rattle.path.specs.inner.Indices.{NameEnd, Unborne, WantedIs};
 use hash::HashTables;
 use lookup::{Kind, Lookup};
 use strings::checked::CheckedTable;
-use tree::MOST_LEVELS;
+use tree::{DEEPEST_LEVEL, MOST_LEVELS};
 use verdict::{Refusal, Rule};
 
 // The indices of a path's names: the first `count` places.
@@ -48,14 +48,14 @@ fn name_length(path: &[u8], at: usize) -> usize
     unreachable!()
 }
 
-// The indices of a path's names, or nothing where no node can bear them: below the root a chain has fewer than `MOST_LEVELS` nodes.
+// The indices of a path's names, or nothing where no node can bear them: below the root a chain has at most `DEEPEST_LEVEL` nodes.
 pub(crate) fn find_names(checked: &CheckedTable, t: &HashTables, path: &[u8]) -> Option<Wanted>
     requires { (lent_table checked.now.table ≡ names Bits64 checked.now.table.file.now) × (first_fault (path_checks path.now) ≡ Accepted) }
     ensures { MatchOption result (Unborne Bits64 checked.now.table.file.now path.now) (WantedIs Bits64 checked.now.table.file.now path.now) }
 {
     let mut indices = [0; MOST_LEVELS];
     let mut at = 0;
-    for count in 0..MOST_LEVELS {
+    for count in 0..DEEPEST_LEVEL {
         if at == path.len() {
             return Some(Wanted { count, indices });
         }
@@ -67,5 +67,12 @@ pub(crate) fn find_names(checked: &CheckedTable, t: &HashTables, path: &[u8]) ->
         indices[count] = i as u32;
         at += 2 * n + 2;
     }
-    None
+    // One name more than a chain can bear is not read: however long it is, nothing matches.
+    if at < path.len() {
+        return None;
+    }
+    Some(Wanted {
+        count: DEEPEST_LEVEL,
+        indices,
+    })
 }

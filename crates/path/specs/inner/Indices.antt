@@ -15,17 +15,22 @@ pub record NameEnd (path : List ℕ) (at e : ℕ) : Type 0 where
   pub zero_there : u16_at path e ≡ 0
   pub live : (i : ℕ) → at + 2 * i < e → u16_at path (at + 2 * i) ≡ 0 → ⊥
 
--- No node can bear the names: one is no name of the file, or there are more than a chain can bear.
-abbrev pub Unborne : Edition → List ℕ → List ℕ → Type 0
-Unborne ed b path = (deepest_level < length (names_of path))
-    ⊎ ((i : ℕ) × (i < length (names_of path)) × ((k : ℕ) → Bears ed b k (name_at (names_of path) i) → ⊥))
+-- No node can bear the names: the first `count` are names of the file, and then comes one more than a chain can bear, or one that is no name of
+-- the file.
+pub record Unborne (ed : Edition) (b path : List ℕ) : Type 0 where
+  pub count : ℕ
+  pub few : count ≤ deepest_level
+  pub index : (i : ℕ) → i < count → (k : ℕ) × Bears ed b k (name_at (names_of path) i)
+  pub none : ((count ≡ deepest_level) × (deepest_level < length (names_of path)))
+      ⊎ ((count < length (names_of path)) × ((k : ℕ) → Bears ed b k (name_at (names_of path) count) → ⊥))
 
--- The names have these indices.
+-- The names have these indices, and the others' places hold 0.
 pub record WantedIs (ed : Edition) (b path : List ℕ) (w : Wanted) : Type 0 where
   pub long : length w.indices ≡ most_levels
   pub few : w.count ≤ deepest_level
   pub many : w.count ≡ length (names_of path)
   pub index : (i : ℕ) → i < w.count → Bears ed b (get_or w.indices i 0) (name_at (names_of path) i)
+  pub rest : (i : ℕ) → w.count ≤ i → get_or w.indices i 0 ≡ 0
 
 -- The nodes below node a that name indices lead to, in document order.
 unfoldable pub matches_at : Tree → List ℕ → ℕ → List ℕ

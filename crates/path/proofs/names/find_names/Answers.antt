@@ -1,4 +1,5 @@
-use mathlib.Core.Path.{◌≡◌}
+use Prim.Native.Nat.{ℕ}
+use mathlib.Core.Path.{◌≡◌, subst}
 use native.Mathlib.Omega.{arith}
 use Rattle.text.specs.Text.{chars}
 use Rattle.strings.specs.inner.Lent.{lent_table}
@@ -6,8 +7,10 @@ use Rattle.lookup.specs.Kinds.{told_in}
 use Rattle.lookup.specs.declared.Kind.TheVariants.{Name}
 use Rattle.lookup.proofs.Parts.{slice_text}
 use Rattle.layout.specs.declared.Edition.TheVariants.{Bits64}
+use Rattle.tree.specs.Chain.{deepest_level}
+use Rattle.path.specs.inner.Indices.{WantedIs}
 use Rattle.path.proofs.Bearers.{found_bears, unfound_bears, index-low}
-use Rattle.path.proofs.Lookups.{sofar_start, sofar_more, sofar_absent, sofar_all}
+use Rattle.path.proofs.Lookups.{sofar_start, sofar_more, sofar_absent, sofar_long, sofar_all}
 use Rattle.path.proofs.names.find_names.Goals as goal
 use Rattle.path.proofs.names.find_names.Goals.{After-find_text}
 
@@ -19,7 +22,16 @@ pub loop-count-init : goal.loop-count-init
 loop-count-init c = sofar_start Bits64 _ _
 
 pub returns-then-at-path : goal.returns-then-at-path
-returns-then-at-path c = sofar_all c.requires.1 c.loop-count.invariant c.loop-count-test.true c.if-at-path.true
+returns-then-at-path c = sofar_all c.requires.1 c.loop-count.invariant c.if-at-path.true
+
+pub returns-then-at-path-2 : goal.returns-then-at-path-2
+returns-then-at-path-2 c = sofar_long c.requires.1 c.loop-count.invariant c.if-at-path-2.true (omega (arith, c.loop-count.invariant.few))
+
+pub returns : goal.returns
+returns c =
+    let w = c.loop-count.invariant in
+    let e : c.loop-count.count ≡ deepest_level = omega (arith, w.few) in
+    subst (λ (k : ℕ). WantedIs Bits64 c.args.checked.now.table.file.now c.args.path.now (record { count = k; indices = c.loop-count.indices })) e (sofar_all c.requires.1 w (omega (arith, c.if-at-path-2.false, w.within)))
 
 pub returns-in_default : goal.returns-in_default
 returns-in_default c = sofar_absent c.requires.1 c.loop-count.invariant _ c.name_length-n.ensures
