@@ -5,11 +5,20 @@ mod buffers;
 mod dump;
 mod messages;
 
-ghost use Rattle.std.specs.Prelude.{◌≤◌, length, IfOk};
+ghost use Rattle.std.specs.Prelude.{◌≡◌, ◌+◌, ◌≤◌, length, take, IfOk};
 
 use buffers::{INPUT, OUTPUT};
 use std::io;
 use std::io::{Read, Stdin, Stdout, Write};
+
+// One read to buf from `done` on: how many bytes came. The bytes before stay.
+fn read_some(from: &mut Stdin, buf: &mut [u8], done: usize) -> io::Result<usize>
+    requires { done ≤ length buf.old }
+    ensures result_in_bounds { IfOk result (λ n. done + n ≤ length buf.new) }
+    ensures buf_unchanged { take done buf.new ≡ take done buf.old }
+{
+    from.read(&mut buf[done..])
+}
 
 // Reads until the input ends or buf is full: how many bytes came.
 fn read_input(from: &mut Stdin, buf: &mut [u8]) -> io::Result<usize>
@@ -18,7 +27,7 @@ fn read_input(from: &mut Stdin, buf: &mut [u8]) -> io::Result<usize>
     let mut done = 0;
     // A read brings as many bytes as there are.
     while done < buf.len() {
-        let n = from.read(&mut buf[done..])?;
+        let n = read_some(from, buf, done)?;
         if n == 0 {
             break;
         }
