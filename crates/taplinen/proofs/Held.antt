@@ -8,9 +8,13 @@ use Rattle.std.specs.Prelude.{Result}
 use Rattle.std.specs.Result.{result_unwrap_or}
 use Rattle.verdict.specs.Verdict.{Accepted, answer_of}
 use Rattle.verdict.specs.declared.Refusal.{Refusal}
+use Rattle.layout.specs.inner.View.{Fits}
+use Rattle.layout.specs.declared.View.{View}
 use Rattle.layout.specs.Layout.{values, names}
 use Rattle.layout.specs.Table.{Table}
 use Rattle.layout.specs.declared.Edition.{Edition}
+use Rattle.strings.specs.inner.Held.{held_table}
+use Rattle.nodes.specs.inner.Held.{value_strings}
 use Rattle.lookup.specs.Lookup.{text_from}
 use Rattle.lookup.specs.Asked.{text_checks}
 use Rattle.lookup.specs.Kinds.{told_in, table_of, kind_of, told_number}
@@ -24,6 +28,8 @@ use Rattle.batch.specs.inner.Answer.{Answered}
 use Rattle.outline.specs.Outlined.{outline_after}
 use Rattle.outline.specs.inner.Answer.{OutlineWritten}
 use Rattle.accept.specs.Verdict.{verdict_of}
+use Rattle.accept.specs.inner.Held.{name_strings}
+use Rattle.accept.proofs.Held.{values-table, names_table}
 use Rattle.taplinen.specs.Answers.{answered}
 use Rattle.taplinen.specs.Questions.{text_verdict, text_answer, name_answer, value_answer, path_verdict, path_answer, path_listing, outline_verdict, outline_answer, outline_buffer}
 use Rattle.taplinen.specs.Batches.{batch_verdict, batch_answer, batch_places, name_places, value_places}
@@ -84,3 +90,23 @@ module _ (ed : Edition) (b : List ℕ) (room : ℕ) (e : verdict_of ed b room �
         × (value_places ed b room texts d ≡ answers_after (told_in Value t) texts d (answer_of r))
     unfolding value_places batch_places told_in table_of
     held_values s = each_by Value s
+
+-- the same of the tables as a view has them
+module _ (ed : Edition) (b : List ℕ) (room : ℕ) (v : View) (f : Fits ed b v) (e : verdict_of ed b room ≡ Accepted) where
+  module _ (q : List ℕ) (even : length q % 2 ≡ 0) where
+    pub viewed_name : {l : Lookup} → l ≡ told_in Name (held_table b (name_strings v.places) v.name_buckets) (text_from q)
+        → name_answer ed b room q ≡ answered Accepted (kind_of l) (told_number l)
+    viewed_name h = held_name ed b room e q even (names_table ed b v f) h
+
+    pub viewed_value : {l : Lookup} → l ≡ told_in Value (held_table b (value_strings v.places) v.value_buckets) (text_from q)
+        → value_answer ed b room q ≡ answered Accepted (kind_of l) (told_number l)
+    viewed_value h = held_value ed b room e q even (values-table ed b v f) h
+
+  module _ (texts d : List ℕ) {r : Result ℕ Refusal} (h : Answered texts (length d) r) where
+    pub viewed_names : (batch_answer ed b room texts (length d) ≡ answered (answer_of r) 0 (result_unwrap_or r 0))
+        × (name_places ed b room texts d ≡ answers_after (told_in Name (held_table b (name_strings v.places) v.name_buckets)) texts d (answer_of r))
+    viewed_names = held_names ed b room e texts d h (names_table ed b v f)
+
+    pub viewed_values : (batch_answer ed b room texts (length d) ≡ answered (answer_of r) 0 (result_unwrap_or r 0))
+        × (value_places ed b room texts d ≡ answers_after (told_in Value (held_table b (value_strings v.places) v.value_buckets)) texts d (answer_of r))
+    viewed_values = held_values ed b room e texts d h (values-table ed b v f)
