@@ -25,7 +25,8 @@ fn begun_in(b: &[u8], p: usize, n: usize) -> usize
     1 + text::zeros(b, p, n - 1)
 }
 
-// At how many used characters one can.
+// At how many used characters one can. Not inlined: the loop over segments then has the registers to itself.
+#[inline(never)]
 fn count_begun(b: &[u8], chars: Region) -> usize
     requires { Mapped 2 b.now chars.at chars }
     ensures { result ≡ all_begun b.now chars.at }

@@ -81,7 +81,9 @@ fn check_segment(b: &[u8], at: usize, size: usize, s: usize, p: usize) -> Result
     Ok(e + bytes)
 }
 
-// Refusals 2 and 5 of the region at an offset, or where it ends.
+// Refusals 2 and 5 of the region at an offset, or where it ends. Not inlined: where four of these loops stand in one function, the compiler keeps
+// the offset of one in memory.
+#[inline(never)]
 pub fn lay(b: &[u8], at: usize, size: usize) -> Result<usize, Refusal>
     requires { (at ≤ length b.now) × (size ≤ 24) }
     ensures { Ends (first_fault (region_checks size b.now at)) (end_of size b.now at) result }
